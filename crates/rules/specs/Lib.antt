@@ -1,0 +1,11 @@
+pub mod Rules
+pub mod Hearing
+pub mod Energies
+pub mod Distance
+pub mod Choosing
+pub mod Periods
+pub mod Every
+pub mod Table
+pub mod Notes
+pub mod Position
+pub mod Worked

@@ -1,0 +1,273 @@
+-- The wanted note is the one that document 01 asks for; raw rates are nearest and lie from a half to two; smoothing keeps within any bounds.
+-- Notes an octave apart share their bit of the scale, so a note more than an octave off loses to its octave: no case of a mask.
+use mathlib.Core.Path.{_≡_, refl, ap, _∙_, subst}
+use mathlib.Core.Bool.{true, false, _||_}
+use mathlib.Core.Option.{Option, none, some}
+use Prim.Native.Nat.{ℕ, zero, suc, _+_, _-_, _*_, _/_, _%_, _^_, _≤_, _<_}
+use native.Mathlib.Nat.{
+  le-refl,
+  le-antisymm,
+  le-div-iff-mul-le,
+  div-lt-iff-lt-mul,
+  mul-comm,
+  add-mul,
+  add-sub-of-le,
+  mul-le-mul-left,
+  pow-succ',
+  pow-le-pow-right,
+}
+use native.Mathlib.Omega.{arith}
+use borrow.Author.Tests.{ltb-true, ltb-false, leb-true, leb-false, eq-eqb, le-ltb, le-leb, lt-leb}
+use lib.Dec.{leb, ltb}
+use Rattle.whole.specs.Tests.{by, cond-case, yes-and-no}
+use Rattle.rules.specs.Table.{at-each-note}
+use Rattle.rules.specs.Rules.{
+  table,
+  firstNote,
+  notes,
+  notePeriod,
+  ofScale,
+  away,
+  nearer,
+  wantedOf,
+  wanted,
+  rawRate,
+  rawFor,
+  smooth,
+}
+
+-- ---- The wanted note
+
+-- n is the wanted one of the first k notes: of the scale, none of the scale at less distance, none at the same distance higher
+pub record IsWantedOf (scale p k n : ℕ) : Type 0 where
+  pub inTable : (firstNote ≤ n) × (n < firstNote + k)
+  pub inScale : ofScale scale n ≡ true
+  pub least : (m : ℕ) → firstNote ≤ m → m < firstNote + k → ofScale scale m ≡ true → away p (notePeriod n) ≤ away p (notePeriod m)
+  pub higher :
+      (m : ℕ) → firstNote ≤ m → m < firstNote + k → ofScale scale m ≡ true → away p (notePeriod m) ≡ away p (notePeriod n) → m ≤ n
+
+-- n is the wanted note of the period p
+abbrev pub IsWanted : ℕ → ℕ → ℕ → Type 0
+IsWanted scale p n = IsWantedOf scale p notes n
+
+-- what an answer says of the first k notes
+abbrev Answers : ℕ → ℕ → ℕ → Option ℕ → Type 0
+Answers scale p k none = (m : ℕ) → firstNote ≤ m → m < firstNote + k → ofScale scale m ≡ true → ⊥
+Answers scale p k (some n) = IsWantedOf scale p k n
+
+pub higher-if-as-near : (p m n : ℕ) → away p (notePeriod n) ≤ away p (notePeriod m) → nearer p (some m) n ≡ n
+unfolding nearer
+higher-if-as-near p m n h = rw le-leb
+
+pub lower-if-nearer : (p m n : ℕ) → away p (notePeriod m) < away p (notePeriod n) → nearer p (some m) n ≡ m
+unfolding nearer
+lower-if-nearer p m n h = rw lt-leb
+
+one-note-more : (P : ℕ → Type 0) (k : ℕ) → ((m : ℕ) → firstNote ≤ m → m < firstNote + k → P m) → P (firstNote + k) →
+    (m : ℕ) → firstNote ≤ m → m < firstNote + suc k → P m
+one-note-more P k before here m lo hi =
+    by (ltb m (firstNote + k))
+    (λ e. before m lo (omega (arith, ltb-true)))
+    (λ e. let at : firstNote + k ≡ m = omega (arith, ltb-false) in subst P at here)
+
+module _ (scale p k : ℕ) where
+  the-lower-stays : (n : ℕ) → IsWantedOf scale p k n →
+      (ofScale scale (firstNote + k) ≡ true → away p (notePeriod n) < away p (notePeriod (firstNote + k))) → IsWantedOf scale p (suc k) n
+  the-lower-stays n w far =
+      record {
+        inTable = omega (arith, w .inTable);
+        inScale = w .inScale;
+        least = one-note-more _ k (w .least) (λ on. omega (arith, far on));
+        higher = one-note-more _ k (w .higher) (λ on e. absurd (omega (arith, far on)));
+      }
+
+  the-next-wins : ofScale scale (firstNote + k) ≡ true →
+      ((m : ℕ) → firstNote ≤ m → m < firstNote + k → ofScale scale m ≡ true → away p (notePeriod (firstNote + k)) ≤ away p (notePeriod m)) →
+      IsWantedOf scale p (suc k) (firstNote + k)
+  the-next-wins on near =
+      record {
+        inTable = omega arith;
+        inScale = on;
+        least = one-note-more _ k near (λ on. le-refl _);
+        higher = λ m lo hi s e. omega arith;
+      }
+
+  next-of-the-scale : (lower : Option ℕ) → Answers scale p k lower → ofScale scale (firstNote + k) ≡ true →
+      IsWantedOf scale p (suc k) (nearer p lower (firstNote + k))
+  unfolding nearer
+  next-of-the-scale none a on = the-next-wins on (λ m lo hi s. absurd (a m lo hi s))
+  next-of-the-scale (some n) a on =
+      by (leb (away p (notePeriod (firstNote + k))) (away p (notePeriod n)))
+      (λ e. rw (higher-if-as-near p n (firstNote + k) (leb-true _ _ e)) (the-next-wins on (λ m lo hi s. omega (arith, a .least m lo hi s, leb-true))))
+      (λ e. rw (lower-if-nearer p n (firstNote + k) (leb-false _ _ e)) (the-lower-stays n a (λ s. leb-false _ _ e)))
+
+  next-not-of-the-scale : (lower : Option ℕ) → Answers scale p k lower → ofScale scale (firstNote + k) ≡ false → Answers scale p (suc k) lower
+  next-not-of-the-scale none a off = one-note-more _ k a (λ on. yes-and-no on off)
+  next-not-of-the-scale (some n) a off = the-lower-stays n a (λ on. absurd (yes-and-no on off))
+
+wanted-of-answers : (scale p k : ℕ) → Answers scale p k (wantedOf scale p k)
+unfolding wantedOf
+wanted-of-answers scale p zero = λ m lo hi on. absurd (omega arith)
+wanted-of-answers scale p (suc k) =
+    let lower = wantedOf scale p k in
+    let a = wanted-of-answers scale p k in
+    cond-case (ofScale scale (firstNote + k)) (some (nearer p lower (firstNote + k))) lower (Answers scale p (suc k))
+    (next-of-the-scale scale p k lower a)
+    (next-not-of-the-scale scale p k lower a)
+
+pub wanted-is : (scale p n : ℕ) → wanted scale p ≡ some n → IsWanted scale p n
+unfolding wanted
+wanted-is scale p n e = subst (Answers scale p notes) e (wanted-of-answers scale p notes)
+
+-- ---- a mask from 1 to 4095 has a note
+below-the-bit : (s m : ℕ) → 0 < m → s < 2 * m → s / m % 2 ≡ 0 → s < m
+below-the-bit s m some-m l off =
+    let q : s / m < 2 = div-lt-iff-lt-mul some-m .1 l in
+    let r : s / m < 1 = omega arith in
+    omega (arith, div-lt-iff-lt-mul some-m .0 r)
+
+no-bit-no-mask : (j s : ℕ) → s < 2 ^ j → ((i : ℕ) → i < j → s / 2 ^ i % 2 ≡ 0) → s ≡ 0
+no-bit-no-mask zero s l off = omega arith
+no-bit-no-mask (suc j) s l off =
+    let some-bit = pow-le-pow-right {n = 2} (omega arith) {i = 0} {j = j} (omega arith) in
+    no-bit-no-mask j s (below-the-bit s (2 ^ j) some-bit (rw pow-succ' at l) (off j (omega arith))) (λ i h. off i (omega arith))
+
+-- notes 36 to 47 have the bits 0 to 11
+no-note-no-mask : (scale p : ℕ) → scale ≤ 4095 → Answers scale p notes none → scale ≡ 0
+unfolding ofScale
+no-note-no-mask scale p hi a = no-bit-no-mask 12 scale (omega arith) off
+  where
+    off : (i : ℕ) → i < 12 → scale / 2 ^ i % 2 ≡ 0
+    off i h =
+        let e : (36 + i) % 12 ≡ i = omega arith in
+        let f : scale / 2 ^ i % 2 ≡ 1 → ⊥ =
+        λ on. a (36 + i) (omega arith) (omega arith) (eq-eqb _ 1 (ap (λ (c : ℕ). scale / 2 ^ c % 2) e ∙ on)) in
+        omega arith
+
+pub wanted-some : (scale p : ℕ) → 1 ≤ scale → scale ≤ 4095 → (n : ℕ) × ((wanted scale p ≡ some n) × IsWanted scale p n)
+unfolding wanted
+wanted-some scale p lo hi = go (wanted scale p) refl (wanted-of-answers scale p notes)
+  where
+    go : (o : Option ℕ) → wanted scale p ≡ o → Answers scale p notes o → (n : ℕ) × ((wanted scale p ≡ some n) × IsWanted scale p n)
+    go none e a = absurd (omega (arith, no-note-no-mask scale p hi a))
+    go (some n) e a = (n, (e, a))
+
+pub wanted-one : {scale p n m : ℕ} → IsWanted scale p n → IsWanted scale p m → n ≡ m
+wanted-one {n = n} {m = m} v w =
+    let a = v .least m (w .inTable .0) (w .inTable .1) (w .inScale) in
+    let b = w .least n (v .inTable .0) (v .inTable .1) (v .inScale) in
+    le-antisymm
+    (w .higher n (v .inTable .0) (v .inTable .1) (v .inScale) (le-antisymm a b))
+    (v .higher m (w .inTable .0) (w .inTable .1) (w .inScale) (le-antisymm b a))
+
+pub is-wanted : {scale p n : ℕ} → 1 ≤ scale → scale ≤ 4095 → IsWanted scale p n → wanted scale p ≡ some n
+is-wanted {scale} {p} {n} lo hi w =
+    let (m, f) = wanted-some scale p lo hi in f .0 ∙ ap some (wanted-one (f .1) w)
+
+-- ---- The table's entries, each law by a test computed over the table
+
+pub note-period-range : (n : ℕ) → firstNote ≤ n → n < firstNote + notes → (4281 ≤ notePeriod n) × (notePeriod n ≤ 217471)
+note-period-range n lo hi = (
+  leb-true _ _ (at-each-note (λ m w. leb 4281 w) (unfold table in refl) n lo hi),
+  leb-true _ _ (at-each-note (λ m w. leb w 217471) (unfold table in refl) n lo hi),
+)
+
+first-octave-is-long : (n : ℕ) → firstNote ≤ n → n < 44 → 112640 ≤ notePeriod n
+first-octave-is-long n lo hi =
+    leb-true _ _ (rw (lt-leb 44 n hi) at (at-each-note (λ m w. leb 44 m || leb 112640 w) (unfold table in refl) n lo (omega arith)))
+
+last-octave-is-short : (n : ℕ) → 89 ≤ n → n < firstNote + notes → notePeriod n ≤ 8192
+last-octave-is-short n lo hi =
+    leb-true _ _ (rw (le-ltb n 89 lo) at (at-each-note (λ m w. ltb m 89 || leb w 8192) (unfold table in refl) n (omega arith) hi))
+
+an-octave-is-half : (n m : ℕ) → n + 12 ≡ m → firstNote ≤ n → m < firstNote + notes →
+    (notePeriod m < notePeriod n) × (notePeriod n ≤ 2 * notePeriod m + 1)
+an-octave-is-half n m e lo hi =
+    let h : n < 89 = omega arith in
+    rw (← e) (
+      ltb-true _ _ (at-each-note (λ i w. ltb (notePeriod (i + 12)) w) (unfold table notePeriod in refl) n lo (omega arith)),
+      leb-true _ _
+          (rw (lt-leb 89 n h) at
+          (at-each-note (λ i w. leb 89 i || leb w (2 * notePeriod (i + 12) + 1)) (unfold table notePeriod in refl) n lo (omega arith))),
+    )
+
+-- ---- The raw rate
+
+octaves-share-their-bit : (scale n m : ℕ) → n % 12 ≡ m % 12 → ofScale scale n ≡ true → ofScale scale m ≡ true
+unfolding ofScale
+octaves-share-their-bit scale n m e on = rw e at on
+
+module _ {scale p n : ℕ} (w : IsWanted scale p n) (lo : 4096 ≤ p) (hi : p ≤ 225280) where
+  no-farther-than-its-octave : (m : ℕ) → n % 12 ≡ m % 12 → firstNote ≤ m → m < firstNote + notes → away p (notePeriod n) ≤ away p (notePeriod m)
+  no-farther-than-its-octave m e from to = w .least m from to (octaves-share-their-bit scale n m e (w .inScale))
+
+  wanted-at-most-double : notePeriod n ≤ 2 * p
+  wanted-at-most-double =
+      by (ltb n 89)
+      (λ e. let h = ltb-true n 89 e in
+      let half = an-octave-is-half n (n + 12) refl (w .inTable .0) (omega arith) in
+      omega (arith, no-farther-than-its-octave (n + 12) (omega arith) (omega arith) (omega arith)))
+      (λ e. omega (arith, last-octave-is-short n (ltb-false n 89 e) (w .inTable .1)))
+
+  wanted-at-least-half : p ≤ 2 * notePeriod n
+  wanted-at-least-half =
+      by (ltb n 44)
+      (λ e. omega (arith, first-octave-is-long n (w .inTable .0) (ltb-true n 44 e)))
+      (λ e. let h = ltb-false n 44 e in
+      let half = an-octave-is-half (n - 12) n (omega arith) (omega arith) (w .inTable .1) in
+      omega (arith, no-farther-than-its-octave (n - 12) (omega arith) (omega arith) (omega arith)))
+
+  pub raw-range : (32768 ≤ rawRate p (notePeriod n)) × (rawRate p (notePeriod n) ≤ 131072)
+  unfolding rawRate
+  raw-range =
+      let some-period : 0 < 2 * notePeriod n = omega (arith, wanted-at-least-half) in
+      let below : rawRate p (notePeriod n) < 131073 = div-lt-iff-lt-mul some-period .1 (omega (arith, wanted-at-least-half)) in
+      (le-div-iff-mul-le some-period .1 (omega (arith, wanted-at-most-double)), omega arith)
+
+-- r is p x 65536 / w to the nearest whole number, halves up: 2r-1 <= 2p x 65536 / w < 2r+1
+pub record NearestRate (p w r : ℕ) : Type 0 where
+  pub below : 2 * w * r ≤ 2 * (p * 65536) + w
+  pub above : 2 * (p * 65536) + w < 2 * w * (r + 1)
+
+pub raw-nearest : (p w : ℕ) → 0 < w → NearestRate p w (rawRate p w)
+unfolding rawRate
+raw-nearest p w h =
+    let some-w : 0 < 2 * w = omega arith in
+    let r = rawRate p w in
+    let next : r < r + 1 = omega arith in
+    let low = le-div-iff-mul-le some-w .0 (le-refl r) in
+    let high = div-lt-iff-lt-mul some-w .0 next in
+    omega (arith, low, high, mul-comm (2 * w) r, mul-comm (2 * w) (r + 1))
+
+-- ---- Smoothing
+
+pub smooth-range : {decay lo hi rate raw : ℕ} → decay ≤ 256 → lo ≤ rate → rate ≤ hi → lo ≤ raw → raw ≤ hi →
+    (lo ≤ smooth decay rate raw) × (smooth decay rate raw ≤ hi)
+unfolding smooth
+smooth-range {decay} {lo} {hi} {rate} {raw} d a b e f =
+    omega (
+      arith,
+      parts lo,
+      parts hi,
+      mul-le-mul-left decay a,
+      mul-le-mul-left decay b,
+      mul-le-mul-left (256 - decay) e,
+      mul-le-mul-left (256 - decay) f,
+    )
+  where
+    parts : (x : ℕ) → decay * x + (256 - decay) * x ≡ 256 * x
+    parts x = rw (← add-mul, add-sub-of-le d)
+
+-- without a wanted note the raw rate is 65536
+pub raw-for-range : (scale p : ℕ) → 4096 ≤ p → p ≤ 225280 → (32768 ≤ rawFor p (wanted scale p)) × (rawFor p (wanted scale p) ≤ 131072)
+unfolding rawFor
+raw-for-range scale p lo hi = go (wanted scale p) refl
+  where
+    go : (o : Option ℕ) → wanted scale p ≡ o → (32768 ≤ rawFor p o) × (rawFor p o ≤ 131072)
+    go none e = omega arith
+    go (some n) e = raw-range (wanted-is scale p n e) lo hi
+
+pub tuned-rate-range : (scale decay p rate : ℕ) → decay ≤ 256 → 4096 ≤ p → p ≤ 225280 → 32768 ≤ rate → rate ≤ 131072 →
+    (32768 ≤ smooth decay rate (rawFor p (wanted scale p))) × (smooth decay rate (rawFor p (wanted scale p)) ≤ 131072)
+tuned-rate-range scale decay p rate d lo hi a b =
+    let r = raw-for-range scale p lo hi in smooth-range d a b (r .0) (r .1)

@@ -1,0 +1,273 @@
+-- The read position, by how far it lies behind the input: a natural number b, which grows by a sample and shrinks by the rate.
+-- A cycle is longer than what a rate can run ahead, and shorter than 1,000 samples, so one of them mends either bound and never breaks the other.
+use mathlib.Core.Path.{_≡_, refl, sym, ap, _∙_, subst}
+use mathlib.Core.List.{List, [], _∷_}
+use Prim.Native.Nat.{ℕ, suc, _+_, _*_, _-_, _/_, _%_, _≤_, _<_}
+use native.Mathlib.Nat.{div-add-mod', mod-lt, mul-le-mul-right, suc-mul}
+use native.Mathlib.Omega.{arith}
+use borrow.Author.Tests.{ltb-true, ltb-false, lt-ltb, le-ltb}
+use lib.Dec.{ltb, lit<}
+use lib.ListN.{length}
+use lib.IntN.{ℤ, pos, negsuc, natAbs, _+ℤ_, _-ℤ_, _*ℤ_, +ℤ-idr}
+use lib.Signed.{mag, clashℤ, _≤ℤ_}
+use mir.Syntax.{w16}
+use mir.Val.{SFits}
+use Rattle.whole.specs.Tests.{by, cond-case, cond-yes, cond-no, true-T}
+use Rattle.whole.specs.Bounds.{minus-down, pos-minus-pos, subℕ-lt}
+use Rattle.whole.specs.Order.{not-less, minus-less, minus-not-above, below-is}
+use Rattle.whole.specs.Floor.{floorDiv, floor-is, floor-one}
+use Rattle.whole.specs.Ring.{var, con, _⊕_, _⊖_, _⊗_, solve}
+use Rattle.rules.specs.Rules.{Sound, Growth, inputAt, repeated, dropped, cycles, growth, sampleAt, between, wholeOf, fractionOf, reading}
+
+-- ---- the bounds
+
+-- not ahead of the input nor over 1,000 samples behind
+pub record InBounds (n : ℕ) (at : ℤ) : Type 0 where
+  pub notAhead : at ≤ℤ inputAt n
+  pub notFar : (inputAt n -ℤ pos (1000 * 65536)) ≤ℤ at
+
+-- the same, by how far it lies behind
+pub record Behind (n : ℕ) (at : ℤ) (b : ℕ) : Type 0 where
+  pub is : at ≡ inputAt n -ℤ pos b
+  pub near : b ≤ 65536000
+
+pub behind-in-bounds : {n b : ℕ} {at : ℤ} → Behind n at b → InBounds n at
+unfolding inputAt
+behind-in-bounds {n} {b} h =
+    record {
+      notAhead = rw (h .is) (not-less (minus-not-above (n * 65536) b));
+      notFar = rw (h .is) (not-less (minus-less (n * 65536) b 65536000 ∙ le-ltb 65536000 b (h .near)));
+    }
+
+pub in-bounds-behind : {n : ℕ} {at : ℤ} → InBounds n at → Behind n at (natAbs (inputAt n -ℤ at))
+unfolding inputAt
+in-bounds-behind {n} {at} h =
+    let i = pos (n * 65536) in
+    let b = natAbs (i -ℤ at) in
+    let e : at ≡ i -ℤ pos b =
+    solve (i ∷ at ∷ []) (var 1) (var 0 ⊖ (var 0 ⊖ var 1)) refl ∙ ap (λ (z : ℤ). i -ℤ z) (sym (below-is at i (h .notAhead))) in
+    record {
+      is = e;
+      near =
+          by (ltb 65536000 b)
+          (λ t. clashℤ (record { lt = true-T (minus-less (n * 65536) b 65536000 ∙ t) }) (subst (λ (z : ℤ). (i -ℤ pos 65536000) ≤ℤ z) e (h .notFar)))
+          (λ t. ltb-false 65536000 b t);
+    }
+
+-- no other number says how far
+pub behind-one : {n b : ℕ} {at : ℤ} → Behind n at b → b ≡ natAbs (inputAt n -ℤ at)
+behind-one {n} {b} h =
+    ap natAbs (solve (inputAt n ∷ pos b ∷ []) (var 1) (var 0 ⊖ (var 0 ⊖ var 1)) refl ∙ ap (λ (z : ℤ). inputAt n -ℤ z) (sym (h .is)))
+
+-- ---- what is repeated and dropped
+module _ (n p h : ℕ) {at : ℤ} where
+  pub repeated-none : at ≡ inputAt n -ℤ pos h → repeated n p at ≡ []
+  unfolding repeated inputAt
+  repeated-none e = rw (e, minus-not-above (n * 65536) h)
+
+  pub repeated-one : at ≡ inputAt n +ℤ pos h → 0 < h → repeated n p at ≡ p ∷ []
+  unfolding repeated inputAt
+  repeated-one e k = rw (e, lt-ltb (n * 65536) (n * 65536 + h) (omega arith))
+
+  pub dropped-none : at ≡ inputAt n -ℤ pos h → h ≤ 65536000 → dropped n p at ≡ []
+  unfolding dropped inputAt
+  dropped-none e k = rw (e, minus-less) (cond-no (p ∷ []) [] (le-ltb _ h (omega arith)))
+
+  pub dropped-one : at ≡ inputAt n -ℤ pos h → 65536000 < h → dropped n p at ≡ p ∷ []
+  unfolding dropped inputAt
+  dropped-one e k = rw (e, minus-less) (cond-yes (p ∷ []) [] (lt-ltb _ h (omega arith)))
+
+-- ---- one sample's growth
+
+-- from what is repeated and dropped, and where the position then stands
+growth-of : (n rate p : ℕ) (at : ℤ) {again gone : List ℕ} {z : ℤ} → repeated n p (at +ℤ pos rate) ≡ again
+    → dropped n p (at +ℤ pos rate -ℤ pos (cycles again)) ≡ gone → at +ℤ pos rate -ℤ pos (cycles again) +ℤ pos (cycles gone) ≡ z
+    → growth n rate p at ≡ record { position = z; repeated = again; dropped = gone }
+unfolding growth
+growth-of n rate p at a d e = rw (a, d, e)
+
+-- c behind, and then on by r, or back by r
+on-behind : (z : ℤ) (c r : ℕ) → r ≤ c → z -ℤ pos c +ℤ pos r ≡ z -ℤ pos (c - r)
+on-behind z c r h =
+    solve (z ∷ pos c ∷ pos r ∷ []) (var 0 ⊖ var 1 ⊕ var 2) (var 0 ⊖ (var 1 ⊖ var 2)) refl ∙ ap (λ (v : ℤ). z -ℤ v) (minus-down c r h)
+
+on-ahead : (z : ℤ) (c r : ℕ) → c ≤ r → z -ℤ pos c +ℤ pos r ≡ z +ℤ pos (r - c)
+on-ahead z c r h =
+    solve (z ∷ pos c ∷ pos r ∷ []) (var 0 ⊖ var 1 ⊕ var 2) (var 0 ⊕ (var 2 ⊖ var 1)) refl ∙ ap (λ (v : ℤ). z +ℤ v) (minus-down r c h)
+
+back-behind : (z : ℤ) (r c : ℕ) → r ≤ c → z +ℤ pos r -ℤ pos c ≡ z -ℤ pos (c - r)
+back-behind z r c h =
+    solve (z ∷ pos c ∷ pos r ∷ []) (var 0 ⊕ var 2 ⊖ var 1) (var 0 ⊖ (var 1 ⊖ var 2)) refl ∙ ap (λ (v : ℤ). z -ℤ v) (minus-down c r h)
+
+module _ (n b rate p : ℕ) {at : ℤ} (is : at ≡ inputAt n -ℤ pos b) where
+  -- the input moves on by a sample
+  grown : at +ℤ pos rate ≡ inputAt (suc n) -ℤ pos (b + 65536) +ℤ pos rate
+  unfolding inputAt
+  grown =
+      let i : pos (suc n * 65536) ≡ pos (n * 65536) +ℤ pos 65536 = ap pos (omega arith) in
+      rw (is, i)
+      (solve (pos (n * 65536) ∷ pos b ∷ pos rate ∷ []) (var 0 ⊖ var 1 ⊕ var 2) (var 0 ⊕ con (pos 65536) ⊖ (var 1 ⊕ con (pos 65536)) ⊕ var 2) refl)
+
+  grown-behind : rate ≤ b + 65536 → at +ℤ pos rate -ℤ pos 0 ≡ inputAt (suc n) -ℤ pos (b + 65536 - rate)
+  grown-behind h = +ℤ-idr (at +ℤ pos rate) ∙ grown ∙ on-behind (inputAt (suc n)) (b + 65536) rate h
+
+  pub growth-keeps : rate ≤ b + 65536 → b + 65536 - rate ≤ 65536000
+      → growth (suc n) rate p at ≡ record { position = inputAt (suc n) -ℤ pos (b + 65536 - rate); repeated = []; dropped = [] }
+  unfolding cycles
+  growth-keeps h k =
+      let e = grown-behind h in
+      growth-of (suc n) rate p at
+      (repeated-none (suc n) p (b + 65536 - rate) (sym (+ℤ-idr (at +ℤ pos rate)) ∙ e))
+      (dropped-none (suc n) p (b + 65536 - rate) e k)
+      (+ℤ-idr (at +ℤ pos rate -ℤ pos 0) ∙ e)
+
+  pub growth-drops : 65536000 < b + 65536 - rate → p ≤ 225280
+      → growth (suc n) rate p at ≡ record { position = inputAt (suc n) -ℤ pos (b + 65536 - rate - 256 * p); repeated = []; dropped = p ∷ [] }
+  unfolding cycles
+  growth-drops k l =
+      let e = grown-behind (omega arith) in
+      let c : 256 * p + 0 ≡ 256 * p = omega arith in
+      growth-of (suc n) rate p at
+      (repeated-none (suc n) p (b + 65536 - rate) (sym (+ℤ-idr (at +ℤ pos rate)) ∙ e))
+      (dropped-one (suc n) p (b + 65536 - rate) e k)
+      (rw (e, c) (on-behind (inputAt (suc n)) (b + 65536 - rate) (256 * p) (omega arith)))
+
+  pub growth-repeats : b + 65536 < rate → rate ≤ 131072 → 4096 ≤ p → p ≤ 225280
+      → growth (suc n) rate p at ≡ record { position = inputAt (suc n) -ℤ pos (b + 65536 + 256 * p - rate); repeated = p ∷ []; dropped = [] }
+  unfolding cycles
+  growth-repeats h k l m =
+      let a = grown ∙ on-ahead (inputAt (suc n)) (b + 65536) rate (omega arith) in
+      let c : 256 * p + 0 - (rate - (b + 65536)) ≡ b + 65536 + 256 * p - rate = omega arith in
+      let e : at +ℤ pos rate -ℤ pos (256 * p + 0) ≡ inputAt (suc n) -ℤ pos (b + 65536 + 256 * p - rate) =
+      rw a (back-behind (inputAt (suc n)) (rate - (b + 65536)) (256 * p + 0) (omega arith) ∙ ap (λ (v : ℕ). inputAt (suc n) -ℤ pos v) c) in
+      growth-of (suc n) rate p at
+      (repeated-one (suc n) p (rate - (b + 65536)) a (omega arith))
+      (dropped-none (suc n) p (b + 65536 + 256 * p - rate) e (omega arith))
+      (+ℤ-idr (at +ℤ pos rate -ℤ pos (256 * p + 0)) ∙ e)
+
+-- the rates and periods that there are: a period and a rate; or no period, and the rate 65536
+pub data Paced (rate p : ℕ) : Type 0 where
+  withPeriod : 32768 ≤ rate → rate ≤ 131072 → 4096 ≤ p → p ≤ 225280 → Paced rate p
+  withoutPeriod : rate ≡ 65536 → p ≡ 0 → Paced rate p
+
+-- what a growth that keeps the bounds after sample n leaves
+record Kept (n : ℕ) (g : Growth) : Type 0 where
+  behind : ℕ
+  still : Behind n (g .position) behind
+  one : length (g .repeated) + length (g .dropped) ≤ 1
+
+growth-kept : {n b : ℕ} {at : ℤ} (rate p : ℕ) → Behind n at b → Paced rate p → Kept (suc n) (growth (suc n) rate p at)
+growth-kept {n} {b} rate p h (withPeriod r s lo hi) =
+    by (ltb (b + 65536) rate)
+    (λ t. let l = ltb-true (b + 65536) rate t in
+    rw (growth-repeats n b rate p (h .is) l s lo hi)
+    (record { behind = b + 65536 + 256 * p - rate; still = record { is = refl; near = omega arith }; one = omega arith }))
+    (λ t. let l = ltb-false (b + 65536) rate t in
+    by (ltb 65536000 (b + 65536 - rate))
+    (λ u. let m = ltb-true 65536000 (b + 65536 - rate) u in
+    rw (growth-drops n b rate p (h .is) m hi)
+    (record { behind = b + 65536 - rate - 256 * p; still = record { is = refl; near = omega (arith, h .near) }; one = omega arith }))
+    (λ u. let m = ltb-false 65536000 (b + 65536 - rate) u in
+    rw (growth-keeps n b rate p (h .is) l m)
+    (record { behind = b + 65536 - rate; still = record { is = refl; near = m }; one = omega arith })))
+growth-kept {n} {b} rate p h (withoutPeriod r z) =
+    let m : b + 65536 - rate ≤ 65536000 = omega (arith, h .near) in
+    rw (growth-keeps n b rate p (h .is) (omega arith) m)
+    (record { behind = b + 65536 - rate; still = record { is = refl; near = m }; one = omega arith })
+
+module _ {n : ℕ} {at : ℤ} (rate p : ℕ) (h : InBounds n at) (paced : Paced rate p) where
+  pub growth-in-bounds : InBounds (suc n) (growth (suc n) rate p at .position)
+  growth-in-bounds = behind-in-bounds (growth-kept rate p (in-bounds-behind h) paced .still)
+
+  pub at-most-one : length (growth (suc n) rate p at .repeated) + length (growth (suc n) rate p at .dropped) ≤ 1
+  at-most-one = growth-kept rate p (in-bounds-behind h) paced .one
+
+-- ---- the output
+
+-- how many samples behind, rounded up, and by how much that is more than b
+abbrev pub wholeBehind : ℕ → ℕ
+wholeBehind b = (b + 65535) / 65536
+
+abbrev pub fractionBehind : ℕ → ℕ
+fractionBehind b = wholeBehind b * 65536 - b
+
+pub fraction-below : (b : ℕ) → fractionBehind b < 65536
+fraction-below b = omega arith
+
+-- in its bounds nothing older than 1,004 samples is read
+pub whole-within : (b : ℕ) → b ≤ 65536000 → wholeBehind b + 4 ≤ 1004
+whole-within b h = omega arith
+
+module _ (x : Sound) (n b : ℕ) where
+  whole-is : wholeOf (inputAt n -ℤ pos b) ≡ pos n -ℤ pos (wholeBehind b)
+  unfolding inputAt wholeOf
+  whole-is =
+      let q = wholeBehind b in
+      floor-one (floor-is (pos (n * 65536) -ℤ pos b) 65536 (lit< tt))
+      (record {
+        rest = fractionBehind b;
+        small = fraction-below b;
+        whole =
+            solve (pos n ∷ pos q ∷ pos b ∷ []) (var 0 ⊗ con (pos 65536) ⊖ var 2) ((var 0 ⊖ var 1) ⊗ con (pos 65536) ⊕ (var 1 ⊗ con (pos 65536) ⊖ var 2)) refl
+            ∙ ap (λ (z : ℤ). (pos n -ℤ pos q) *ℤ pos 65536 +ℤ z) (minus-down (q * 65536) b (omega arith));
+      })
+
+  fraction-is : fractionOf (inputAt n -ℤ pos b) ≡ fractionBehind b
+  unfolding fractionOf inputAt
+  fraction-is =
+      let q = wholeBehind b in
+      ap (λ (z : ℤ). natAbs (pos (n * 65536) -ℤ pos b -ℤ z *ℤ pos 65536)) whole-is
+      ∙ ap natAbs (solve (pos n ∷ pos q ∷ pos b ∷ []) (var 0 ⊗ con (pos 65536) ⊖ var 2 ⊖ (var 0 ⊖ var 1) ⊗ con (pos 65536)) (var 1 ⊗ con (pos 65536) ⊖ var 2) refl ∙ minus-down (q * 65536) b (omega arith))
+
+  -- the sample of an age
+  age-is : (k : ℕ) (i : ℤ) → pos n -ℤ pos 1 -ℤ i ≡ pos k → sampleAt x n i ≡ x k
+  unfolding sampleAt
+  age-is k i e = rw e
+
+  pub reading-behind : {at : ℤ} → at ≡ inputAt n -ℤ pos b → reading x n at ≡ between (x (wholeBehind b + 4)) (x (wholeBehind b + 3)) (fractionBehind b)
+  unfolding reading
+  reading-behind e =
+      let q = wholeBehind b in
+      let i = pos n -ℤ pos q in
+      rw (
+        e,
+        whole-is,
+        fraction-is,
+        age-is (q + 4) (i -ℤ pos 5) (solve (pos n ∷ pos q ∷ []) (var 0 ⊖ con (pos 1) ⊖ (var 0 ⊖ var 1 ⊖ con (pos 5))) (var 1 ⊕ con (pos 4)) refl),
+        age-is (q + 3) (i -ℤ pos 5 +ℤ pos 1) (solve (pos n ∷ pos q ∷ []) (var 0 ⊖ con (pos 1) ⊖ (var 0 ⊖ var 1 ⊖ con (pos 5) ⊕ con (pos 1))) (var 1 ⊕ con (pos 3)) refl),
+      )
+
+-- ---- a value between two samples is a sample
+
+-- a sample is a number below 65536, less 32768
+from-zero : (a : ℤ) → mag a < 32768 → (u : ℕ) × (a ≡ pos u -ℤ pos 32768) × (u < 65536)
+from-zero (pos k) h = (k + 32768, sym (minus-down (k + 32768) 32768 (omega arith) ∙ ap pos (omega arith)), omega arith)
+from-zero (negsuc k) h =
+    (32767 - k, sym (pos-minus-pos (32767 - k) 32768 ∙ subℕ-lt (32767 - k) 32768 (omega arith) ∙ ap negsuc (omega arith)), omega arith)
+
+to-sample : (u : ℕ) → u < 65536 → mag (pos u -ℤ pos 32768) < 32768
+to-sample u h =
+    rw (pos-minus-pos u 32768)
+    (cond-case (ltb u 32768) (negsuc (32768 - suc u)) (pos (u - 32768)) (λ z. mag z < 32768) (λ t. omega arith) (λ t. omega arith))
+
+-- so a mean of two by weights is the mean of those numbers, less 32768
+mean-is : (u v g f : ℕ) → g + f ≡ 65536 → let s : ℕ = u * g + v * f in
+    (pos u -ℤ pos 32768) *ℤ pos g +ℤ (pos v -ℤ pos 32768) *ℤ pos f ≡ (pos (s / 65536) -ℤ pos 32768) *ℤ pos 65536 +ℤ pos (s % 65536)
+mean-is u v g f e =
+    let s : ℕ = u * g + v * f in
+    solve (pos u ∷ pos v ∷ pos g ∷ pos f ∷ []) ((var 0 ⊖ con (pos 32768)) ⊗ var 2 ⊕ (var 1 ⊖ con (pos 32768)) ⊗ var 3) (var 0 ⊗ var 2 ⊕ var 1 ⊗ var 3 ⊖ con (pos 32768) ⊗ (var 2 ⊕ var 3)) refl
+    ∙ (λ i. pos (sym (div-add-mod' s 65536) i) -ℤ pos 32768 *ℤ pos (e i))
+    ∙ solve (pos (s / 65536) ∷ pos (s % 65536) ∷ []) (var 0 ⊗ con (pos 65536) ⊕ var 1 ⊖ con (pos 32768) ⊗ con (pos 65536)) ((var 0 ⊖ con (pos 32768)) ⊗ con (pos 65536) ⊕ var 1) refl
+
+pub between-fits : {a b : ℤ} (f : ℕ) → f ≤ 65536 → SFits w16 a → SFits w16 b → SFits w16 (between a b f)
+unfolding between
+between-fits {a} {b} f h p q =
+    let (u, d, k) = from-zero a (p .sfits) in
+    let (v, e, l) = from-zero b (q .sfits) in
+    let g = 65536 - f in
+    let s : ℕ = u * g + v * f in
+    let small : s / 65536 < 65536 = omega (arith, mul-le-mul-right g k, mul-le-mul-right f l, suc-mul u g, suc-mul v f) in
+    let is : floorDiv (a *ℤ pos g +ℤ b *ℤ pos f) 65536 ≡ pos (s / 65536) -ℤ pos 32768 =
+    floor-one (floor-is (a *ℤ pos g +ℤ b *ℤ pos f) 65536 (lit< tt))
+    (record { rest = s % 65536; small = mod-lt s (lit< tt); whole = (λ i. d i *ℤ pos g +ℤ e i *ℤ pos f) ∙ mean-is u v g f (omega arith) }) in
+    record { sfits = rw is (to-sample (s / 65536) small) }

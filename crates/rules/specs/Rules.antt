@@ -1,0 +1,385 @@
+-- Document 01's rules, in its order and words. Definitions only: the laws about them stand in the files beside this one.
+-- Samples and correlations are signed numbers; counts, lags, energies, periods and rates are natural numbers.
+use mathlib.Core.Bool.{Bool, true, false, not, cond, _&&_}
+use mathlib.Core.List.{List, [], _∷_, _++_}
+use mathlib.Core.Option.{Option, none, some}
+use Prim.Native.Nat.{ℕ, zero, suc, _+_, _-_, _*_, _/_, _%_, _^_}
+use lib.Dec.{leb, ltb, eqb}
+use lib.IntN.{ℤ, pos, natAbs, _+ℤ_, _-ℤ_, _*ℤ_}
+use lib.ListN.{getD}
+use lib.Signed.{ltZ}
+use Rattle.rules.specs.declared.Settings.{Settings}
+use Rattle.whole.specs.Sums.{sum, total}
+use Rattle.whole.specs.Floor.{floorDiv, nearestDiv}
+
+-- ---- Settings: scale, eps, decay and floor, as src/lib.rt declares them
+
+-- the settings that a start without settings has
+unfoldable pub defaults : Settings
+defaults = record { scale = 4095; eps = 100; decay = 0; floor = 100 }
+
+-- each setting in its range; scale 0 is out of it
+unfoldable pub inRange : Settings → Bool
+inRange s =
+    leb 1 (s .scale) && leb (s .scale) 4095 && leb (s .eps) 409 && leb (s .decay) 255 && leb 1 (s .floor) && leb (s .floor) 1000000
+
+-- ---- Energies and correlations
+
+-- a sound by age: x k is the sample of k samples ago, x 0 the newest
+abbrev pub Sound : Type 0
+Sound = ℕ → ℤ
+
+-- samples before the first count as 0
+unfoldable pub silence : Sound
+silence k = pos 0
+
+-- the sound with one sample more, its newest
+unfoldable pub heard : ℤ → Sound → Sound
+heard new x zero = new
+heard new x (suc k) = x k
+
+-- the sound with some samples more, the last of them its newest
+unfoldable pub heardAll : Sound → List ℤ → Sound
+heardAll x [] = x
+heardAll x (new ∷ more) = heardAll (heard new x) more
+
+-- the sound as it was before its newest sample
+abbrev pub older : Sound → Sound
+older x k = x (suc k)
+
+-- a square
+abbrev pub sq : ℤ → ℕ
+sq a = natAbs (a *ℤ a)
+
+-- E(L): the sum of squares of the newest 2L samples
+unfoldable pub E : Sound → ℕ → ℕ
+E x L = total (λ (k : ℕ). sq (x k)) (2 * L)
+
+-- H(L): the sum, over the newest L samples, of each times the one L before it
+unfoldable pub H : Sound → ℕ → ℤ
+H x L = sum (λ (k : ℕ). x k *ℤ x (k + L)) L
+
+-- D(L) = E(L) - 2H(L), never negative (`D-is` in Distance)
+unfoldable pub D : Sound → ℕ → ℕ
+D x L = natAbs (pos (E x L) -ℤ pos 2 *ℤ H x L)
+
+-- ---- Eighth rate
+
+-- the sum of the newest eight, divided by 8 and rounded down toward minus infinity
+unfoldable pub eighthSample : Sound → ℤ
+eighthSample x = floorDiv (sum x 8) 8
+
+-- it is made after samples 8, 16, 24, ..
+unfoldable pub eighthDue : ℕ → Bool
+eighthDue n = eqb (n % 8) 0
+
+-- ---- Passing
+
+-- 1024 x D(L) <= eps x E(L)
+unfoldable pub meetsEps : ℕ → ℕ → ℕ → Bool
+meetsEps eps d e = leb (1024 * d) (eps * e)
+
+-- E(L) >= floor x 2L
+unfoldable pub meetsFloor : ℕ → ℕ → ℕ → Bool
+meetsFloor floor L e = leb (floor * (2 * L)) e
+
+-- a lag passes
+unfoldable pub passes : Settings → Sound → ℕ → Bool
+passes s x L = meetsEps (s .eps) (D x L) (E x L) && meetsFloor (s .floor) L (E x L)
+
+-- ---- Finding a period: y is the sound at eighth rate
+
+-- a lag, from 3 to 109, is a low: D(L-1) > D(L) <= D(L+1), and it passes
+unfoldable pub isLow : Settings → Sound → ℕ → Bool
+isLow s y L = ltb (D y L) (D y (L - 1)) && leb (D y L) (D y (L + 1)) && passes s y L
+
+-- the least of the n numbers from `from` on for which the test holds
+unfoldable pub leastFrom : (ℕ → Bool) → ℕ → ℕ → Option ℕ
+leastFrom test from zero = none
+leastFrom test from (suc n) = let later = leastFrom test (suc from) n in cond (test from) (some from) later
+
+-- the least low above a lag
+unfoldable pub lowAbove : Settings → Sound → ℕ → Option ℕ
+lowAbove s y above = leastFrom (isLow s y) (suc above) (109 - above)
+
+-- with L1 below 55: of 8 x L1 and 8 x L2 the one with smaller full-rate D, the shorter on equality; without L2, no finding
+unfoldable pub choice : Sound → ℕ → Option ℕ → Option ℕ
+choice x L1 none = none
+choice x L1 (some L2) = some (cond (ltb (D x (8 * L2)) (D x (8 * L1))) (8 * L2) (8 * L1))
+
+-- by L1, the least low: none, no finding; at least 55, the lag 8 x L1; otherwise the choice with L2, the least low above L1
+unfoldable pub foundBy : Settings → Sound → Sound → Option ℕ → Option ℕ
+foundBy s x y none = none
+foundBy s x y (some L1) = cond (leb 55 L1) (some (8 * L1)) (choice x L1 (lowAbove s y L1))
+
+-- the lag found in the full-rate sound x and the eighth-rate sound y
+unfoldable pub found : Settings → Sound → Sound → Option ℕ
+found s x y = foundBy s x y (lowAbove s y 2)
+
+-- ---- Tracking: eight lags, low to low + 7
+
+-- the place of the least of d 0 to d n, the first on equality
+unfoldable pub leastPlace : (ℕ → ℕ) → ℕ → ℕ
+leastPlace d zero = 0
+leastPlace d (suc n) = let before = leastPlace d n in cond (ltb (d (suc n)) (d before)) (suc n) before
+
+-- 1. best: the place among the eight of the lag of least D, the shortest on equality
+unfoldable pub best : Sound → ℕ → ℕ
+best x low = leastPlace (λ (j : ℕ). D x (low + j)) 7
+
+-- how far two numbers lie apart
+abbrev pub away : ℕ → ℕ → ℕ
+away a b = (a - b) + (b - a)
+
+-- 2. lost: best doesn't pass, or differs by more than 3 from the last best
+unfoldable pub isLost : Settings → Sound → ℕ → ℕ → Bool
+isLost s x lag last = not (passes s x lag && leb (away lag last) 3)
+
+-- 128(D1 - D3) / (D1 - 2 D2 + D3) to the nearest whole number, halves up; D2 is the least of the three, D1 above it
+unfoldable pub offset : ℕ → ℕ → ℕ → ℤ
+offset D1 D2 D3 = nearestDiv (pos 128 *ℤ (pos D1 -ℤ pos D3)) (D1 + D3 - 2 * D2)
+
+-- 3. the period in 1/256 sample: 256 x best, and the offset when best is not the first or last of the eight
+unfoldable pub period : Sound → ℕ → ℕ → ℕ
+period x low at =
+    let lag = low + at in
+    natAbs (pos (256 * lag) +ℤ cond (ltb 0 at && ltb at 7) (offset (D x (lag - 1)) (D x lag) (D x (lag + 1))) (pos 0))
+
+-- 4. the lowest lag after the step: down by one among the first three unless it is 16, up by one among the last three unless the highest is 880
+unfoldable pub moved : ℕ → ℕ → ℕ
+moved low at =
+    cond (ltb at 3) (cond (eqb low 16) low (low - 1))
+    (cond (ltb 4 at) (cond (eqb (low + 7) 880) low (low + 1)) low)
+
+-- ---- Note and rate
+
+-- the table: the periods of MIDI notes 32 to 100, in 1/256 sample; its rule is `Nearest` in Table
+unfoldable pub table : List ℕ
+table =
+    217471 ∷ 205265 ∷ 193745 ∷ 182871 ∷ 172607 ∷ 162919 ∷ 153775 ∷ 145145 ∷ 136998 ∷ 129309 ∷ 122052 ∷ 115201 ∷ 108736 ∷ 102633
+    ∷ 96872 ∷ 91435 ∷ 86303 ∷ 81460 ∷ 76888 ∷ 72572 ∷ 68499 ∷ 64655 ∷ 61026 ∷ 57601 ∷ 54368 ∷ 51316 ∷ 48436 ∷ 45718 ∷ 43152 ∷ 40730
+    ∷ 38444 ∷ 36286 ∷ 34250 ∷ 32327 ∷ 30513 ∷ 28800 ∷ 27184 ∷ 25658 ∷ 24218 ∷ 22859 ∷ 21576 ∷ 20365 ∷ 19222 ∷ 18143 ∷ 17125 ∷ 16164
+    ∷ 15256 ∷ 14400 ∷ 13592 ∷ 12829 ∷ 12109 ∷ 11429 ∷ 10788 ∷ 10182 ∷ 9611 ∷ 9072 ∷ 8562 ∷ 8082 ∷ 7628 ∷ 7200 ∷ 6796 ∷ 6415 ∷ 6055
+    ∷ 5715 ∷ 5394 ∷ 5091 ∷ 4805 ∷ 4536 ∷ 4281 ∷ []
+
+-- its first note, and how many it holds
+abbrev pub firstNote : ℕ
+firstNote = 32
+
+abbrev pub notes : ℕ
+notes = 69
+
+-- the period of a note of the table
+unfoldable pub notePeriod : ℕ → ℕ
+notePeriod n = getD table (n - firstNote) 0
+
+-- a note is of the scale: bit = note number mod 12
+unfoldable pub ofScale : ℕ → ℕ → Bool
+ofScale scale n = eqb (scale / 2 ^ (n % 12) % 2) 1
+
+-- of the note wanted so far and a higher one: the one at less distance in period, the higher on equality
+unfoldable pub nearer : ℕ → Option ℕ → ℕ → ℕ
+nearer p none n = n
+nearer p (some m) n = cond (leb (away p (notePeriod n)) (away p (notePeriod m))) n m
+
+-- the wanted one of the first k notes of the table
+unfoldable pub wantedOf : ℕ → ℕ → ℕ → Option ℕ
+wantedOf scale p zero = none
+wantedOf scale p (suc k) =
+    let lower = wantedOf scale p k in
+    cond (ofScale scale (firstNote + k)) (some (nearer p lower (firstNote + k))) lower
+
+-- the wanted note of a period: the one of the scale with least distance in period, the higher note on equality
+unfoldable pub wanted : ℕ → ℕ → Option ℕ
+wanted scale p = wantedOf scale p notes
+
+-- period x 65536 / wanted period, nearest, halves up
+unfoldable pub rawRate : ℕ → ℕ → ℕ
+rawRate p w = (2 * (p * 65536) + w) / (2 * w)
+
+-- (decay x rate + (256 - decay) x raw) / 256, rounded down
+unfoldable pub smooth : ℕ → ℕ → ℕ → ℕ
+smooth decay rate raw = (decay * rate + (256 - decay) * raw) / 256
+
+-- a fresh tuner's rate
+abbrev pub freshRate : ℕ
+freshRate = 65536
+
+-- ---- Searching or tracking
+
+-- searching; or tracking the eight lags from low on, with the last best (at first, the found lag)
+pub data Mode : Type 0 where
+  searching : Mode
+  tracking : (low last : ℕ) → Mode
+
+-- what the sound was found to be: the mode; the period, 0 where there is none; the wanted note, 0 where there is no period; the rate
+pub record Pitch : Type 0 where
+  pub mode : Mode
+  pub period : ℕ
+  pub note : ℕ
+  pub rate : ℕ
+
+-- no period, and the rate 65536: fresh, locking, and lost
+unfoldable pub unpitched : Mode → Pitch
+unpitched m = record { mode = m; period = 0; note = 0; rate = freshRate }
+
+-- what a search leaves: no finding, what there was; a lag found, the eight lags from the found lag minus 3
+unfoldable pub searched : Pitch → Option ℕ → Pitch
+searched t none = t
+searched t (some lag) = unpitched (tracking (lag - 3) lag)
+
+-- the wanted note's number, and the raw rate of a period by it; without one (no scale in its range has none) 0 and 65536
+unfoldable pub noteOf : Option ℕ → ℕ
+noteOf none = 0
+noteOf (some n) = n
+
+unfoldable pub rawFor : ℕ → Option ℕ → ℕ
+rawFor p none = freshRate
+rawFor p (some n) = rawRate p (notePeriod n)
+
+-- what a successful tracking step leaves: a new period, its wanted note, and the rate moved toward the raw rate
+unfoldable pub tuned : Settings → ℕ → Mode → ℕ → Pitch
+tuned s rate m p =
+    let w = wanted (s .scale) p in
+    record { mode = m; period = p; note = noteOf w; rate = smooth (s .decay) rate (rawFor p w) }
+
+-- a tracking step
+unfoldable pub tracked : Settings → Sound → ℕ → ℕ → ℕ → Pitch
+tracked s x rate low last =
+    let at = best x low in
+    cond (isLost s x (low + at) last) (unpitched searching) (tuned s rate (tracking (moved low at) (low + at)) (period x low at))
+
+-- a tracking step comes when the take's sample count is a multiple of 5
+unfoldable pub stepDue : ℕ → Bool
+stepDue n = eqb (n % 5) 0
+
+-- searching or tracking after sample number n is stored, by the mode in which the sample arrived
+unfoldable pub listenedIn : Mode → Settings → ℕ → Sound → Sound → Pitch → Pitch
+listenedIn searching s n x y t = cond (eighthDue n) (searched t (found s x y)) t
+listenedIn (tracking low last) s n x y t = cond (stepDue n) (tracked s x (t .rate) low last) t
+
+unfoldable pub listened : Settings → ℕ → Sound → Sound → Pitch → Pitch
+listened s n x y t = listenedIn (t .mode) s n x y t
+
+-- ---- Reading
+
+-- where the input stands after n samples, in 1/65536 sample
+unfoldable pub inputAt : ℕ → ℤ
+inputAt n = pos (n * 65536)
+
+-- the periods of the cycle repeated after sample n: one where the position is greater than n x 65536
+unfoldable pub repeated : ℕ → ℕ → ℤ → List ℕ
+repeated n p at = cond (ltZ (inputAt n) at) (p ∷ []) []
+
+-- the periods of the cycle dropped: one where it is more than 1,000 samples behind
+unfoldable pub dropped : ℕ → ℕ → ℤ → List ℕ
+dropped n p at = cond (ltZ at (inputAt n -ℤ pos (1000 * 65536))) (p ∷ []) []
+
+-- what cycles come to: a period counts 256 position units for each 1/256 sample
+unfoldable pub cycles : List ℕ → ℕ
+cycles [] = 0
+cycles (p ∷ ps) = 256 * p + cycles ps
+
+-- the position after sample n, and the periods of the cycles repeated and dropped there
+pub record Growth : Type 0 where
+  pub position : ℤ
+  pub repeated : List ℕ
+  pub dropped : List ℕ
+
+-- the position grows by the rate; if it is now ahead, one period is taken off; if it is too far behind, one period is put on
+unfoldable pub growth : ℕ → ℕ → ℕ → ℤ → Growth
+growth n rate p at =
+    let grown = at +ℤ pos rate in
+    let again = repeated n p grown in
+    let held = grown -ℤ pos (cycles again) in
+    let gone = dropped n p held in
+    record { position = held +ℤ pos (cycles gone); repeated = again; dropped = gone }
+
+-- the sample number i, from 0, of a sound of n samples; below 0 it reads as 0
+unfoldable pub sampleAt : Sound → ℕ → ℤ → ℤ
+sampleAt x n i = x (natAbs (pos n -ℤ pos 1 -ℤ i))
+
+-- between neighbours a and b with fraction f: (a(65536 - f) + b f) / 65536, rounded down
+unfoldable pub between : ℤ → ℤ → ℕ → ℤ
+between a b f = floorDiv (a *ℤ pos (65536 - f) +ℤ b *ℤ pos f) 65536
+
+-- the whole samples of a position, and its fraction
+unfoldable pub wholeOf : ℤ → ℤ
+wholeOf at = floorDiv at 65536
+
+unfoldable pub fractionOf : ℤ → ℕ
+fractionOf at = natAbs (at -ℤ wholeOf at *ℤ pos 65536)
+
+-- the output is read 5 samples before the position
+unfoldable pub reading : Sound → ℕ → ℤ → ℤ
+reading x n at =
+    let i = wholeOf at -ℤ pos 5 in
+    between (sampleAt x n i) (sampleAt x n (i +ℤ pos 1)) (fractionOf at)
+
+-- ---- One sample
+
+-- a take so far: how many samples, the sound at both rates, what it was found to be, and the read position
+pub record Take : Type 0 where
+  pub count : ℕ
+  pub sound : Sound
+  pub eighths : Sound
+  pub pitch : Pitch
+  pub position : ℤ
+
+-- a fresh take
+unfoldable pub fresh : Take
+fresh = record { count = 0; sound = silence; eighths = silence; pitch = unpitched searching; position = pos 0 }
+
+-- what one sample gives: the sample out, and the periods of the cycles repeated and dropped
+pub record Given : Type 0 where
+  pub out : ℤ
+  pub repeated : List ℕ
+  pub dropped : List ℕ
+
+-- what one sample leaves and gives
+pub record Step : Type 0 where
+  pub next : Take
+  pub given : Given
+
+-- the eighth-rate sound after sample n of the full-rate sound x
+unfoldable pub eighthsAfter : ℕ → Sound → Sound → Sound
+eighthsAfter n x y = cond (eighthDue n) (heard (eighthSample x) y) y
+
+-- one sample: it is stored, an eighth-rate sample made, the tuner searches or tracks; then the position grows by the rate,
+-- a cycle is repeated or dropped, and the output is read
+unfoldable pub stepped : Settings → Take → ℤ → Step
+stepped s t new =
+    let n = suc (t .count) in
+    let x = heard new (t .sound) in
+    let y = eighthsAfter n x (t .eighths) in
+    let pitch = listened s n x y (t .pitch) in
+    let g = growth n (pitch .rate) (pitch .period) (t .position) in
+    record {
+      next = record { count = n; sound = x; eighths = y; pitch = pitch; position = g .position };
+      given = record { out = reading x n (g .position); repeated = g .repeated; dropped = g .dropped };
+    }
+
+-- ---- A block: the fold of the step over its samples
+
+-- the take after the samples
+unfoldable pub after : Settings → Take → List ℤ → Take
+after s t [] = t
+after s t (new ∷ more) = after s (stepped s t new .next) more
+
+-- what each of the samples gives, one after the other
+unfoldable pub gives : Settings → Take → List ℤ → List Given
+gives s t [] = []
+gives s t (new ∷ more) = stepped s t new .given ∷ gives s (stepped s t new .next) more
+
+-- the samples out, and the periods of all cycles repeated and dropped
+unfoldable pub samplesOut : List Given → List ℤ
+samplesOut [] = []
+samplesOut (g ∷ gs) = g .out ∷ samplesOut gs
+
+unfoldable pub allRepeated : List Given → List ℕ
+allRepeated [] = []
+allRepeated (g ∷ gs) = g .repeated ++ allRepeated gs
+
+unfoldable pub allDropped : List Given → List ℕ
+allDropped [] = []
+allDropped (g ∷ gs) = g .dropped ++ allDropped gs

@@ -1,0 +1,103 @@
+-- Document 01's worked numbers: one table, and one statement over it, about the definitions.
+use mathlib.Core.Path.{_≡_, refl}
+use mathlib.Core.Bool.{Bool, true, false}
+use mathlib.Core.List.{List, [], _∷_}
+use mathlib.Core.Option.{Option, none, some}
+use Prim.Native.Nat.{ℕ, _+_, _*_, _/_}
+use lib.IntN.{ℤ, pos, negsuc, negℤ, _+ℤ_}
+use Rattle.whole.specs.Sums.{fold}
+use Rattle.rules.specs.Rules.{Sound, silence, heard, heardAll, E, H, D, eighthSample, eighthDue, meetsEps, meetsFloor, offset, table, notePeriod, ofScale, nearer, wantedOf, wanted, rawRate, smooth, between, inputAt, repeated, dropped, cycles, growth, Take, fresh, Given, unpitched, listened, listenedIn, sampleAt, wholeOf, fractionOf, reading, eighthsAfter, stepped, gives, samplesOut}
+
+-- the sound of some samples alone, the oldest first, as document 01 prints them
+abbrev soundOf : List ℤ → Sound
+soundOf newest = heardAll silence newest
+
+-- what a worked number says of the definitions
+pub data Worked : Type 0 where
+  sums : (newest : List ℤ) (L e : ℕ) (h : ℤ) (d : ℕ) → Worked
+  eighth : (newest : List ℤ) (out : ℤ) → Worked
+  meetsOfEps : (eps d e : ℕ) (meets : Bool) → Worked
+  meetsOfFloor : (floor L e : ℕ) (meets : Bool) → Worked
+  vertex : (d1 d2 d3 : ℕ) (off : ℤ) → Worked
+  note : (n p : ℕ) → Worked
+  wants : (scale p n : ℕ) → Worked
+  raw : (p n r : ℕ) → Worked
+  smooths : (decay rate goal new : ℕ) → Worked
+  reads : (a b : ℤ) (f : ℕ) (out : ℤ) → Worked
+  -- after sample n, with the position grown to `grown` and a period, the position is `at`
+  turns : (n p : ℕ) (grown at : ℤ) → Worked
+
+unfoldable pub Holds : Worked → Type 0
+Holds (sums newest L e h d) = (E (soundOf newest) L ≡ e) × (H (soundOf newest) L ≡ h) × (D (soundOf newest) L ≡ d)
+Holds (eighth newest out) = eighthSample (soundOf newest) ≡ out
+Holds (meetsOfEps eps d e meets) = meetsEps eps d e ≡ meets
+Holds (meetsOfFloor floor L e meets) = meetsFloor floor L e ≡ meets
+Holds (vertex d1 d2 d3 off) = offset d1 d2 d3 ≡ off
+Holds (note n p) = notePeriod n ≡ p
+Holds (wants scale p n) = wanted scale p ≡ some n
+Holds (raw p n r) = rawRate p (notePeriod n) ≡ r
+Holds (smooths decay rate goal new) = smooth decay rate goal ≡ new
+Holds (reads a b f out) = between a b f ≡ out
+Holds (turns n p grown at) = growth n 0 p grown .position ≡ at
+
+unfoldable pub AllHold : List Worked → Type 0
+AllHold [] = Unit
+AllHold (w ∷ ws) = Holds w × AllHold ws
+
+-- -n
+abbrev minus : ℕ → ℤ
+minus n = negℤ (pos n)
+
+-- a scale of A alone: bit 69 mod 12 = 9
+abbrev onlyA : ℕ
+onlyA = 512
+
+-- samples in 1/65536
+abbrev samples : ℕ → ℤ
+samples n = pos (n * 65536)
+
+unfoldable pub numbers : List Worked
+numbers =
+    -- 1 to 3
+    sums (pos 3 ∷ pos 5 ∷ pos 3 ∷ pos 5 ∷ []) 2 68 (pos 34) 0
+    ∷ sums (pos 1 ∷ pos 2 ∷ pos 3 ∷ pos 4 ∷ []) 2 30 (pos 11) 8
+    ∷ sums (pos 1 ∷ minus 1 ∷ minus 1 ∷ pos 1 ∷ []) 2 4 (minus 2) 8
+    -- 4: eight samples summing to -1, and to 7
+    ∷ eighth (pos 3 ∷ minus 4 ∷ pos 0 ∷ pos 5 ∷ minus 2 ∷ minus 3 ∷ pos 1 ∷ minus 1 ∷ []) (minus 1)
+    ∷ eighth (pos 3 ∷ pos 4 ∷ pos 0 ∷ pos 5 ∷ minus 2 ∷ minus 3 ∷ pos 1 ∷ minus 1 ∷ []) (pos 0)
+    -- 5
+    ∷ meetsOfEps 200 200 1024 true
+    ∷ meetsOfEps 200 202 1024 false
+    -- 6
+    ∷ meetsOfFloor 100 24 4800 true
+    ∷ meetsOfFloor 100 24 4799 false
+    -- 7
+    ∷ vertex 6 2 10 (minus 43)
+    ∷ vertex 8 2 2 (pos 128)
+    -- 8
+    ∷ note 69 25658
+    ∷ note 33 205265
+    -- 9
+    ∷ wants onlyA 26000 69
+    ∷ raw 26000 69 66410
+    ∷ wants onlyA 38487 69
+    -- 10
+    ∷ smooths 128 65536 66410 65973
+    -- 11
+    ∷ reads (pos 10) (pos 13) 32768 (pos 11)
+    ∷ reads (minus 10) (minus 13) 32768 (minus 12)
+    -- 12: position 1000.5 samples, period 100; and position 1000
+    ∷ turns 1000 (256 * 100) (samples 1000 +ℤ pos 32768) (samples 900 +ℤ pos 32768)
+    ∷ turns 1000 (256 * 100) (samples 1000) (samples 1000)
+    ∷ []
+
+pub numbers-hold : AllHold numbers
+unfolding numbers AllHold Holds silence heard heardAll fold E H D eighthSample meetsEps meetsFloor offset notePeriod table wanted wantedOf ofScale nearer rawRate smooth between growth repeated dropped cycles inputAt
+numbers-hold =
+    ((refl, refl, refl), ((refl, refl, refl), ((refl, refl, refl), (refl, (refl, (refl, (refl, (refl, (refl, (refl, (refl, (refl, (refl, (refl, (refl, (refl, (refl, (refl, (refl, (refl, (refl, tt)))))))))))))))))))))
+
+-- the whole case of document 01: until a period is tracked, output is the input four samples late
+pub whole-case : samplesOut (gives (record { scale = 4095; eps = 200; decay = 0; floor = 100 }) fresh (pos 1000 ∷ minus 1000 ∷ pos 500 ∷ pos 8 ∷ pos 9 ∷ pos 10 ∷ []))
+    ≡ pos 0 ∷ pos 0 ∷ pos 0 ∷ pos 0 ∷ pos 1000 ∷ minus 1000 ∷ []
+unfolding fresh silence heard gives samplesOut stepped eighthDue eighthsAfter unpitched listened listenedIn growth repeated dropped cycles inputAt reading between sampleAt wholeOf fractionOf
+whole-case = refl

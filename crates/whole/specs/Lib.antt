@@ -1,0 +1,9 @@
+pub mod Tests
+pub mod RingLaws
+pub mod Ring
+pub mod Bounds
+pub mod Order
+pub mod Words
+pub mod Floor
+pub mod Sums
+pub mod Running

@@ -1,0 +1,43 @@
+-- What a test that was made says, and the parts of a test that held.
+use mathlib.Core.Path.{_≡_, refl, subst, sym, _∙_}
+use mathlib.Core.Bool.{Bool, true, false, not, cond, _&&_}
+use lib.Dec.{T}
+
+-- by how a test came out
+pub by : {P : Type 0} (b : Bool) → (b ≡ true → P) → (b ≡ false → P) → P
+by true f g = f refl
+by false f g = g refl
+
+pub cond-case : {A : Type 0} (c : Bool) (x y : A) (P : A → Type 0) → (c ≡ true → P x) → (c ≡ false → P y) → P (cond c x y)
+cond-case true x y P f g = f refl
+cond-case false x y P f g = g refl
+
+pub cond-yes : {A : Type 0} {c : Bool} (x y : A) → c ≡ true → cond c x y ≡ x
+cond-yes x y e = rw e
+
+pub cond-no : {A : Type 0} {c : Bool} (x y : A) → c ≡ false → cond c x y ≡ y
+cond-no x y e = rw e
+
+pub yes-and-no : {b : Bool} → b ≡ true → b ≡ false → ⊥
+yes-and-no e f = subst T (sym e ∙ f) tt
+
+pub and-left : (a b : Bool) → a && b ≡ true → a ≡ true
+and-left true b e = refl
+and-left false b e = e
+
+pub and-right : (a b : Bool) → a && b ≡ true → b ≡ true
+and-right true b e = e
+and-right false true e = refl
+and-right false false e = e
+
+pub T-true : {b : Bool} → T b → b ≡ true
+T-true {b = true} t = refl
+T-true {b = false} t = absurd t
+
+pub true-T : {b : Bool} → b ≡ true → T b
+true-T e = subst T (sym e) tt
+
+-- a test decides a statement
+pub record Decides (b : Bool) (P : Type 0) : Type 0 where
+  pub yes : b ≡ true → P
+  pub no : b ≡ false → P → ⊥

@@ -1,0 +1,260 @@
+//! The kinds of script: what is sung, and how it is sent.
+
+use super::random::Random;
+use super::sound::{period_of_note, Passage, Wave};
+use crate::table::{HIGHEST_NOTE, LOWEST_NOTE};
+
+/// The loudest sample.
+const FULL: f64 = 32_768.0;
+
+/// A passage by chance and by its place in the script.
+type Singing = fn(&mut Random, usize) -> Passage;
+
+pub struct Kind {
+    pub name: &'static str,
+    pub meaning: &'static str,
+    pub singing: Singing,
+    /// The settings that it starts with, if they are not left to chance.
+    pub settings: Option<&'static str>,
+    /// The lengths of blocks, least and most.
+    pub lengths: (usize, usize),
+    /// So many times in a thousand a block is followed by settings to take.
+    pub changes: usize,
+    /// So many times in a thousand by something that is not the next block.
+    pub trouble: usize,
+    /// So many times in a thousand by a line that cannot be read.
+    pub unreadable: usize,
+}
+
+const fn kind(name: &'static str, meaning: &'static str, singing: Singing) -> Kind {
+    Kind {
+        name,
+        meaning,
+        singing,
+        settings: None,
+        lengths: (1, 512),
+        changes: 20,
+        trouble: 0,
+        unreadable: 0,
+    }
+}
+
+pub const KINDS: &[Kind] = &[
+    kind(
+        "tones",
+        "every note from 32 to 100, in tune, flat and sharp",
+        tones,
+    ),
+    kind("glides", "up and down between 50 Hz and 2756 Hz", glides),
+    kind("vibrato", "swinging tones", vibrato),
+    kind("hollow", "weak and missing fundamentals", hollow),
+    kind("noise", "noise, alone and over tones", noise),
+    kind("tails", "loud, then soft, then silent", tails),
+    kind("squares", "full-scale square waves", squares),
+    kind("steps", "steps, ramps and impulses", steps),
+    kind("pulses", "pulses of uneven width", pulses),
+    kind("soft", "tones of a few units", soft),
+    kind("cycles", "drawn cycles repeated exactly", cycles),
+    Kind {
+        settings: Some("512\t409\t0\t1"),
+        changes: 0,
+        ..kind("shifted", "tones drawn to one note, far off", vibrato)
+    },
+    Kind {
+        changes: 400,
+        lengths: (1, 200),
+        ..kind("settings", "tones under many changes of settings", vibrato)
+    },
+    Kind {
+        lengths: (1, 1),
+        ..kind("ones", "blocks of one sample", tones)
+    },
+    Kind {
+        trouble: 500,
+        ..kind("rough", "repeats, refusals, starts and resets", any)
+    },
+    Kind {
+        unreadable: 900,
+        ..kind("unreadable", "lines that cannot be read", tones)
+    },
+    Kind {
+        trouble: 100,
+        unreadable: 50,
+        changes: 50,
+        ..kind("mixed", "all of these", any)
+    },
+];
+
+pub fn kind_named(name: &str) -> Option<&'static Kind> {
+    KINDS.iter().find(|kind| kind.name == name)
+}
+
+fn any(random: &mut Random, place: usize) -> Passage {
+    let singing: Singing = random.one_of(&[
+        tones, glides, vibrato, hollow, noise, tails, squares, steps, pulses, soft, cycles,
+    ]);
+    singing(random, place)
+}
+
+/// Partials that grow weaker, the first at `first`.
+fn voice(random: &mut Random, first: f64) -> Wave {
+    let mut strengths = vec![first];
+    for partial in 2..=random.whole(2, 7) {
+        strengths.push(random.real(0.0, 0.7) / partial as f64);
+    }
+    let sum: f64 = strengths.iter().sum();
+    Wave::Partials(strengths.iter().map(|strength| strength / sum).collect())
+}
+
+/// Leaps of 25 notes come to each of the 69 before any comes again.
+fn tones(random: &mut Random, place: usize) -> Passage {
+    let note = LOWEST_NOTE + 25 * place % (HIGHEST_NOTE - LOWEST_NOTE + 1);
+    let cents = match random.whole(0, 2) {
+        0 => 0.0,
+        1 => random.real(-8.0, 8.0),
+        _ => random.real(-55.0, 55.0),
+    };
+    let period = period_of_note(note, cents);
+    let length = (6.0 * period) as usize + random.whole(500, 3_000);
+    Passage::of(voice(random, 1.0), period, length)
+        .loud(random.real(500.0, FULL))
+        .breathy(random.one_of(&[0.0, 0.0, 20.0, 200.0]))
+}
+
+/// Ends a little past the lags 16 and 880, so that the eight are stopped.
+fn glides(random: &mut Random, place: usize) -> Passage {
+    let (from, to) = match place % 4 {
+        0 => (random.real(40.0, 120.0), random.real(15.0, 17.0)),
+        1 => (random.real(300.0, 500.0), random.real(870.0, 890.0)),
+        2 => (random.real(860.0, 880.0), random.real(30.0, 60.0)),
+        _ => (random.real(50.0, 100.0), random.real(870.0, 890.0)),
+    };
+    let speed = random.real(0.004, 0.03);
+    let length = ((from - to).abs() / speed) as usize;
+    Passage::of(voice(random, 1.0), from, length)
+        .gliding(to)
+        .loud(random.real(2_000.0, 30_000.0))
+}
+
+fn vibrato(random: &mut Random, _: usize) -> Passage {
+    let period = random.real(30.0, 500.0);
+    let length = random.whole(4_000, 20_000);
+    Passage::of(voice(random, 1.0), period, length)
+        .swinging(random.real(0.002, 0.06), random.real(3_000.0, 12_000.0))
+        .loud(random.real(500.0, 30_000.0))
+        .breathy(random.one_of(&[0.0, 10.0, 300.0]))
+}
+
+fn hollow(random: &mut Random, _: usize) -> Passage {
+    let fundamental = random.one_of(&[0.0, 0.0, 0.02, 0.1]);
+    let period = random.real(40.0, 860.0);
+    let length = random.whole(3_000, 9_000);
+    Passage::of(voice(random, fundamental), period, length).loud(random.real(2_000.0, 30_000.0))
+}
+
+fn noise(random: &mut Random, place: usize) -> Passage {
+    let length = random.whole(2_000, 8_000);
+    match place % 3 {
+        0 => Passage::of(Wave::Partials(vec![]), 100.0, length).breathy(random.real(1.0, FULL)),
+        1 => {
+            let mut height = 0.0;
+            let walk = (0..length).map(|_| {
+                height = 0.98 * height + random.real(-0.05, 0.05);
+                height
+            });
+            let wave = Wave::Drawn(walk.collect());
+            Passage::of(wave, 100.0, length).loud(random.real(1_000.0, FULL))
+        }
+        _ => {
+            let loudness = random.real(1_000.0, 15_000.0);
+            Passage::of(voice(random, 1.0), random.real(20.0, 800.0), length)
+                .loud(loudness)
+                .breathy(loudness * random.real(0.05, 1.0))
+        }
+    }
+}
+
+fn tails(random: &mut Random, place: usize) -> Passage {
+    let period = 60.0 + 97.0 * (place / 4 % 5) as f64;
+    let length = random.whole(2_000, 12_000);
+    let wave = voice(random, 1.0);
+    match place % 4 {
+        0 => Passage::of(wave, period, length).loud(random.real(20_000.0, 60_000.0)),
+        1 => Passage::of(wave, period, length).fading(20_000.0, 0.0),
+        2 => Passage::of(wave, period, length).loud(random.real(0.0, 30.0)),
+        _ => Passage::of(wave, period, length / 2).loud(0.0),
+    }
+}
+
+fn squares(random: &mut Random, _: usize) -> Passage {
+    let length = random.whole(2_000, 8_000);
+    let (wave, period) = match random.whole(0, 2) {
+        0 => (Wave::Square, random.real(16.0, 880.0)),
+        1 => (Wave::Square, 8.0 * random.whole(3, 110) as f64),
+        _ => {
+            let half = random.whole(8, 440);
+            let other = half + random.whole(0, 1);
+            let values = (0..half + other).map(|at| if at < half { 1.0 } else { -1.0 });
+            (Wave::Drawn(values.collect()), 100.0)
+        }
+    };
+    Passage::of(wave, period, length).loud(FULL)
+}
+
+fn steps(random: &mut Random, _: usize) -> Passage {
+    let length = random.whole(1_000, 6_000);
+    let gap = random.whole(20, 900);
+    let height = random.one_of(&[1.0, -1.0, 0.5, 0.0]);
+    let values: Vec<f64> = match random.whole(0, 3) {
+        0 => vec![height],
+        1 => {
+            let impulse = |at| if at % gap == 0 { height } else { 0.0 };
+            (0..gap).map(impulse).collect()
+        }
+        2 => (0..gap).map(|at| at as f64 / gap as f64).collect(),
+        _ => {
+            let stairs = |_| random.real(-1.0, 1.0);
+            let heights: Vec<f64> = (0..length / gap + 1).map(stairs).collect();
+            (0..length).map(|at| heights[at / gap]).collect()
+        }
+    };
+    Passage::of(Wave::Drawn(values), 100.0, length).loud(random.one_of(&[FULL, 300.0]))
+}
+
+/// Between pulses of uneven width a whole row of lags fits equally well.
+fn pulses(random: &mut Random, _: usize) -> Passage {
+    let length = random.whole(3_000, 10_000);
+    let gap = random.whole(40, 860);
+    let width = random.whole(gap / 6, gap / 2);
+    let wider = random.whole(0, 4);
+    let mut values = vec![0.0; length + 2 * gap];
+    for start in (0..length).step_by(gap) {
+        let end = start + width + random.whole(0, wider);
+        values[start..end].fill(1.0);
+    }
+    Passage::of(Wave::Drawn(values), 100.0, length)
+        .loud(random.one_of(&[20_000.0, 1_000.0, 30.0]))
+        .breathy(random.one_of(&[0.0, 0.0, 1.0, 6.0]))
+}
+
+fn soft(random: &mut Random, _: usize) -> Passage {
+    let length = random.whole(3_000, 12_000);
+    Passage::of(voice(random, 1.0), random.real(24.0, 860.0), length)
+        .loud(random.real(1.0, 60.0))
+        .swinging(random.real(0.0, 0.01), 5_000.0)
+}
+
+fn cycles(random: &mut Random, _: usize) -> Passage {
+    let length = random.whole(2_000, 9_000);
+    let cycle = match random.whole(0, 1) {
+        0 => 8 * random.whole(3, 110),
+        _ => random.whole(16, 880),
+    };
+    let mut height = 0.0;
+    let values = (0..cycle).map(|_| {
+        height = 0.9 * height + random.real(-0.2, 0.2);
+        height
+    });
+    let wave = Wave::Drawn(values.collect());
+    Passage::of(wave, 100.0, length).loud(random.one_of(&[30_000.0, 3_000.0, 20.0]))
+}

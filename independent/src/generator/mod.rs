@@ -1,0 +1,10 @@
+//! Scripts for the line program, by kind and seed.
+//!
+//! Sound is made with +, -, x, / and floor of IEEE doubles alone, so a kind
+//! and a seed give the same bytes on every machine.
+
+pub mod kinds;
+mod random;
+pub mod script;
+mod sound;
+mod spoilt;

@@ -1,0 +1,17 @@
+//! Document 01's tuner a second time, written for obvious correctness.
+//!
+//! It keeps the whole take and reckons every energy and correlation directly
+//! over it, when it is needed. Nothing is carried along from sample to sample
+//! that document 01 lets one reckon afresh.
+
+pub mod generator;
+pub mod history;
+pub mod lines;
+pub mod rules;
+pub mod settings;
+pub mod statistics;
+pub mod table;
+pub mod tuner;
+
+#[cfg(test)]
+mod spoiled;

@@ -1,0 +1,179 @@
+//! The line program: any bytes in, one answer line for each line.
+
+use crate::rules::LONGEST_BLOCK;
+use crate::settings::Settings;
+use crate::statistics::Statistics;
+use crate::tuner::{Answer, Tuner};
+
+/// The most bytes before a line's end.
+pub const LONGEST_LINE: usize = 8_192;
+/// The answer to a line that cannot be read.
+pub const UNREADABLE: usize = 10;
+
+/// A line that can be read.
+#[derive(Clone, Debug, PartialEq, Eq)]
+pub enum Record {
+    Start(Settings),
+    Change(Settings),
+    Block(u16, Vec<i16>),
+    Reset,
+}
+
+impl Record {
+    /// The record on this line, without its end; None if it cannot be read.
+    pub fn on(line: &[u8]) -> Option<Record> {
+        if line.len() > LONGEST_LINE {
+            return None;
+        }
+        let fields: Vec<&[u8]> = line.split(|&byte| byte == b'\t').collect();
+        match (fields[0], &fields[1..]) {
+            (b"start", settings) => Some(Record::Start(settings_in(settings)?)),
+            (b"change", settings) => Some(Record::Change(settings_in(settings)?)),
+            (b"block", [number, samples @ ..]) => {
+                let number = u16::try_from(whole_number(number, 65_535)?).ok()?;
+                let samples: Option<Vec<i16>> = samples.iter().map(|field| sample(field)).collect();
+                Some(Record::Block(number, samples?))
+            }
+            (b"reset", []) => Some(Record::Reset),
+            _ => None,
+        }
+    }
+}
+
+fn settings_in(fields: &[&[u8]]) -> Option<Settings> {
+    let setting = |field| u32::try_from(whole_number(field, u64::from(u32::MAX))?).ok();
+    match fields {
+        [scale, eps, decay, floor] => Some(Settings {
+            scale: setting(scale)?,
+            eps: setting(eps)?,
+            decay: setting(decay)?,
+            floor: setting(floor)?,
+        }),
+        _ => None,
+    }
+}
+
+fn sample(field: &[u8]) -> Option<i16> {
+    let value = match field.strip_prefix(b"-") {
+        Some(digits) => -(whole_number(digits, 32_768)? as i64),
+        None => whole_number(field, 32_767)? as i64,
+    };
+    i16::try_from(value).ok()
+}
+
+/// Digits, at least one, of a number that is at most `most`.
+fn whole_number(field: &[u8], most: u64) -> Option<u64> {
+    if field.is_empty() {
+        return None;
+    }
+    let mut value = 0;
+    for byte in field {
+        if !byte.is_ascii_digit() {
+            return None;
+        }
+        value = 10 * value + u64::from(byte - b'0');
+        if value > most {
+            return None;
+        }
+    }
+    Some(value)
+}
+
+/// The line program with its tuner and the line that is coming in.
+pub struct Program {
+    tuner: Tuner,
+    pub statistics: Statistics,
+    /// The line so far, cut once it is too long to be read.
+    line: Vec<u8>,
+}
+
+impl Default for Program {
+    fn default() -> Program {
+        Program {
+            tuner: Tuner::default_start(),
+            statistics: Statistics::default(),
+            line: Vec::new(),
+        }
+    }
+}
+
+impl Program {
+    /// Takes further bytes of the input and answers the lines that end there.
+    pub fn read(&mut self, input: &[u8], answers: &mut Vec<u8>) {
+        let mut pieces = input.split(|&byte| byte == b'\n');
+        let unfinished = pieces.next_back().unwrap_or(&[]);
+        for piece in pieces {
+            self.lengthen(piece);
+            self.answer_line(answers);
+        }
+        self.lengthen(unfinished);
+    }
+
+    /// The input has ended; a last line may lack its end.
+    pub fn end(&mut self, answers: &mut Vec<u8>) {
+        if !self.line.is_empty() {
+            self.answer_line(answers);
+        }
+    }
+
+    pub fn tuner(&self) -> &Tuner {
+        &self.tuner
+    }
+
+    /// One byte over the longest line is kept, so that it is known too long.
+    fn lengthen(&mut self, piece: &[u8]) {
+        let room = LONGEST_LINE + 1 - self.line.len();
+        self.line.extend(piece.iter().take(room));
+    }
+
+    fn answer_line(&mut self, answers: &mut Vec<u8>) {
+        let record = Record::on(&self.line);
+        self.line.clear();
+        let mut numbers: Vec<i64> = Vec::new();
+        let answer = match record {
+            None => UNREADABLE,
+            Some(Record::Start(settings)) => self.start(settings).number(),
+            Some(Record::Change(settings)) => self.tuner.change(settings).number(),
+            Some(Record::Reset) => self.tuner.reset().number(),
+            Some(Record::Block(number, samples)) => {
+                self.block(number, &samples, &mut numbers).number()
+            }
+        };
+        self.statistics.answers[answer] += 1;
+        answers.extend(answer.to_string().bytes());
+        for number in numbers {
+            answers.push(b'\t');
+            answers.extend(number.to_string().bytes());
+        }
+        answers.push(b'\n');
+    }
+
+    /// Start begins anew; if it is refused, the old tuner stays.
+    fn start(&mut self, settings: Settings) -> Answer {
+        let (answer, tuner) = Tuner::start(settings);
+        if answer == Answer::Taken {
+            self.tuner = tuner;
+        }
+        answer
+    }
+
+    /// Written, repeated, dropped, then the samples written.
+    fn block(&mut self, number: u16, samples: &[i16], numbers: &mut Vec<i64>) -> Answer {
+        let mut output = [0; LONGEST_BLOCK];
+        let (answer, counts) = self
+            .tuner
+            .block(number, samples, &mut output, &mut self.statistics);
+        numbers.extend([counts.written, counts.repeated, counts.dropped].map(|count| count as i64));
+        numbers.extend(output[..counts.written].iter().map(|&out| i64::from(out)));
+        answer
+    }
+}
+
+/// All answers to an input, and what was seen on the way.
+pub fn answers_to(input: &[u8]) -> (Vec<u8>, Statistics) {
+    let mut program = Program::default();
+    let mut answers = Vec::new();
+    program.read(input, &mut answers);
+    program.end(&mut answers);
+    (answers, program.statistics)
+}

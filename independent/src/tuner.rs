@@ -1,0 +1,369 @@
+//! What the host may call.
+
+use crate::history::History;
+use crate::rules::*;
+use crate::settings::Settings;
+use crate::statistics::Statistics;
+use crate::table::{period_of, HIGHEST_NOTE, LOWEST_NOTE};
+
+/// The most samples in a take.
+pub const TAKE_LIMIT: usize = 1_000_000_000;
+
+/// Document 01's answers, each with its number.
+#[derive(Clone, Copy, Debug, PartialEq, Eq)]
+pub enum Answer {
+    Taken = 0,
+    GivenAgain = 1,
+    BlockEmpty = 2,
+    BlockTooLong = 3,
+    OutputTooShort = 4,
+    NumberNeitherNextNorLast = 5,
+    LastNumberOtherSamples = 6,
+    TakeFull = 7,
+    SettingOutOfRange = 8,
+    RecordOutOfRange = 9,
+}
+
+impl Answer {
+    pub fn number(self) -> usize {
+        self as usize
+    }
+}
+
+/// Samples written, cycles repeated, cycles dropped in a block.
+#[derive(Clone, Copy, Debug, Default, PartialEq, Eq)]
+pub struct Counts {
+    pub written: usize,
+    pub repeated: usize,
+    pub dropped: usize,
+}
+
+/// What is tracked.
+#[derive(Clone, Copy, Debug, PartialEq, Eq)]
+pub struct Tracking {
+    /// The lowest of the eight lags.
+    pub lowest: usize,
+    /// The best lag of the last step; at first, the found lag.
+    pub last_best: usize,
+    /// None before the first step.
+    pub pitch: Option<Pitch>,
+}
+
+#[derive(Clone, Copy, Debug, PartialEq, Eq)]
+pub struct Pitch {
+    pub period: i64,
+    pub wanted_note: usize,
+}
+
+#[derive(Clone, Copy, Debug, PartialEq, Eq)]
+pub enum Mode {
+    Searching,
+    Tracking(Tracking),
+}
+
+/// The last taken block, kept for a repeat.
+#[derive(Clone, Debug, PartialEq, Eq)]
+pub(crate) struct LastBlock {
+    pub(crate) number: u16,
+    pub(crate) samples: Vec<i16>,
+    pub(crate) output: Vec<i16>,
+    pub(crate) counts: Counts,
+}
+
+#[derive(Clone, Copy, Debug, PartialEq)]
+pub enum Meter {
+    Searching,
+    /// With the found lag.
+    Locking(f32),
+    Pitched(Figures),
+    /// The record is out of range.
+    Refused,
+}
+
+#[derive(Clone, Copy, Debug, PartialEq)]
+pub struct Figures {
+    pub period: f32,
+    pub wanted_period: f32,
+    pub rate: f32,
+}
+
+#[derive(Clone, Debug, PartialEq, Eq)]
+pub struct Tuner {
+    pub(crate) settings: Settings,
+    pub(crate) limit: usize,
+    pub(crate) take: History,
+    pub(crate) eighths: History,
+    pub(crate) mode: Mode,
+    pub(crate) rate: i64,
+    pub(crate) position: i64,
+    pub(crate) last: Option<LastBlock>,
+}
+
+impl Tuner {
+    /// A tuner started with the default settings.
+    pub fn default_start() -> Tuner {
+        Tuner::fresh(Settings::DEFAULT, TAKE_LIMIT)
+    }
+
+    /// A tuner started with these settings, or the default one beside 8.
+    pub fn start(settings: Settings) -> (Answer, Tuner) {
+        Tuner::start_with_limit(settings, TAKE_LIMIT)
+    }
+
+    /// The same with another limit of the take, so that it can be reached.
+    pub fn start_with_limit(settings: Settings, limit: usize) -> (Answer, Tuner) {
+        if settings.in_range() {
+            (Answer::Taken, Tuner::fresh(settings, limit))
+        } else {
+            let tuner = Tuner::fresh(Settings::DEFAULT, limit);
+            (Answer::SettingOutOfRange, tuner)
+        }
+    }
+
+    fn fresh(settings: Settings, limit: usize) -> Tuner {
+        Tuner {
+            settings,
+            limit,
+            take: History::fresh(),
+            eighths: History::fresh(),
+            mode: Mode::Searching,
+            rate: LEVEL_RATE,
+            position: 0,
+            last: None,
+        }
+    }
+
+    /// New settings count from the next sample.
+    pub fn change(&mut self, settings: Settings) -> Answer {
+        if !self.is_good() {
+            return Answer::RecordOutOfRange;
+        }
+        if !settings.in_range() {
+            return Answer::SettingOutOfRange;
+        }
+        self.settings = settings;
+        Answer::Taken
+    }
+
+    /// Settings kept, everything else fresh.
+    pub fn reset(&mut self) -> Answer {
+        if !self.is_good() {
+            return Answer::RecordOutOfRange;
+        }
+        *self = Tuner::fresh(self.settings, self.limit);
+        Answer::Taken
+    }
+
+    /// Takes a block. Samples past its length in the output are not touched.
+    pub fn block(
+        &mut self,
+        number: u16,
+        samples: &[i16],
+        output: &mut [i16],
+        seen: &mut Statistics,
+    ) -> (Answer, Counts) {
+        let answer = self.answer_to(number, samples, output.len());
+        let counts = match answer {
+            Answer::Taken => self.tune(number, samples, output, seen),
+            Answer::GivenAgain => self.give_again(output),
+            _ => Counts::default(),
+        };
+        (answer, counts)
+    }
+
+    /// Order: 9, 2, 3, 4, then 5 or 6 or the repeat, then 7.
+    fn answer_to(&self, number: u16, samples: &[i16], room: usize) -> Answer {
+        if !self.is_good() {
+            return Answer::RecordOutOfRange;
+        }
+        if samples.is_empty() {
+            return Answer::BlockEmpty;
+        }
+        if samples.len() > LONGEST_BLOCK {
+            return Answer::BlockTooLong;
+        }
+        if room < samples.len() {
+            return Answer::OutputTooShort;
+        }
+        match &self.last {
+            Some(last) if last.number == number && last.samples == samples => {
+                return Answer::GivenAgain
+            }
+            Some(last) if last.number == number => return Answer::LastNumberOtherSamples,
+            _ if number != self.next_number() => return Answer::NumberNeitherNextNorLast,
+            _ => {}
+        }
+        if self.take.count() + samples.len() > self.limit {
+            return Answer::TakeFull;
+        }
+        Answer::Taken
+    }
+
+    /// The first block of a take is 0 and 65535 is followed by 0.
+    fn next_number(&self) -> u16 {
+        match &self.last {
+            Some(last) => last.number.wrapping_add(1),
+            None => 0,
+        }
+    }
+
+    fn tune(
+        &mut self,
+        number: u16,
+        samples: &[i16],
+        output: &mut [i16],
+        seen: &mut Statistics,
+    ) -> Counts {
+        let mut counts = Counts::default();
+        for (&sample, out) in samples.iter().zip(output.iter_mut()) {
+            let (read, cycle) = self.sample(sample, seen);
+            *out = read;
+            counts.written += 1;
+            counts.repeated += usize::from(cycle == Cycle::Repeated);
+            counts.dropped += usize::from(cycle == Cycle::Dropped);
+        }
+        self.last = Some(LastBlock {
+            number,
+            samples: samples.to_vec(),
+            output: output[..samples.len()].to_vec(),
+            counts,
+        });
+        counts
+    }
+
+    /// The same counts and the same output; the tuner is unchanged.
+    fn give_again(&self, output: &mut [i16]) -> Counts {
+        let last = self.last.as_ref().expect("a repeat has a last block");
+        for (out, &kept) in output.iter_mut().zip(&last.output) {
+            *out = kept;
+        }
+        last.counts
+    }
+
+    /// One sample: stored, searched or tracked with, and one read.
+    fn sample(&mut self, sample: i16, seen: &mut Statistics) -> (i16, Cycle) {
+        self.take.store(sample);
+        let n = self.take.count();
+        let eighth_made = n.is_multiple_of(8);
+        if eighth_made {
+            self.eighths.store(eighth_rate_sample(&self.take));
+        }
+        match self.mode {
+            Mode::Searching if eighth_made => self.search(seen),
+            Mode::Tracking(tracking) if n.is_multiple_of(5) => self.track(tracking, seen),
+            _ => {}
+        }
+        let input = input_position(n);
+        let grown = self.position + self.rate;
+        let (position, cycle) = turn(grown, input, self.period());
+        self.position = position;
+        seen.reading(cycle, position, input);
+        (read(&self.take, position), cycle)
+    }
+
+    fn search(&mut self, seen: &mut Statistics) {
+        let lows = lows(&self.eighths, &self.settings);
+        let finding = find(&self.take, &lows);
+        seen.search(&lows, finding);
+        if let Some(found) = finding.lag() {
+            self.mode = Mode::Tracking(Tracking {
+                lowest: lowest_around(found),
+                last_best: found,
+                pitch: None,
+            });
+        }
+    }
+
+    fn track(&mut self, tracking: Tracking, seen: &mut Statistics) {
+        let Tracking {
+            lowest, last_best, ..
+        } = tracking;
+        match track(&self.take, lowest, last_best, &self.settings) {
+            Err(loss) => {
+                seen.loss(loss);
+                self.mode = Mode::Searching;
+                self.rate = LEVEL_RATE;
+            }
+            Ok(step) => {
+                let Settings { scale, decay, .. } = self.settings;
+                seen.step(&step, scale);
+                let period = step.period();
+                let wanted_note = wanted_note(scale, period);
+                let raw = raw_rate(period, period_of(wanted_note));
+                self.rate = smoothed_rate(decay, self.rate, raw);
+                self.mode = Mode::Tracking(Tracking {
+                    lowest: step.next_lowest(),
+                    last_best: step.best,
+                    pitch: Some(Pitch {
+                        period,
+                        wanted_note,
+                    }),
+                });
+            }
+        }
+    }
+
+    fn pitch(&self) -> Option<Pitch> {
+        match self.mode {
+            Mode::Searching => None,
+            Mode::Tracking(tracking) => tracking.pitch,
+        }
+    }
+
+    fn period(&self) -> Option<i64> {
+        self.pitch().map(|pitch| pitch.period)
+    }
+
+    pub fn meter(&self) -> Meter {
+        if !self.is_good() {
+            return Meter::Refused;
+        }
+        match self.mode {
+            Mode::Searching => Meter::Searching,
+            Mode::Tracking(tracking) => match tracking.pitch {
+                None => Meter::Locking(tracking.last_best as f32),
+                Some(pitch) => Meter::Pitched(Figures {
+                    period: pitch.period as f32 / 256.0,
+                    wanted_period: period_of(pitch.wanted_note) as f32 / 256.0,
+                    rate: self.rate as f32 / 65_536.0,
+                }),
+            },
+        }
+    }
+
+    /// Whether every number of the record is in its range. Samples before the
+    /// take are 0 by the making of a history, and no sum is kept.
+    pub fn is_good(&self) -> bool {
+        let count = self.take.count();
+        let behind = input_position(count) - self.position;
+        let last_good = self
+            .last
+            .as_ref()
+            .is_none_or(|last| last.samples.len() <= LONGEST_BLOCK.min(count));
+        let lags_good = match self.mode {
+            Mode::Searching => true,
+            Mode::Tracking(tracking) => {
+                let Tracking {
+                    lowest, last_best, ..
+                } = tracking;
+                (LOWEST_LAG..=HIGHEST_LAG + 1 - TRACKED).contains(&lowest)
+                    && (lowest..lowest + TRACKED).contains(&last_best)
+            }
+        };
+        let pitch_good = match self.pitch() {
+            None => self.rate == LEVEL_RATE,
+            Some(pitch) => {
+                (4_096..=225_280).contains(&pitch.period)
+                    && (LOWEST_NOTE..=HIGHEST_NOTE).contains(&pitch.wanted_note)
+                    && (32_768..=131_072).contains(&self.rate)
+            }
+        };
+        self.settings.in_range()
+            && count <= self.limit
+            && self.eighths.count() == count / 8
+            && last_good
+            && lags_good
+            && (0..=FARTHEST_BEHIND).contains(&behind)
+            && pitch_good
+    }
+}

@@ -1,0 +1,124 @@
+//! Every branch of document 01 is reached by the scripts of some kind.
+
+use independent::generator::kinds::{kind_named, KINDS};
+use independent::generator::script::script;
+use independent::lines::{answers_to, Program};
+use independent::statistics::Statistics;
+use std::collections::{HashMap, HashSet};
+
+/// Samples in each script.
+const SAMPLES: usize = 200_000;
+
+/// Each counter, and the kind and seed whose script reaches it.
+const REACHED: &[(&str, &str, u64)] = &[
+    ("searches_without_low", "noise", 1),
+    ("searches_without_second_low", "noise", 1),
+    ("finds_by_long_low", "pulses", 1),
+    ("finds_by_first_low", "noise", 1),
+    ("finds_by_second_low", "ones", 1),
+    ("finds_tied", "cycles", 1),
+    ("lows_level_with_next", "squares", 1),
+    ("losses_by_eps", "noise", 1),
+    ("losses_by_floor", "tails", 2),
+    ("losses_by_jump", "pulses", 1),
+    ("steps", "tones", 1),
+    ("bests_tied", "squares", 1),
+    ("bests_first_of_eight", "hollow", 2),
+    ("bests_last_of_eight", "steps", 1),
+    ("vertices", "vibrato", 1),
+    ("vertices_at_exact_half", "soft", 2),
+    ("offsets_of_minus_128", "pulses", 1),
+    ("offsets_of_plus_128", "pulses", 1),
+    ("periods_of_4096", "glides", 1),
+    ("periods_of_225280", "glides", 1),
+    ("moves_down", "glides", 1),
+    ("moves_up", "glides", 1),
+    ("moves_stopped_at_16", "glides", 1),
+    ("moves_stopped_at_880", "glides", 1),
+    ("notes_tied", "mixed", 2),
+    ("cycles_repeated", "settings", 2),
+    ("cycles_dropped", "shifted", 1),
+    ("reads_before_take", "rough", 1),
+    ("answer_0", "ones", 1),
+    ("answer_1", "rough", 1),
+    ("answer_2", "rough", 1),
+    ("answer_3", "rough", 1),
+    ("answer_5", "rough", 1),
+    ("answer_6", "rough", 1),
+    ("answer_8", "rough", 1),
+    ("answer_10", "unreadable", 1),
+];
+
+/// No script reaches these: the line program always has room for 512 samples
+/// out (4), its limit needs 1,000,000,000 samples (7), and no tuner reached
+/// from a start by calls is out of range (9). The calls' own tests reach them.
+const NEVER: [&str; 3] = ["answer_4", "answer_7", "answer_9"];
+
+fn statistics(kind: &str, seed: u64) -> Statistics {
+    let script = script(kind_named(kind).unwrap(), seed, SAMPLES);
+    answers_to(&script).1
+}
+
+#[test]
+fn every_branch_is_reached() {
+    let mut runs: HashMap<(&str, u64), Statistics> = HashMap::new();
+    let mut all = Statistics::default();
+    for &(_, kind, seed) in REACHED {
+        runs.entry((kind, seed)).or_insert_with(|| {
+            let seen = statistics(kind, seed);
+            all.add(&seen);
+            seen
+        });
+    }
+    let in_table: HashMap<&str, (&str, u64)> = REACHED
+        .iter()
+        .map(|&(name, kind, seed)| (name, (kind, seed)))
+        .collect();
+    for (name, total) in all.counters() {
+        let Some(&(kind, seed)) = in_table.get(name.as_str()) else {
+            assert!(NEVER.contains(&name.as_str()), "{name} is in no table");
+            assert_eq!(total, 0, "{name}");
+            continue;
+        };
+        let counters = runs[&(kind, seed)].counters();
+        let (_, count) = counters.iter().find(|counter| counter.0 == name).unwrap();
+        assert!(*count > 0, "{name} by {kind} {seed}");
+    }
+    assert_eq!(in_table.len() + NEVER.len(), all.counters().len());
+    let kinds: HashSet<&str> = REACHED.iter().map(|row| row.1).collect();
+    assert_eq!(kinds.len(), KINDS.len(), "every kind is of use");
+    // Reading comes near to 1,000 samples behind and never farther.
+    assert!((65_000_000..=65_536_000).contains(&all.largest_behind));
+}
+
+#[test]
+fn block_numbers_wrap() {
+    let script = script(kind_named("ones").unwrap(), 1, 70_000);
+    let text = String::from_utf8(script).unwrap();
+    let (answers, seen) = answers_to(text.as_bytes());
+    let answers = String::from_utf8(answers).unwrap();
+    let taken = |number: &str| {
+        let lines = text.lines().zip(answers.lines());
+        lines
+            .filter(|(line, answer)| line.starts_with(number) && answer.starts_with("0\t1\t"))
+            .count()
+    };
+    assert_eq!(taken("block\t65535\t"), 1);
+    assert_eq!(taken("block\t0\t"), 2);
+    assert_eq!(taken("block\t1\t"), 2);
+    assert_eq!(seen.answers[5], 0);
+}
+
+/// No tuner reached from a start by calls is ever answered 9.
+#[test]
+fn reached_tuners_are_good() {
+    for (kind, seed) in [("mixed", 3), ("rough", 3), ("glides", 3), ("settings", 3)] {
+        let script = script(kind_named(kind).unwrap(), seed, 50_000);
+        let mut program = Program::default();
+        let mut answers = Vec::new();
+        for line in script.split_inclusive(|&byte| byte == b'\n') {
+            program.read(line, &mut answers);
+            assert!(program.tuner().is_good());
+        }
+    }
+}
