@@ -72,6 +72,10 @@ counters! {
     moves_stopped_at_16,
     moves_stopped_at_880,
     notes_tied,
+    /// The read position just level with the input, while there is a period.
+    positions_level,
+    /// The read position just 1,000 samples behind, likewise.
+    positions_1000_behind,
     cycles_repeated,
     cycles_dropped,
     /// Reads whose earlier neighbour stands before the take.
@@ -126,14 +130,19 @@ impl Statistics {
         self.notes_tied += u64::from(nearest.count() > 1);
     }
 
-    pub fn reading(&mut self, cycle: Cycle, position: i64, input: i64) {
+    pub fn reading(&mut self, cycle: Cycle, position: i64, input: i64, period: Option<i64>) {
+        let behind = input - position;
+        if period.is_some() {
+            self.positions_level += u64::from(behind == 0);
+            self.positions_1000_behind += u64::from(behind == FARTHEST_BEHIND);
+        }
         match cycle {
             Cycle::Kept => {}
             Cycle::Repeated => self.cycles_repeated += 1,
             Cycle::Dropped => self.cycles_dropped += 1,
         }
         self.reads_before_take += u64::from(read_index(position) < 0);
-        self.largest_behind = self.largest_behind.max(input - position);
+        self.largest_behind = self.largest_behind.max(behind);
     }
 }
 

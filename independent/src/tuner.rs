@@ -255,9 +255,10 @@ impl Tuner {
         }
         let input = input_position(n);
         let grown = self.position + self.rate;
-        let (position, cycle) = turn(grown, input, self.period());
+        let period = self.period();
+        let (position, cycle) = turn(grown, input, period);
         self.position = position;
-        seen.reading(cycle, position, input);
+        seen.reading(cycle, position, input, period);
         (read(&self.take, position), cycle)
     }
 

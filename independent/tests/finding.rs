@@ -33,6 +33,22 @@ fn lows_lie_from_3_to_109() {
     assert_eq!(low_lags(2)[..2], [4, 6]);
 }
 
+/// Both tests use the eighth-rate lag and energy, unscaled.
+#[test]
+fn lows_pass_eps_and_floor() {
+    let eighths = History::of(&cycling(40, 500));
+    let floor = |floor| Settings { floor, ..WILLING };
+    let energy = energy(&eighths, 40);
+    assert_eq!((energy / 80, energy % 80), (3_337, 40));
+    assert_eq!(lows(&eighths, &floor(3_337)).len(), 2);
+    assert!(lows(&eighths, &floor(3_338)).is_empty());
+    let exact = Settings { eps: 0, ..WILLING };
+    assert_eq!(lows(&eighths, &exact).len(), 2);
+    let mut samples = cycling(40, 500);
+    samples[499] += 1;
+    assert!(lows(&History::of(&samples), &exact).is_empty());
+}
+
 /// Pulses of 20 and 22 samples fit equally well at lags 40, 41 and 42.
 #[test]
 fn the_first_of_a_level_row_is_the_low() {

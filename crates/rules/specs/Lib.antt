@@ -1,4 +1,5 @@
 pub mod Rules
+pub mod Ranges
 pub mod Hearing
 pub mod Energies
 pub mod Distance

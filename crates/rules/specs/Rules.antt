@@ -9,6 +9,7 @@ use lib.IntN.{ℤ, pos, natAbs, _+ℤ_, _-ℤ_, _*ℤ_}
 use lib.ListN.{getD}
 use lib.Signed.{ltZ}
 use Rattle.rules.specs.declared.Settings.{Settings}
+use Rattle.whole.specs.Tests.{allb}
 use Rattle.whole.specs.Sums.{sum, total}
 use Rattle.whole.specs.Floor.{floorDiv, nearestDiv}
 
@@ -18,10 +19,14 @@ use Rattle.whole.specs.Floor.{floorDiv, nearestDiv}
 unfoldable pub defaults : Settings
 defaults = record { scale = 4095; eps = 100; decay = 0; floor = 100 }
 
--- each setting in its range; scale 0 is out of it
+-- the range of each setting; scale 0 is out of it
+abbrev pub rangeTests : Settings → List Bool
+rangeTests s =
+    leb 1 (s .scale) ∷ leb (s .scale) 4095 ∷ leb (s .eps) 409 ∷ leb (s .decay) 255 ∷ leb 1 (s .floor) ∷ leb (s .floor) 1000000 ∷ []
+
+-- all settings in their ranges
 unfoldable pub inRange : Settings → Bool
-inRange s =
-    leb 1 (s .scale) && leb (s .scale) 4095 && leb (s .eps) 409 && leb (s .decay) 255 && leb 1 (s .floor) && leb (s .floor) 1000000
+inRange s = allb (rangeTests s)
 
 -- ---- Energies and correlations
 

@@ -1,7 +1,10 @@
 -- What a test that was made says, and the parts of a test that held.
 use mathlib.Core.Path.{_≡_, refl, subst, sym, _∙_}
 use mathlib.Core.Bool.{Bool, true, false, not, cond, _&&_}
+use mathlib.Core.List.{List, [], _∷_}
+use Prim.Native.Nat.{ℕ, zero, suc}
 use lib.Dec.{T}
+use lib.ListN.{getD}
 
 -- by how a test came out
 pub by : {P : Type 0} (b : Bool) → (b ≡ true → P) → (b ≡ false → P) → P
@@ -36,6 +39,17 @@ T-true {b = false} t = absurd t
 
 pub true-T : {b : Bool} → b ≡ true → T b
 true-T e = subst T (sym e) tt
+
+-- several tests at once
+abbrev pub allb : List Bool → Bool
+allb [] = true
+allb (b ∷ bs) = b && allb bs
+
+-- each of several tests that held
+pub each-of : (bs : List Bool) → allb bs ≡ true → (i : ℕ) → getD bs i true ≡ true
+each-of [] e i = refl
+each-of (b ∷ bs) e zero = and-left b (allb bs) e
+each-of (b ∷ bs) e (suc i) = each-of bs (and-right b (allb bs) e) i
 
 -- a test decides a statement
 pub record Decides (b : Bool) (P : Type 0) : Type 0 where

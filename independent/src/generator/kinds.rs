@@ -20,6 +20,8 @@ pub struct Kind {
     pub lengths: (usize, usize),
     /// So many times in a thousand a block is followed by settings to take.
     pub changes: usize,
+    /// So many times in a thousand by a reset.
+    pub resets: usize,
     /// So many times in a thousand by something that is not the next block.
     pub trouble: usize,
     /// So many times in a thousand by a line that cannot be read.
@@ -34,6 +36,7 @@ const fn kind(name: &'static str, meaning: &'static str, singing: Singing) -> Ki
         settings: None,
         lengths: (1, 512),
         changes: 20,
+        resets: 0,
         trouble: 0,
         unreadable: 0,
     }
@@ -59,6 +62,22 @@ pub const KINDS: &[Kind] = &[
         settings: Some("512\t409\t0\t1"),
         changes: 0,
         ..kind("shifted", "tones drawn to one note, far off", vibrato)
+    },
+    Kind {
+        settings: Some("4095\t409\t0\t1"),
+        ..kind("halves", "cycles whose offset is an exact half", halves)
+    },
+    Kind {
+        settings: Some("4095\t409\t255\t1"),
+        changes: 0,
+        resets: 30,
+        ..kind("level", "reading level with the input", level)
+    },
+    Kind {
+        settings: Some("1024\t409\t0\t1"),
+        changes: 0,
+        resets: 30,
+        ..kind("brink", "reading just 1,000 samples behind", brink)
     },
     Kind {
         changes: 400,
@@ -239,9 +258,12 @@ fn pulses(random: &mut Random, _: usize) -> Passage {
 
 fn soft(random: &mut Random, _: usize) -> Passage {
     let length = random.whole(3_000, 12_000);
-    Passage::of(voice(random, 1.0), random.real(24.0, 860.0), length)
-        .loud(random.real(1.0, 60.0))
-        .swinging(random.real(0.0, 0.01), 5_000.0)
+    let loudest = random.one_of(&[4.0, 20.0, 50.0, 100.0]);
+    let longest = random.one_of(&[200.0, 860.0]);
+    let period = random.real(24.0, longest);
+    Passage::of(voice(random, 1.0), period, length)
+        .loud(random.real(0.3, 1.0) * loudest)
+        .swinging(random.real(0.0, 0.02), 5_000.0)
 }
 
 fn cycles(random: &mut Random, _: usize) -> Passage {
@@ -257,4 +279,40 @@ fn cycles(random: &mut Random, _: usize) -> Passage {
     });
     let wave = Wave::Drawn(values.collect());
     Passage::of(wave, 100.0, length).loud(random.one_of(&[30_000.0, 3_000.0, 20.0]))
+}
+
+/// A cycle that is full up or full down, of so many samples, so many of them
+/// unlike the one before, by chance.
+///
+/// No single pair of samples weighs much in D, so the tracked period is the
+/// cycle, hardly moved.
+fn tossed(random: &mut Random, cycle: usize, turns: usize) -> Passage {
+    let (mut height, mut left) = (1.0, turns);
+    let values = (0..cycle).map(|at| {
+        if random.whole(1, cycle - at) <= left {
+            (height, left) = (-height, left - 1);
+        }
+        height
+    });
+    let wave = Wave::Drawn(values.collect());
+    Passage::of(wave, 100.0, 40 * cycle).loud(10_000.0)
+}
+
+/// Where both ends of the cycle turn, D1 and D3 are 255 and 257 turns, and
+/// the offset is -1/2.
+fn halves(random: &mut Random, _: usize) -> Passage {
+    let cycle = random.whole(440, 870);
+    tossed(random, cycle, 256)
+}
+
+/// A little flat: at decay 255 the rate stays at 65536, rounded down.
+fn level(random: &mut Random, _: usize) -> Passage {
+    let cycle = random.one_of(&[451, 478, 507, 537, 568, 602, 638, 676, 716, 758, 803, 851]);
+    tossed(random, cycle, 300)
+}
+
+/// Drawn to note 34, it falls 12,800 units behind each sample, 1,000 samples
+/// in 5,120.
+fn brink(random: &mut Random, _: usize) -> Passage {
+    tossed(random, 609, 300)
 }

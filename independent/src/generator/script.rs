@@ -87,6 +87,9 @@ impl<W: Write> Script<'_, W> {
         if self.random.chance(self.kind.changes) {
             self.send_settings("change")?;
         }
+        if self.random.chance(self.kind.resets) {
+            self.reset()?;
+        }
         if self.random.chance(self.kind.trouble) {
             self.trouble()?;
         }
@@ -119,6 +122,11 @@ impl<W: Write> Script<'_, W> {
         self.last = Some((self.next, samples));
         self.next = self.next.wrapping_add(1);
         Ok(())
+    }
+
+    fn reset(&mut self) -> io::Result<()> {
+        self.new_take();
+        self.send_line(b"reset")
     }
 
     fn new_take(&mut self) {
@@ -177,15 +185,10 @@ impl<W: Write> Script<'_, W> {
             85..=89 => self.send_refused_settings("change"),
             90..=94 => self.send_refused_settings("start"),
             95..=96 => self.send_settings("start"),
-            97..=98 => {
-                self.send_line(b"reset")?;
-                self.new_take();
-                Ok(())
-            }
+            97..=98 => self.reset(),
             _ => {
                 // The old samples as a first block are no repeat.
-                self.send_line(b"reset")?;
-                self.new_take();
+                self.reset()?;
                 self.send_as_next(samples)
             }
         }
