@@ -12,7 +12,7 @@ const SAMPLES: usize = 200_000;
 /// Each counter, and the kind and seed whose script reaches it.
 const REACHED: &[(&str, &str, u64)] = &[
     ("searches_without_low", "cycles", 1),
-    ("searches_without_second_low", "noise", 1),
+    ("searches_without_second_low", "brim", 1),
     ("finds_by_long_low", "pulses", 1),
     ("finds_by_first_low", "noise", 1),
     ("finds_by_second_low", "ones", 1),

@@ -1,4 +1,5 @@
 pub mod Tests
+pub mod Lists
 pub mod RingLaws
 pub mod Ring
 pub mod Bounds

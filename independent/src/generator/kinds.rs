@@ -80,6 +80,11 @@ pub const KINDS: &[Kind] = &[
         ..kind("brink", "reading just 1,000 samples behind", brink)
     },
     Kind {
+        settings: Some("4095\t100\t0\t100"),
+        changes: 0,
+        ..kind("brim", "squares that just meet the floor", brim)
+    },
+    Kind {
         changes: 400,
         lengths: (1, 200),
         ..kind("settings", "tones under many changes of settings", vibrato)
@@ -312,7 +317,16 @@ fn level(random: &mut Random, _: usize) -> Passage {
 }
 
 /// Drawn to note 34, it falls 12,800 units behind each sample, 1,000 samples
-/// in 5,120.
+/// in 5,120. The breath tells a cycle from the next one.
 fn brink(random: &mut Random, _: usize) -> Passage {
-    tossed(random, 609, 300)
+    tossed(random, 609, 300).breathy(3.0)
+}
+
+/// The mean square is 100 at each lag of either rate: the passages keep in
+/// step with the eighth-rate samples.
+fn brim(random: &mut Random, _: usize) -> Passage {
+    let half = 8 * random.whole(2, 50);
+    let values = [vec![1.0; half], vec![-1.0; half]].concat();
+    let length = random.whole(10, 20) * 2 * half;
+    Passage::of(Wave::Drawn(values), 100.0, length).loud(10.0)
 }
