@@ -9,4 +9,5 @@ pub mod Every
 pub mod Table
 pub mod Notes
 pub mod Position
+pub mod Blocks
 pub mod Worked

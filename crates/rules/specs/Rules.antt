@@ -376,15 +376,18 @@ unfoldable pub gives : Settings → Take → List ℤ → List Given
 gives s t [] = []
 gives s t (new ∷ more) = stepped s t new .given ∷ gives s (stepped s t new .next) more
 
--- the samples out, and the periods of all cycles repeated and dropped
+-- the samples out
 unfoldable pub samplesOut : List Given → List ℤ
 samplesOut [] = []
 samplesOut (g ∷ gs) = g .out ∷ samplesOut gs
 
-unfoldable pub allRepeated : List Given → List ℕ
-allRepeated [] = []
-allRepeated (g ∷ gs) = g .repeated ++ allRepeated gs
+-- the periods of all cycles repeated, and of all dropped
+unfoldable pub joined : (Given → List ℕ) → List Given → List ℕ
+joined part [] = []
+joined part (g ∷ gs) = part g ++ joined part gs
 
-unfoldable pub allDropped : List Given → List ℕ
-allDropped [] = []
-allDropped (g ∷ gs) = g .dropped ++ allDropped gs
+abbrev pub allRepeated : List Given → List ℕ
+allRepeated gs = joined (λ (g : Given). g .repeated) gs
+
+abbrev pub allDropped : List Given → List ℕ
+allDropped gs = joined (λ (g : Given). g .dropped) gs

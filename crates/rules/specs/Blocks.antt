@@ -1,0 +1,66 @@
+-- A block is the fold of one sample's step: so how samples are cut into blocks does not matter.
+use mathlib.Core.Path.{_≡_, refl, sym, ap, _∙_}
+use mathlib.Core.List.{List, [], _∷_, _++_, append-assoc}
+use Prim.Native.Nat.{ℕ, zero, suc, _+_}
+use native.Mathlib.Nat.{suc-add, add-suc, add-zero}
+use lib.IntN.{ℤ}
+use lib.ListN.{length, length-append}
+use Rattle.rules.specs.declared.Settings.{Settings}
+use Rattle.rules.specs.Rules.{Take, Given, heardAll, stepped, after, gives, samplesOut, joined}
+
+-- ---- samples, and more samples after them
+module _ (s : Settings) where
+  pub after-append : (t : Take) (xs ys : List ℤ) → after s t (xs ++ ys) ≡ after s (after s t xs) ys
+  unfolding after
+  after-append t [] ys = refl
+  after-append t (x ∷ xs) ys = after-append (stepped s t x .next) xs ys
+
+  pub gives-append : (t : Take) (xs ys : List ℤ) → gives s t (xs ++ ys) ≡ gives s t xs ++ gives s (after s t xs) ys
+  unfolding after gives
+  gives-append t [] ys = refl
+  gives-append t (x ∷ xs) ys = ap (λ (gs : List Given). stepped s t x .given ∷ gs) (gives-append (stepped s t x .next) xs ys)
+
+  -- one sample more
+  pub after-more : (t : Take) (xs : List ℤ) (x : ℤ) → after s t (xs ++ (x ∷ [])) ≡ stepped s (after s t xs) x .next
+  unfolding after
+  after-more t xs x = after-append t xs (x ∷ [])
+
+  pub gives-more : (t : Take) (xs : List ℤ) (x : ℤ) → gives s t (xs ++ (x ∷ [])) ≡ gives s t xs ++ (stepped s (after s t xs) x .given ∷ [])
+  unfolding gives
+  gives-more t xs x = gives-append t xs (x ∷ [])
+
+  -- the count grows by each sample, and each is heard
+  pub after-count : (t : Take) (xs : List ℤ) → after s t xs .count ≡ t .count + length xs
+  unfolding after stepped
+  after-count t [] = sym (add-zero (t .count))
+  after-count t (x ∷ xs) = after-count (stepped s t x .next) xs ∙ suc-add (t .count) (length xs) ∙ sym (add-suc (t .count) (length xs))
+
+  pub after-sound : (t : Take) (xs : List ℤ) → after s t xs .sound ≡ heardAll (t .sound) xs
+  unfolding after stepped heardAll
+  after-sound t [] = refl
+  after-sound t (x ∷ xs) = after-sound (stepped s t x .next) xs
+
+  -- a sample out for each sample in
+  pub gives-length : (t : Take) (xs : List ℤ) → length (samplesOut (gives s t xs)) ≡ length xs
+  unfolding gives samplesOut
+  gives-length t [] = refl
+  gives-length t (x ∷ xs) = ap suc (gives-length (stepped s t x .next) xs)
+
+-- ---- what is given, and more after it
+pub samplesOut-append : (gs hs : List Given) → samplesOut (gs ++ hs) ≡ samplesOut gs ++ samplesOut hs
+unfolding samplesOut
+samplesOut-append [] hs = refl
+samplesOut-append (g ∷ gs) hs = ap (λ (xs : List ℤ). g .out ∷ xs) (samplesOut-append gs hs)
+
+pub joined-append : (part : Given → List ℕ) (gs hs : List Given) → joined part (gs ++ hs) ≡ joined part gs ++ joined part hs
+unfolding joined
+joined-append part [] hs = refl
+joined-append part (g ∷ gs) hs =
+    ap (λ (ps : List ℕ). part g ++ ps) (joined-append part gs hs) ∙ sym (append-assoc (part g) (joined part gs) (joined part hs))
+
+-- how many after one sample more
+pub joined-more : (part : Given → List ℕ) (gs : List Given) (g : Given) → length (joined part (gs ++ (g ∷ []))) ≡ length (joined part gs) + length (part g)
+unfolding joined
+joined-more part gs g =
+    ap length (joined-append part gs (g ∷ [])) ∙ length-append (joined part gs) (part g ++ [])
+    ∙ ap (λ (n : ℕ). length (joined part gs) + n) (length-append (part g) [] ∙ add-zero (length (part g)))
