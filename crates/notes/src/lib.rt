@@ -92,7 +92,7 @@ pub struct Tone {
     pub rate: u32,
 }
 
-fn note_period(note: u32) -> u32
+pub fn note_period(note: u32) -> u32
     requires { ⌜ (32 ≤ note) × (note ≤ 100) ⌝ }
     ensures { λ r. ⌜ r ≡ notePeriod note ⌝ }
 {

@@ -1,7 +1,7 @@
 -- Sweeps over the lags: one lag at a time, and all of them at the end; and that what is kept is small.
 use mathlib.Core.Path.{_≡_, refl, ap, _∙_}
 use mathlib.Core.List.{List}
-use Prim.Native.Nat.{ℕ, suc, _+_, _*_, _^_, _≤_, _<_}
+use Prim.Native.Nat.{ℕ, _+_, _^_, _≤_, _<_}
 use native.Mathlib.Nat.{le-refl}
 use native.Mathlib.Omega.{arith}
 use borrow.Author.Count.{below-more}
@@ -11,7 +11,7 @@ use lib.Seq.{getD-set-same, getD-set-other}
 use mir.Syntax.{w16, w64}
 use mir.Val.{SFits, toZ, ofZ}
 use Rattle.whole.specs.Words.{Bits, num}
-use Rattle.rules.specs.Rules.{Sound}
+use Rattle.rules.specs.Rules.{Sound, E, H}
 use Rattle.rules.specs.Energies.{E-within, H-within}
 use Rattle.ages.specs.Ages.{at}
 use Rattle.sums.specs.Kept.{RightAt, Right, Room}
@@ -81,13 +81,13 @@ pub sweep-end : {x : Sound} {low : ℕ} {e₀ : List ℕ} {h₀ : List ℤ} {i :
 sweep-end r same l = right-all (r .energies) (r .correlations ∙ same) (λ j k. r .done j (omega arith))
 
 -- the sums of 16-bit samples are small
-module _ {x : Sound} (fits : (k : ℕ) → SFits w16 (x k)) {lag e : ℕ} {h : ℤ} (upto : lag ≤ 881) (r : RightAt x lag e h) where
-  pub energy-small : e ≤ 2 ^ 41
-  energy-small = omega (arith, r .energy, E-within x fits lag)
+module _ {x : Sound} (fits : (k : ℕ) → SFits w16 (x k)) {lag : ℕ} (upto : lag ≤ 881) where
+  pub energy-small : {e : ℕ} → e ≡ E x lag → e ≤ 2 ^ 41
+  energy-small p = omega (arith, E-within x fits lag)
 
-  pub correlation-held : Bits w64 (2 ^ 40) (ofZ w64 h) h
-  correlation-held = num (omega (arith, ap natAbs (r .correlation), H-within x fits lag .within)) tt
+  pub correlation-held : {h : ℤ} → h ≡ H x lag → Bits w64 (2 ^ 40) (ofZ w64 h) h
+  correlation-held p = num (omega (arith, ap natAbs p, H-within x fits lag .within)) tt
 
   -- as a signed local holds them
-  pub stored : RightAt x lag e (toZ w64 (ofZ w64 h))
-  stored = record { energy = r .energy; correlation = correlation-held .reads ∙ r .correlation }
+  pub stored : {e : ℕ} {h : ℤ} → RightAt x lag e h → RightAt x lag e (toZ w64 (ofZ w64 h))
+  stored r = record { energy = r .energy; correlation = correlation-held (r .correlation) .reads ∙ r .correlation }

@@ -1,13 +1,14 @@
 // Energies and correlations: the update by one more sample, and the direct sums.
 
 ghost use mathlib.Core.Path.{_≡_};
-ghost use Prim.Native.Nat.{ℕ, _+_, _*_, _^_, _≤_};
+ghost use Prim.Native.Nat.{_+_, _*_, _^_, _≤_};
 ghost use lib.IntN.{natAbs, _+ℤ_, _-ℤ_, _*ℤ_};
 ghost use lib.ListN.{length};
 ghost use Rattle.whole.specs.Tests.{Decides};
 ghost use Rattle.rules.specs.Rules.{older, sq, E};
 ghost use Rattle.rules.specs.Rules as rules;
 ghost use Rattle.ages.specs.Ages.{ago};
+ghost use Rattle.sums.specs.Direct.{highOf, lowOf};
 ghost use Rattle.sums.specs.Kept.{squares, RightAt, Right, Room};
 
 pub struct Sums {
@@ -15,21 +16,36 @@ pub struct Sums {
     pub h: i64,
 }
 
-// A sample's square.
+// A sample's square. It fits 32 bits: a product of 64 bits would not vectorise.
 fn square(x: i16) -> u64
     ensures { λ r. ⌜ (r ≡ sq x) × (r ≤ 2 ^ 30) ⌝ }
 {
-    let a = x as i64;
+    let a = x as i32;
     (a * a) as u64
 }
 
 // A product of samples.
-fn product(x: i16, y: i16) -> i64
+fn product(x: i16, y: i16) -> i32
     ensures { λ r. ⌜ (r ≡ x *ℤ y) × (natAbs r ≤ 2 ^ 30) ⌝ }
 {
-    let a = x as i64;
-    let b = y as i64;
+    let a = x as i32;
+    let b = y as i32;
     a * b
+}
+
+// A product in two parts, high x 65536 + low, which are summed apart in 32 bits: that vectorises, and a sum of 64 bits does not.
+fn high_part(p: i32) -> i32
+    requires { ⌜ natAbs p ≤ 2 ^ 30 ⌝ }
+    ensures { λ r. ⌜ (r ≡ highOf p) × (natAbs r ≤ 16385) ⌝ }
+{
+    p >> 16
+}
+
+fn low_part(p: i32) -> i32
+    requires { ⌜ natAbs p ≤ 2 ^ 30 ⌝ }
+    ensures { λ r. ⌜ (r ≡ lowOf p) × (natAbs r ≤ 65536) ⌝ }
+{
+    p - high_part(p) * 65536
 }
 
 // A correlation, with x y more and y z less: one product.
@@ -97,13 +113,18 @@ fn correlation(s: &[i16], m: usize, lag: usize) -> i64
 {
     let from = m - 2 * lag;
     let to = m - lag;
-    let mut sum: i64 = 0;
+    let mut highs: i32 = 0;
+    let mut lows: i32 = 0;
     let mut i: usize = 0;
     while i < lag {
-        sum += product(s[to + i], s[from + i]);
+        let p = product(s[to + i], s[from + i]);
+        highs += high_part(p);
+        lows += low_part(p);
         i += 1;
     }
-    sum
+    let a = highs as i64;
+    let b = lows as i64;
+    a * 65536 + b
 }
 
 // E and H at one lag from the samples themselves.
@@ -151,10 +172,13 @@ pub fn all_right(e: &[u64], h: &[i64], low: usize, s: &[i16], m: usize) -> bool
     let mut sum = energy(s, m, 2 * low);
     let mut i: usize = 0;
     while i < n {
-        if e[i] != sum {
+        let a = e[i];
+        if a != sum {
             return false;
         }
-        if h[i] != correlation(s, m, low + i) {
+        let b = h[i];
+        let c = correlation(s, m, low + i);
+        if b != c {
             return false;
         }
         sum = one_lag_more(s, m, low + i, sum);

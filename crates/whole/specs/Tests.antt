@@ -2,8 +2,10 @@
 use mathlib.Core.Path.{_≡_, refl, subst, sym, _∙_}
 use mathlib.Core.Bool.{Bool, true, false, not, cond, _&&_}
 use mathlib.Core.List.{List, [], _∷_}
-use Prim.Native.Nat.{ℕ, zero, suc}
-use lib.Dec.{T}
+use Prim.Native.Nat.{ℕ, zero, suc, _≤_}
+use native.Mathlib.Omega.{arith}
+use borrow.Author.Tests.{not-true, not-false, leb-true, leb-false, eqb-true, eqb-false}
+use lib.Dec.{T, leb, eqb}
 use lib.ListN.{getD}
 
 -- by how a test came out
@@ -55,3 +57,29 @@ each-of (b ∷ bs) e (suc i) = each-of bs (and-right b (allb bs) e) i
 pub record Decides (b : Bool) (P : Type 0) : Type 0 where
   pub yes : b ≡ true → P
   pub no : b ≡ false → P → ⊥
+
+-- the answer no, and the answer yes
+pub refused : {P : Type 0} → (P → ⊥) → Decides false P
+refused f = record { yes = λ e. absurd (yes-and-no e refl); no = λ e. f }
+
+pub granted : {P : Type 0} → P → Decides true P
+granted p = record { yes = λ e. p; no = λ e. absurd (yes-and-no refl e) }
+
+-- comparisons
+pub decides-le : (a b : ℕ) → Decides (leb a b) (a ≤ b)
+decides-le a b = record { yes = leb-true a b; no = λ e p. let q = leb-false a b e in omega arith }
+
+pub decides-eq : (a b : ℕ) → Decides (eqb a b) (a ≡ b)
+decides-eq a b = record { yes = eqb-true a b; no = eqb-false a b }
+
+module _ {b : Bool} {P : Type 0} (d : Decides b P) where
+  -- after a test `!b`: where it failed, and where it held
+  pub passed : not b ≡ false → P
+  passed e = d .yes (not-false b e)
+
+  pub failed : not b ≡ true → P → ⊥
+  failed e = d .no (not-true b e)
+
+  -- it decides what is the same
+  pub decides-as : {Q : Type 0} → (P → Q) → (Q → P) → Decides b Q
+  decides-as f g = record { yes = λ e. f (d .yes e); no = λ e q. d .no e (g q) }

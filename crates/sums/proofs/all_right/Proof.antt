@@ -1,29 +1,21 @@
 -- `sums::all_right` meets its contract: the lags passed are right, and a lag that is not right answers no; E is carried on by two squares.
 -- Assumes nothing.
-use mathlib.Core.Path.{_≡_, refl, sym, ap, _∙_, subst}
-use Prim.Native.Nat.{ℕ, _+_, _*_, _-_, _≤_, _<_}
+use mathlib.Core.Path.{_≡_, refl, sym, ap, _∙_}
+use mathlib.Core.Bool.{false}
+use Prim.Native.Nat.{ℕ, _+_, _-_, _≤_, _<_}
 use native.Mathlib.Omega.{arith}
-use borrow.Author.Needs.{needs, sfits-of}
-use lib.IntN.{ℤ, pos}
-use lib.ListN.{length, getD}
-use mir.Syntax.{w16, w64}
+use borrow.Author.Count.{below-more}
+use borrow.Author.Needs.{sfits-of}
+use mir.Syntax.{w64}
 use mir.Val.{toZ, ofZ}
 use mir.Facts.{toZ-ofZ}
-use mathlib.Core.Bool.{false}
-use borrow.Author.Count.{below-more}
-use Rattle.whole.specs.Tests.{Decides, yes-and-no}
-use Rattle.rules.specs.Rules.{E, H, older}
-use Rattle.ages.specs.Ages.{at, ago, ago-fits}
-use Rattle.sums.specs.Kept.{RightAt, Right, Room}
+use Rattle.whole.specs.Tests.{yes-and-no, refused}
+use Rattle.rules.specs.Rules.{E}
+use Rattle.ages.specs.Ages.{at, ago}
 use Rattle.sums.specs.Direct.{E-squares}
-use Rattle.sums.specs.Sweep.{room-at, RightIn, right-each, right-all, Sweep, sweep-start, sweep, sweep-end, correlation-held}
+use Rattle.sums.specs.Sweep.{room-at, RightIn, right-all}
 use Rattle.sums.proofs.all_right.Statement.{statement}
 use Rattle.sums.proofs.all_right.Tie as tie
-use Rattle.sums.proofs.all_right.Reads as reads
-use Rattle.sums.proofs.all_right.Lts as lts
-use Rattle.sums.proofs.correlation.Reads as correlation-reads
-use Rattle.sums.proofs.energy.Reads as energy-reads
-use Rattle.sums.proofs.one_lag_more.Reads as one-lag-more-reads
 
 abbrev Inv-loop : tie.InvT-loop
 Inv-loop e h low s m n sum₀ i₀ sum i = (i ≤ n) × (sum ≡ E (ago s m) (low + i)) × ((j : ℕ) → j < i → RightIn (ago s m) low e h j)
@@ -43,24 +35,22 @@ loop-holds c =
     let x = ago (a .s .now) (a .m) in
     (omega arith, c .energy .ensures ∙ E-squares x (a .low) ∙ ap (E x) (omega arith), λ j l. absurd (omega arith))
 
-mul-if1 : tie.Need-mul-if1 Inv-loop μ-loop
-mul-if1 c = omega arith
+mul-a : tie.Need-mul-a Inv-loop μ-loop
+mul-a c = omega arith
 
-shared-slice-read-if1 : tie.Need-shared-slice-read-if1 Inv-loop μ-loop
-shared-slice-read-if1 c = omega arith
+shared-slice-read-a : tie.Need-shared-slice-read-a Inv-loop μ-loop
+shared-slice-read-a c = omega arith
 
-refused : {P : Type 0} → (P → ⊥) → Decides false P
-refused f = record { yes = λ e. absurd (yes-and-no e refl); no = λ e. f }
-
+-- an early no
 returns : tie.Need-returns Inv-loop μ-loop
 returns c =
     let l = c .before .before .before .loop in refused (λ r. c .if1 .taken (r .energy (l .i) (omega arith) ∙ sym (l .inv .1)))
 
-mul-if2 : tie.Need-mul-if2 Inv-loop μ-loop
-mul-if2 c = omega arith
+mul-b : tie.Need-mul-b Inv-loop μ-loop
+mul-b c = omega arith
 
-shared-slice-copy-out-if2 : tie.Need-shared-slice-copy-out-if2 Inv-loop μ-loop
-shared-slice-copy-out-if2 c = omega arith
+shared-slice-copy-out-b : tie.Need-shared-slice-copy-out-b Inv-loop μ-loop
+shared-slice-copy-out-b c = omega arith
 
 add-correlation : tie.Need-add-correlation Inv-loop μ-loop
 add-correlation c = omega arith
@@ -99,7 +89,7 @@ loop-again c =
           (record {
             energy = c .before .before .before .before .if1 .left ∙ l .inv .1;
             correlation =
-                sym (toZ-ofZ {w = w64} {z = z} (sfits-of (c .before .before .before .if22 .given)))
+                sym (toZ-ofZ {w = w64} {z = z} (sfits-of (c .before .before .before .b .given)))
                 ∙ ap (toZ w64) (c .before .if2 .left)
                 ∙ toZ-ofZ {w = w64} {z = r .result} (sfits-of (r .ok))
                 ∙ r .ensures;
@@ -122,11 +112,11 @@ all-right-spec =
     mul-energy
     energy-requires
     loop-holds
-    mul-if1
-    shared-slice-read-if1
+    mul-a
+    shared-slice-read-a
     returns
-    mul-if2
-    shared-slice-copy-out-if2
+    mul-b
+    shared-slice-copy-out-b
     add-correlation
     correlation-requires
     returns-2

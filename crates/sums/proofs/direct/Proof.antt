@@ -1,6 +1,6 @@
 -- `sums::direct` meets its contract: E is the sum of squares of twice the lag, and both sums are ensured.
 -- Assumes nothing.
-use mathlib.Core.Path.{_≡_, _∙_}
+use mathlib.Core.Path.{_∙_}
 use borrow.Author.Needs.{needs, sfits-of}
 use mir.Syntax.{w64}
 use mir.Facts.{toZ-ofZ}

@@ -1,26 +1,14 @@
 -- `sums::direct_all` meets its contract: a sweep over the lags, with E carried on from lag to lag by two squares.
 -- Assumes nothing.
-use mathlib.Core.Path.{_≡_, refl, sym, ap, _∙_, subst}
-use Prim.Native.Nat.{ℕ, _+_, _*_, _-_, _≤_, _<_}
+use mathlib.Core.Path.{_≡_, ap, _∙_}
+use Prim.Native.Nat.{_+_, _-_, _≤_}
 use native.Mathlib.Omega.{arith}
-use borrow.Author.Needs.{needs, sfits-of}
-use lib.IntN.{ℤ, pos}
-use lib.ListN.{length, getD}
-use mir.Syntax.{w16, w64}
-use mir.Val.{toZ, ofZ}
-use mir.Facts.{toZ-ofZ}
-use Rattle.rules.specs.Rules.{E, H, older}
-use Rattle.ages.specs.Ages.{at, ago, ago-fits}
-use Rattle.sums.specs.Kept.{RightAt, Right, Room}
+use Rattle.rules.specs.Rules.{E}
+use Rattle.ages.specs.Ages.{ago, ago-fits}
 use Rattle.sums.specs.Direct.{E-squares}
-use Rattle.sums.specs.Sweep.{room-at, RightIn, right-each, right-all, Sweep, sweep-start, sweep, sweep-end, stored}
+use Rattle.sums.specs.Sweep.{room-at, Sweep, sweep-start, sweep, sweep-end, stored}
 use Rattle.sums.proofs.direct_all.Statement.{statement}
 use Rattle.sums.proofs.direct_all.Tie as tie
-use Rattle.sums.proofs.direct_all.Reads as reads
-use Rattle.sums.proofs.direct_all.Lts as lts
-use Rattle.sums.proofs.correlation.Reads as correlation-reads
-use Rattle.sums.proofs.energy.Reads as energy-reads
-use Rattle.sums.proofs.one_lag_more.Reads as one-lag-more-reads
 
 abbrev Inv-loop : tie.InvT-loop
 Inv-loop e₀ h₀ low s m n sum₀ i₀ e h sum i = (i ≤ n) × (sum ≡ E (ago s m) (low + i)) × Sweep (ago s m) low e₀ h₀ i e h

@@ -12,12 +12,9 @@ use Rattle.ages.specs.Ages.{at}
 use Rattle.sums.specs.Direct.{oldest-squares}
 use Rattle.sums.proofs.energy.Statement.{statement}
 use Rattle.sums.proofs.energy.Tie as tie
-use Rattle.sums.proofs.energy.Reads as reads
-use Rattle.sums.proofs.energy.Lts as lts
-use Rattle.sums.proofs.square.Reads as square-reads
 
 abbrev Inv-loop : tie.InvT-loop
-Inv-loop s m count from sum₀ i₀ sum i = (i ≤ count) × (sum ≡ total (λ (k : ℕ). sq (at s (from + k))) i) × (sum ≤ 2 ^ 30 * i)
+Inv-loop s m count from sum₀ i₀ sum i = (sum ≡ total (λ (k : ℕ). sq (at s (from + k))) i) × (sum ≤ 2 ^ 30 * i) × (i ≤ count)
 
 abbrev μ-loop : tie.MeasureT-loop
 μ-loop s m count from sum₀ i₀ sum i = count - i
@@ -26,7 +23,7 @@ sub-from : tie.Need-sub-from Inv-loop μ-loop
 sub-from c = omega arith
 
 loop-holds : tie.Need-loop-holds Inv-loop μ-loop
-loop-holds c = (omega arith, sym (fold-zero adds _), omega arith)
+loop-holds c = (sym (fold-zero adds _), omega arith, omega arith)
 
 add-square : tie.Need-add-square Inv-loop μ-loop
 add-square c = omega arith
@@ -55,16 +52,12 @@ loop-again c =
     let a = c .before .before .before .before .args in
     let e : c .square .result ≡ sq (at (a .s .now) (a .m - a .count + l .i)) =
     c .square .ensures .0 ∙ ap sq (toZ-ofZ {w = w16} {z = at (a .s .now) (a .m - a .count + l .i)} (sfits-of (c .before .square-arg .given)))
-    in (
-      omega arith,
-      (λ j. l .inv .1 j + e j) ∙ sym (fold-step adds (λ (k : ℕ). sq (at (a .s .now) (a .m - a .count + k))) (l .i)),
-      omega arith,
-    )
+    in ((λ j. l .inv .0 j + e j) ∙ sym (fold-step adds (λ (k : ℕ). sq (at (a .s .now) (a .m - a .count + k))) (l .i)), omega arith, omega arith)
 
 returns : tie.Need-returns Inv-loop μ-loop
 returns c =
     let a = c .before .before .args in
-    c .before .loop .inv .1
+    c .before .loop .inv .0
     ∙ ap (total (λ (k : ℕ). sq (at (a .s .now) (a .m - a .count + k)))) (omega arith)
     ∙ oldest-squares (a .s .now) (a .m) (a .count) (omega arith) (omega arith)
 

@@ -1,25 +1,20 @@
 -- `sums::next` meets its contract: the window moves on by one sample (`E-slides`, `H-next`), and the sums of 16-bit samples are small.
 -- Assumes nothing.
 use mathlib.Core.Path.{_≡_, sym, ap, _∙_}
-use Prim.Native.Nat.{ℕ, suc, _+_, _-_, _*_, _^_, _≤_}
+use Prim.Native.Nat.{suc, _+_, _*_, _^_, _≤_}
 use native.Mathlib.Omega.{arith}
-use lib.IntN.{ℤ, natAbs, _+ℤ_, _-ℤ_, _*ℤ_}
+use borrow.Author.Needs.{needs, sfits-of}
+use lib.IntN.{_+ℤ_, _-ℤ_, _*ℤ_}
 use mir.Syntax.{w16, w64}
 use mir.Val.{toZ, ofZ}
 use mir.Facts.{toZ-ofZ}
 use Rattle.whole.specs.Words.{Bits}
-use Rattle.rules.specs.Rules.{Sound, sq, E, H}
+use Rattle.rules.specs.Rules.{sq, E}
 use Rattle.rules.specs.Energies.{nextH, E-slides, H-next}
 use Rattle.ages.specs.Ages.{ago, ago-fits}
 use Rattle.sums.specs.Sweep.{energy-small, correlation-held}
-use borrow.Author.Needs.{needs, sfits-of}
 use Rattle.sums.proofs.next.Statement.{statement}
 use Rattle.sums.proofs.next.Tie as tie
-use Rattle.sums.proofs.next.Reads as reads
-use Rattle.sums.proofs.next.Lts as lts
-use Rattle.ages.proofs.back.Reads as back-reads
-use Rattle.sums.proofs.square.Reads as square-reads
-use Rattle.sums.proofs.turned.Reads as turned-reads
 
 back-requires : tie.Need-back-requires
 back-requires c κs = search needs
@@ -42,10 +37,10 @@ oldest c = toZ-ofZ {w = w16} {z = c .back2 .result} (sfits-of (c .back2 .ok)) �
 
 -- the sums before them
 small : (c : tie.Start) → c .args .t .e ≤ 2 ^ 41
-small c = energy-small (λ k. ago-fits (c .pre .0 .samples) (c .args .m) (suc k)) (omega arith) (c .pre .2)
+small c = energy-small (λ k. ago-fits (c .pre .0 .samples) (c .args .m) (suc k)) (omega arith) (c .pre .2 .energy)
 
 held : (c : tie.Start) → Bits w64 (2 ^ 40) (ofZ w64 (c .args .t .h)) (c .args .t .h)
-held c = correlation-held (λ k. ago-fits (c .pre .0 .samples) (c .args .m) (suc k)) (omega arith) (c .pre .2)
+held c = correlation-held (λ k. ago-fits (c .pre .0 .samples) (c .args .m) (suc k)) (omega arith) (c .pre .2 .correlation)
 
 square-requires : tie.Need-square-requires
 square-requires c κs = search needs

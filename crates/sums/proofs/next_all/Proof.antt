@@ -1,25 +1,15 @@
 -- `sums::next_all` meets its contract: a sweep over the lags, each by `next` from what was kept there at entry.
 -- Assumes nothing.
-use mathlib.Core.Path.{_≡_, refl, sym, ap, _∙_, subst}
-use Prim.Native.Nat.{ℕ, suc, _+_, _*_, _-_, _≤_, _<_}
+use mathlib.Core.Path.{_∙_}
+use Prim.Native.Nat.{suc, _-_, _≤_}
 use native.Mathlib.Omega.{arith}
-use borrow.Author.Needs.{needs, sfits-of}
-use lib.IntN.{ℤ, pos}
-use lib.ListN.{length, getD}
-use mir.Syntax.{w16, w64}
-use mir.Val.{toZ, ofZ}
+use borrow.Author.Needs.{sfits-of}
+use mir.Syntax.{w16}
 use mir.Facts.{toZ-ofZ}
-use Rattle.rules.specs.Rules.{E, H, older}
-use Rattle.ages.specs.Ages.{at, ago, ago-fits}
-use Rattle.sums.specs.Kept.{RightAt, Right, Room}
-use Rattle.sums.specs.Direct.{E-squares}
-use Rattle.sums.specs.Sweep.{room-at, RightIn, right-each, right-all, Sweep, sweep-start, sweep, sweep-end, correlation-held, sweep-left, stored}
+use Rattle.ages.specs.Ages.{ago, ago-fits}
+use Rattle.sums.specs.Sweep.{room-at, right-each, Sweep, sweep-start, sweep, sweep-end, sweep-left, stored}
 use Rattle.sums.proofs.next_all.Statement.{statement}
 use Rattle.sums.proofs.next_all.Tie as tie
-use Rattle.sums.proofs.next_all.Reads as reads
-use Rattle.sums.proofs.next_all.Lts as lts
-use Rattle.ages.proofs.back.Reads as back-reads
-use Rattle.sums.proofs.next.Reads as next-reads
 
 abbrev Inv-loop : tie.InvT-loop
 Inv-loop e₀ h₀ low s m x n i₀ e h i = (i ≤ n) × Sweep (ago s m) low e₀ h₀ i e h

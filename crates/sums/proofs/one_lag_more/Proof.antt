@@ -1,21 +1,17 @@
--- `sums::one_lag_more` meets its contract: lags L and L + 1 differ by two squares (`E-shift`), and E of 16-bit samples is small (`E-within`).
+-- `sums::one_lag_more` meets its contract: lags L and L + 1 differ by two squares (`E-shift`), and E of 16-bit samples is small (`energy-small`).
 -- Assumes nothing.
 use mathlib.Core.Path.{_≡_, ap, _∙_}
-use Prim.Native.Nat.{ℕ, _+_, _*_, _^_, _≤_}
+use Prim.Native.Nat.{_+_, _*_, _^_, _≤_}
 use native.Mathlib.Omega.{arith}
 use borrow.Author.Needs.{needs, sfits-of}
-use lib.IntN.{ℤ}
 use mir.Syntax.{w16}
 use mir.Facts.{toZ-ofZ}
-use Rattle.rules.specs.Rules.{sq, E}
-use Rattle.rules.specs.Energies.{E-shift, E-within}
+use Rattle.rules.specs.Rules.{sq}
+use Rattle.rules.specs.Energies.{E-shift}
 use Rattle.ages.specs.Ages.{ago, ago-fits}
+use Rattle.sums.specs.Sweep.{energy-small}
 use Rattle.sums.proofs.one_lag_more.Statement.{statement}
 use Rattle.sums.proofs.one_lag_more.Tie as tie
-use Rattle.sums.proofs.one_lag_more.Reads as reads
-use Rattle.sums.proofs.one_lag_more.Lts as lts
-use Rattle.ages.proofs.back.Reads as back-reads
-use Rattle.sums.proofs.square.Reads as square-reads
 
 mul-back : tie.Need-mul-back
 mul-back c = search needs
@@ -37,7 +33,7 @@ square-requires c κs = search needs
 
 -- E is small
 small : (c : tie.Start) → c .args .e ≤ 2 ^ 41
-small c = omega (arith, c .pre .1, E-within (ago (c .args .s .now) (c .args .m)) (ago-fits (c .pre .0 .samples) (c .args .m)) (c .args .lag))
+small c = energy-small (ago-fits (c .pre .0 .samples) (c .args .m)) (omega arith) (c .pre .1)
 
 add-result : tie.Need-add-result
 add-result c = omega (arith, small (c .before .before .before))

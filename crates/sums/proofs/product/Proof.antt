@@ -1,10 +1,9 @@
--- `sums::product` meets its contract: the product of 16-bit numbers is at most 2^30 in size, which fits 64 bits.
+-- `sums::product` meets its contract: the product of 16-bit numbers is at most 2^30 in size, which fits 32 bits.
 -- Assumes nothing.
-use mathlib.Core.Path.{_≡_, ap}
-use Prim.Native.Nat.{_^_}
+use mathlib.Core.Path.{ap}
 use native.Mathlib.Omega.{arith}
-use lib.IntN.{natAbs, _*ℤ_}
-use mir.Syntax.{w64}
+use lib.IntN.{natAbs}
+use mir.Syntax.{w32}
 use Rattle.whole.specs.Words.{arg, cast, cast-ok, mul, mul-ok}
 use Rattle.sums.proofs.product.Statement.{statement}
 use Rattle.sums.proofs.product.Tie as tie
@@ -20,7 +19,7 @@ mul-result c = mul-ok (cast (arg (c .fits .x)) tt) (cast (arg (c .fits .y)) tt) 
 
 returns : tie.Need-returns
 returns c =
-    let p = mul {w = w64} (cast (arg (c .fits .x)) tt) (cast (arg (c .fits .y)) tt) tt in
+    let p = mul {w = w32} (cast (arg (c .fits .x)) tt) (cast (arg (c .fits .y)) tt) tt in
     (p .reads, omega (arith, ap natAbs (p .reads), p .size .within))
 
 pub product-spec : {M : Type 1} → statement M

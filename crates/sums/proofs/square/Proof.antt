@@ -1,21 +1,20 @@
--- `sums::square` meets its contract: the product of 16-bit numbers fits 64 bits, and a square is not negative (`square-pos`).
+-- `sums::square` meets its contract: the product of 16-bit numbers fits 32 bits, and a square is not negative (`square-pos`).
 -- Assumes nothing.
-use mathlib.Core.Path.{_≡_, sym, ap, _∙_}
-use Prim.Native.Nat.{_*_, _^_, _≤_}
+use mathlib.Core.Path.{ap}
+use Prim.Native.Nat.{_^_}
 use native.Mathlib.Omega.{arith}
-use lib.IntN.{ℤ, pos, natAbs, _*ℤ_}
-use mir.Syntax.{w16, w64}
+use lib.IntN.{natAbs, _*ℤ_}
+use mir.Syntax.{w16, w32}
 use mir.Val.{toZ, ofZ}
 use Rattle.whole.specs.Bounds.{square-pos}
 use Rattle.whole.specs.Words.{Bits, arg, cast, cast-ok, mul, mul-ok}
-use Rattle.rules.specs.Rules.{sq}
 use Rattle.sums.proofs.square.Statement.{statement}
 use Rattle.sums.proofs.square.Tie as tie
 
-sample : (c : tie.Start) → Bits w64 (2 ^ 15) (ofZ w64 (toZ w16 (ofZ w16 (c .args .x)))) (c .args .x)
+sample : (c : tie.Start) → Bits w32 (2 ^ 15) (ofZ w32 (toZ w16 (ofZ w16 (c .args .x)))) (c .args .x)
 sample c = cast (arg (c .fits .x)) tt
 
-squared : (c : tie.Start) → Bits w64 (2 ^ 30) (ofZ w64 (toZ w64 (ofZ w64 (toZ w16 (ofZ w16 (c .args .x)))) *ℤ toZ w64 (ofZ w64 (toZ w16 (ofZ w16 (c .args .x)))))) (c .args .x *ℤ c .args .x)
+squared : (c : tie.Start) → Bits w32 (2 ^ 30) (ofZ w32 (toZ w32 (ofZ w32 (toZ w16 (ofZ w16 (c .args .x)))) *ℤ toZ w32 (ofZ w32 (toZ w16 (ofZ w16 (c .args .x)))))) (c .args .x *ℤ c .args .x)
 squared c = mul (sample c) (sample c) tt
 
 cast-a : tie.Need-cast-a

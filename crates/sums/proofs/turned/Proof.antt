@@ -1,13 +1,13 @@
 -- `sums::turned` meets its contract: y (x - z) is x y - y z, and each step's size is below 2^63.
 -- Assumes nothing.
-use mathlib.Core.Path.{_≡_, refl, _∙_}
+use mathlib.Core.Path.{refl, _∙_}
 use mathlib.Core.List.{[], _∷_}
-use Prim.Native.Nat.{ℕ, _+_, _*_, _^_}
-use lib.IntN.{ℤ, _+ℤ_, _-ℤ_, _*ℤ_}
+use Prim.Native.Nat.{ℕ, _^_}
+use lib.IntN.{ℤ}
 use mir.Syntax.{w16, w64}
 use mir.Val.{SFits, toZ, ofZ}
 use Rattle.whole.specs.Words.{Bits, arg, arg≤, cast, cast-ok, add, add-ok, sub, sub-ok, mul, mul-ok}
-use Rattle.whole.specs.Ring.{Expr, var, _⊕_, _⊖_, _⊗_, solve}
+use Rattle.whole.specs.Ring.{var, _⊕_, _⊖_, _⊗_, solve}
 use Rattle.sums.proofs.turned.Statement.{statement}
 use Rattle.sums.proofs.turned.Tie as tie
 

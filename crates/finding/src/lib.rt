@@ -1,0 +1,138 @@
+// Finding a period.
+
+use rules::Settings;
+ghost use mathlib.Core.Path.{_≡_};
+ghost use mathlib.Core.Option.{some};
+ghost use Prim.Native.Nat.{ℕ, _^_, _≤_, _<_};
+ghost use lib.ListN.{length};
+ghost use Rattle.rules.specs.Rules.{Sound, E, D, passes, isLow, choice, foundBy, found};
+ghost use Rattle.ages.specs.Ages.{ago};
+ghost use Rattle.sums.specs.Kept.{RightAt, Right, Room, Kept};
+ghost use Rattle.finding.specs.Finding.{lagOf, Modest, Long, One, Distances, Measured, Small, LowAbove};
+
+pub enum Found {
+    At(usize),
+    Nothing,
+}
+
+// D from E and H.
+pub fn distance(e: u64, h: i64) -> u64
+    requires { ⌜ One e h ⌝ }
+    ensures { λ r. ⌜ ((x : Sound) (L : ℕ) → RightAt x L e h → r ≡ D x L) ⌝ }
+{
+    let a = e as i64;
+    (a - 2 * h) as u64
+}
+
+// D at each lag.
+pub fn distances(d: &mut [u64], e: &[u64], h: &[i64])
+    requires { ⌜ Kept (length (now d)) (now e) (now h) ⌝ }
+    ensures { λ r. ⌜ ((x : Sound) (low : ℕ) → Right x low (length (now (d .entry))) (now (e .entry)) (now (h .entry)) → Distances x low (length (now (d .entry))) (now (d .exit))) ⌝ }
+{
+    let n = d.len();
+    let mut i: usize = 0;
+    while i < n {
+        let a = e[i];
+        let b = h[i];
+        d[i] = distance(a, b);
+        i += 1;
+    }
+}
+
+// A lag passes.
+pub fn passing(g: Settings, d: u64, e: u64, lag: usize) -> bool
+    requires { ⌜ Modest g × (d ≤ 2 ^ 42) × (e ≤ 2 ^ 42) × (lag ≤ 880) ⌝ }
+    ensures { λ r. ⌜ ((x : Sound) → d ≡ D x lag → e ≡ E x lag → r ≡ passes g x lag) ⌝ }
+{
+    let p = g.eps as u64;
+    let f = g.floor as u64;
+    let l = lag as u64;
+    if 1024 * d <= p * e {
+        f * (2 * l) <= e
+    } else {
+        false
+    }
+}
+
+// A low at the lag l; the places 0 to 108 are the lags 2 to 110.
+fn low_at(d: &[u64; 109], e: &[u64; 109], g: Settings, l: usize) -> bool
+    requires { ⌜ (3 ≤ l) × (l ≤ 109) × Modest g × Small 109 (now d) × Small 109 (now e) ⌝ }
+    ensures { λ r. ⌜ ((y : Sound) → Measured y (now (d .entry)) (now (e .entry)) → r ≡ isLow g y l) ⌝ }
+{
+    let d1 = d[l - 3];
+    let d2 = d[l - 2];
+    let d3 = d[l - 1];
+    if d2 < d1 {
+        if d2 <= d3 {
+            let e2 = e[l - 2];
+            passing(g, d2, e2, l)
+        } else {
+            false
+        }
+    } else {
+        false
+    }
+}
+
+// The least low above a lag.
+fn low_above(d: &[u64; 109], e: &[u64; 109], g: Settings, above: usize) -> Found
+    requires { ⌜ (2 ≤ above) × (above ≤ 109) × Modest g × Small 109 (now d) × Small 109 (now e) ⌝ }
+    ensures { λ r. ⌜ LowAbove g (now (d .entry)) (now (e .entry)) above r ⌝ }
+{
+    let mut l = above + 1;
+    while l <= 109 {
+        if low_at(d, e, g, l) {
+            return Found::At(l);
+        }
+        l += 1;
+    }
+    Found::Nothing
+}
+
+// D at full rate, at one lag.
+fn full(s: &[i16], m: usize, lag: usize) -> u64
+    requires { ⌜ Room (now s) m lag 1 ⌝ }
+    ensures { λ r. ⌜ r ≡ D (ago (now (s .entry)) m) lag ⌝ }
+{
+    let t = sums::direct(s, m, lag);
+    distance(t.e, t.h)
+}
+
+// Of 8 x L1 and 8 x L2 the one with smaller full-rate D, the shorter on equality.
+fn choice(s: &[i16], m: usize, l1: usize, l2: usize) -> usize
+    requires { ⌜ Long (now s) m × (1 ≤ l1) × (l1 < l2) × (l2 ≤ 109) ⌝ }
+    ensures { λ r. ⌜ some r ≡ choice (ago (now (s .entry)) m) l1 (some l2) ⌝ }
+{
+    let a = full(s, m, 8 * l1);
+    let b = full(s, m, 8 * l2);
+    if b < a { 8 * l2 } else { 8 * l1 }
+}
+
+// The lag found, by the least low L1.
+fn found_by(d: &[u64; 109], e: &[u64; 109], g: Settings, s: &[i16], m: usize, l1: usize) -> Found
+    requires { ⌜ (2 ≤ l1) × (l1 ≤ 109) × Modest g × Small 109 (now d) × Small 109 (now e) × Long (now s) m ⌝ }
+    ensures { λ r. ⌜ ((y : Sound) → Measured y (now (d .entry)) (now (e .entry)) → lagOf r ≡ foundBy g (ago (now (s .entry)) m) y (some l1)) ⌝ }
+{
+    if 55 <= l1 {
+        return Found::At(8 * l1);
+    }
+    let second = low_above(d, e, g, l1);
+    match second {
+        Found::Nothing => Found::Nothing,
+        Found::At(l2) => Found::At(choice(s, m, l1, l2)),
+    }
+}
+
+// The lag found, from the eighth-rate sums and the first m samples of a store.
+pub fn find(e: &[u64; 109], h: &[i64; 109], g: Settings, s: &[i16], m: usize) -> Found
+    requires { ⌜ Kept 109 (now e) (now h) × Modest g × Long (now s) m ⌝ }
+    ensures { λ r. ⌜ ((y : Sound) → Right y 2 109 (now (e .entry)) (now (h .entry)) → lagOf r ≡ found g (ago (now (s .entry)) m) y) ⌝ }
+{
+    let mut d = [0u64; 109];
+    distances(&mut d, e, h);
+    let first = low_above(&d, e, g, 2);
+    match first {
+        Found::Nothing => Found::Nothing,
+        Found::At(l1) => found_by(&d, e, g, s, m, l1),
+    }
+}

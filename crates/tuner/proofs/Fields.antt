@@ -1,0 +1,41 @@
+-- What a tuner's type says of its arrays: their lengths, and that each sample fits 16 bits. A proof of a function whose first parameter is the tuner t cites `stores (c .args .t) _ (c .good .0)`, with c its `Start`; a second parameter's is `c .good .1 .0`.
+-- Assumes nothing.
+use mathlib.Core.Path.{subst}
+use mathlib.Core.List.{List, [], _∷_, map, map-id}
+use Prim.Native.Nat.{ℕ, zero, suc}
+use borrow.Author.Needs.{length-unmapped}
+use lib.Dec.{lit<}
+use lib.IntN.{ℤ}
+use mir.Syntax.{w16}
+use mir.Val.{Val, SFits}
+use denote.Array.{each}
+use denote.Laws.{Is}
+use denote.Shadow.{shadow}
+use denote.Signed.{SInt}
+use Rattle.ages.specs.Ages.{at, Samples}
+use Rattle.tuner.specs.declared.Tuner.{Tuner}
+use Rattle.tuner.specs.Goods.{Stores}
+use Rattle.tuner.proofs.Tuner.{the-row}
+
+each-fits : (xs : List ℤ) (us : List Val) (i : ℕ) → shadow (each ℤ (SInt w16 .own) xs us) → SFits w16 (at xs i)
+each-fits [] us i p = record { sfits = lit< tt }
+each-fits (x ∷ xs) [] i p = absurd p
+each-fits (x ∷ xs) (u ∷ us) zero p = record { sfits = p .0 .1 }
+each-fits (x ∷ xs) (u ∷ us) (suc i) p = each-fits xs us i (p .1)
+
+field-samples : (xs : List ℤ) (us : List Val) → shadow (each ℤ (SInt w16 .own) (map (λ (v : ℤ). v) xs) us) → Samples xs
+field-samples xs us p =
+    record { each = λ i. each-fits xs us i (subst (λ (ys : List ℤ). shadow (each ℤ (SInt w16 .own) ys us)) (map-id xs) p) }
+
+pub stores : (t : Tuner) (vs : List Val) → Is the-row t vs → Stores t
+stores t vs p =
+    record {
+      store = search length-unmapped;
+      eighths = search length-unmapped;
+      energies = search length-unmapped;
+      correlations = search length-unmapped;
+      out = search length-unmapped;
+      storeFits = search field-samples;
+      eighthsFit = search field-samples;
+      outFits = search field-samples;
+    }

@@ -1,0 +1,4 @@
+pub mod Goods
+pub mod Meters
+pub mod Tuners
+pub mod Unrounded

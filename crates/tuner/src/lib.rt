@@ -1,0 +1,367 @@
+// The tuner that hosts use: start, change, take a block, reset, read the meter, cut a recording.
+pub use rules::Settings;
+use tracking::Tracker;
+use voice::Voice;
+ghost use mathlib.Core.Path.{_≡_};
+ghost use mathlib.Core.Bool.{true, false};
+ghost use Prim.Native.Nat.{ℕ, _-_, _*_, _^_, _≤_, _<_};
+ghost use lib.IntN.{pos};
+ghost use lib.ListN.{length, take, drop};
+ghost use Rattle.whole.specs.Tests.{Decides};
+ghost use Rattle.rules.specs.Rules.{inRange, defaults};
+ghost use Rattle.ages.specs.Ages.{at, Samples};
+ghost use Rattle.voice.specs.Voices.{Lags};
+ghost use Rattle.tuner.specs.Tuners.{soundOf, PitchRight, Good, blank, fresh, plain, Started};
+ghost use Rattle.tuner.specs.Goods.{EighthsRight, VoiceRight};
+ghost use Rattle.tuner.specs.Meters.{Exactly, Exact, shownOf, Readable, Metered};
+
+pub struct Tuner {
+    pub settings: Settings,
+    pub count: u32,
+    pub store: [i16; 1764],
+    pub eighths: [i16; 224],
+    pub energies: [u64; 109],
+    pub correlations: [i64; 109],
+    pub voice: Voice,
+    pub behind: u32,
+    pub number: u16,
+    pub length: u16,
+    pub repeated: u16,
+    pub dropped: u16,
+    pub out: [i16; 512],
+}
+
+// Document 01's number, and the samples written, cycles repeated and cycles dropped.
+pub struct Answer {
+    pub number: u32,
+    pub written: u16,
+    pub repeated: u16,
+    pub dropped: u16,
+}
+
+pub struct Taken {
+    pub tuner: Tuner,
+    pub answer: Answer,
+}
+
+// Period and wanted period in samples, and the rate as a ratio.
+pub struct Figures {
+    pub period: f32,
+    pub wanted: f32,
+    pub rate: f32,
+}
+
+// What a read of the meter shows; locking has the found lag in samples.
+pub enum Meter {
+    Searching,
+    Locking(f32),
+    Pitched(Figures),
+    Refused,
+}
+
+// A number from one to another.
+fn within(x: u32, from: u32, to: u32) -> bool
+    ensures { λ r. ⌜ Decides r ((from ≤ x) × (x ≤ to)) ⌝ }
+{
+    if x < from {
+        return false;
+    }
+    x <= to
+}
+
+// The settings' ranges.
+fn in_range(s: Settings) -> bool
+    ensures { λ r. ⌜ r ≡ inRange s ⌝ }
+{
+    if !within(s.scale, 1, 4095) {
+        return false;
+    }
+    if s.eps > 409 {
+        return false;
+    }
+    if s.decay > 255 {
+        return false;
+    }
+    within(s.floor, 1, 1000000)
+}
+
+// The count and the last block's length.
+fn counts_right(count: u32, length: u16) -> bool
+    ensures { λ r. ⌜ Decides r ((count ≤ 1000000000) × (length ≤ 512) × (length ≤ count)) ⌝ }
+{
+    if count > 1000000000 {
+        return false;
+    }
+    if length > 512 {
+        return false;
+    }
+    length as u32 <= count
+}
+
+// The first n samples of a store are 0.
+fn silent(s: &[i16], n: usize) -> bool
+    requires { ⌜ n ≤ length (now s) ⌝ }
+    ensures { λ r. ⌜ Decides r ((i : ℕ) → i < n → at (now (s .entry)) i ≡ pos 0) ⌝ }
+{
+    let mut i: usize = 0;
+    while i < n {
+        if s[i] != 0 {
+            return false;
+        }
+        i += 1;
+    }
+    true
+}
+
+// How many of `kept` samples are from before a take of so many.
+fn before(count: u32, kept: usize) -> usize
+    ensures { λ r. ⌜ r ≡ kept - count ⌝ }
+{
+    let n = count as usize;
+    if n < kept { kept - n } else { 0 }
+}
+
+// The eight lags while tracking.
+fn lags_right(t: Tracker, store: &[i16]) -> bool
+    requires { ⌜ (length (now store) ≡ 1764) × Samples (now store) ⌝ }
+    ensures { λ r. ⌜ Decides r (Lags (soundOf (now (store .entry))) t) ⌝ }
+{
+    if !within(t.low, 16, 873) {
+        return false;
+    }
+    if !within(t.last, t.low, t.low + 7) {
+        return false;
+    }
+    let e = t.e;
+    let h = t.h;
+    sums::all_right(&e, &h, t.low as usize, store, 1764)
+}
+
+// Either a period, a wanted note and a rate in their ranges, or no period and the rate 65536; searching, no period.
+fn pitch_right(v: Voice) -> bool
+    ensures { λ r. ⌜ Decides r (PitchRight v × (v .tracking ≡ false → v .period ≡ 0)) ⌝ }
+{
+    if v.period == 0 {
+        return v.rate == 65536;
+    }
+    if !v.tracking {
+        return false;
+    }
+    if !within(v.period, 4096, 225280) {
+        return false;
+    }
+    if !within(v.note, 32, 100) {
+        return false;
+    }
+    within(v.rate, 32768, 131072)
+}
+
+// What is kept at eighth rate: silence before the take, and the sums.
+fn eighths_right(count: u32, y: &[i16], e: &[u64], h: &[i64]) -> bool
+    requires { ⌜ (length (now y) ≡ 224) × Samples (now y) × (length (now e) ≡ 109) × (length (now h) ≡ 109) ⌝ }
+    ensures { λ r. ⌜ Decides r (EighthsRight count (now (y .entry)) (now (e .entry)) (now (h .entry))) ⌝ }
+{
+    if !silent(y, before(count / 8, 224)) {
+        return false;
+    }
+    sums::all_right(e, h, 2, y, 224)
+}
+
+// What is kept at full rate: silence before the take, the pitch and, while tracking, the eight lags.
+fn voice_right(count: u32, s: &[i16], v: Voice) -> bool
+    requires { ⌜ (length (now s) ≡ 1764) × Samples (now s) ⌝ }
+    ensures { λ r. ⌜ Decides r (VoiceRight count (now (s .entry)) v) ⌝ }
+{
+    if !silent(s, before(count, 1764)) {
+        return false;
+    }
+    if !pitch_right(v) {
+        return false;
+    }
+    if !v.tracking {
+        return true;
+    }
+    let k = v.tracker;
+    lags_right(k, s)
+}
+
+// A record is good.
+fn good(t: Tuner) -> bool
+    ensures { λ r. ⌜ Decides r (Good t) ⌝ }
+{
+    let g = t.settings;
+    if !in_range(g) {
+        return false;
+    }
+    if !counts_right(t.count, t.length) {
+        return false;
+    }
+    if t.behind > 65536000 {
+        return false;
+    }
+    let y = t.eighths;
+    let e = t.energies;
+    let h = t.correlations;
+    if !eighths_right(t.count, &y, &e, &h) {
+        return false;
+    }
+    let s = t.store;
+    let v = t.voice;
+    voice_right(t.count, &s, v)
+}
+
+fn default_settings() -> Settings
+    ensures { λ r. ⌜ r ≡ defaults ⌝ }
+{
+    Settings {
+        scale: 4095,
+        eps: 100,
+        decay: 0,
+        floor: 100,
+    }
+}
+
+fn blank() -> Tracker
+    ensures { λ r. ⌜ r ≡ blank ⌝ }
+{
+    let e = [0u64; 8];
+    let h = [0i64; 8];
+    Tracker {
+        low: 0,
+        last: 0,
+        e: e,
+        h: h,
+    }
+}
+
+fn fresh(s: Settings) -> Tuner
+    ensures { λ r. ⌜ r ≡ fresh s ⌝ }
+{
+    let store = [0i16; 1764];
+    let eighths = [0i16; 224];
+    let energies = [0u64; 109];
+    let correlations = [0i64; 109];
+    let voice = Voice {
+        tracking: false,
+        period: 0,
+        note: 0,
+        rate: 65536,
+        tracker: blank(),
+    };
+    let out = [0i16; 512];
+    Tuner {
+        settings: s,
+        count: 0,
+        store: store,
+        eighths: eighths,
+        energies: energies,
+        correlations: correlations,
+        voice: voice,
+        behind: 0,
+        number: 0,
+        length: 0,
+        repeated: 0,
+        dropped: 0,
+        out: out,
+    }
+}
+
+// The answer with this number and counts 0.
+fn plain(number: u32) -> Answer
+    ensures { λ r. ⌜ r ≡ plain number ⌝ }
+{
+    Answer {
+        number: number,
+        written: 0,
+        repeated: 0,
+        dropped: 0,
+    }
+}
+
+pub fn start_default() -> Tuner
+    ensures { λ r. ⌜ r ≡ fresh defaults ⌝ }
+{
+    fresh(default_settings())
+}
+
+// The fresh tuner with these settings, or the default tuner beside 8.
+pub fn start(s: Settings) -> Taken
+    ensures { λ r. ⌜ Started s (r .tuner) (r .answer) ⌝ }
+{
+    if in_range(s) {
+        return Taken {
+            tuner: fresh(s),
+            answer: plain(0),
+        };
+    }
+    let d = default_settings();
+    Taken {
+        tuner: fresh(d),
+        answer: plain(8),
+    }
+}
+
+// n / 256.
+fn figure(n: u32) -> f32
+    requires { ⌜ n < 2 ^ 24 ⌝ }
+    ensures { λ r. ⌜ Exactly n 256 r ⌝ }
+{
+    n as f32 / 256.0
+}
+
+// n / 65536.
+fn fine_figure(n: u32) -> f32
+    requires { ⌜ n < 2 ^ 24 ⌝ }
+    ensures { λ r. ⌜ Exactly n 65536 r ⌝ }
+{
+    n as f32 / 65536.0
+}
+
+fn lag_figure(lag: u32) -> f32
+    requires { ⌜ lag < 2 ^ 24 ⌝ }
+    ensures { λ r. ⌜ Exactly lag 1 r ⌝ }
+{
+    lag as f32
+}
+
+// What the meter shows of a good record's voice.
+fn shown(v: Voice) -> Meter
+    requires { ⌜ Readable v ⌝ }
+    ensures { λ r. ⌜ (r ≡ shownOf v) × Exact v r ⌝ }
+{
+    if !v.tracking {
+        return Meter::Searching;
+    }
+    if v.period == 0 {
+        return Meter::Locking(lag_figure(v.tracker.last));
+    }
+    let wanted = notes::note_period(v.note);
+    Meter::Pitched(Figures {
+        period: figure(v.period),
+        wanted: figure(wanted),
+        rate: fine_figure(v.rate),
+    })
+}
+
+impl Tuner {
+    // Refused where the record is not good.
+    pub fn meter(self) -> Meter
+        ensures { λ r. ⌜ Metered self r ⌝ }
+    {
+        if !good(self) {
+            return Meter::Refused;
+        }
+        let v = self.voice;
+        shown(v)
+    }
+}
+
+// The k-th stretch of 512 samples: the last may be shorter, and past the end there is nothing.
+pub fn cut<'a>(recording: &'a [i16], k: usize) -> &'a [i16]
+    ensures { λ r. ⌜ now r ≡ take 512 (drop (512 * k) (now (recording .entry))) ⌝ }
+{
+    let n = recording.len();
+    let from = if k <= n / 512 { 512 * k } else { n };
+    let to = if n - from <= 512 { n } else { from + 512 };
+    &recording[from..to]
+}

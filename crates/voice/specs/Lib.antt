@@ -1,0 +1,5 @@
+pub mod Eighths
+pub mod Voices
+pub mod Listening
+pub mod Running
+pub mod Going
