@@ -2,11 +2,13 @@
 use mathlib.Core.Path.{_≡_, refl, sym, ap, _∙_, subst}
 use mathlib.Core.List.{List, [], _∷_, _++_}
 use Prim.Native.Nat.{ℕ, zero, suc, _+_, _-_, _≤_, _<_}
+use native.Mathlib.Nat.{le-refl}
+use native.Mathlib.Decide.{ℕ-discrete}
 use native.Mathlib.Omega.{arith}
 use native.Mathlib.Numerals.{add-one}
 use lib.IntN.{ℤ, pos}
 use lib.ListN.{length, getD, take, drop, set}
-use lib.Seq.{take-suc, getD-take, take-suc-set}
+use lib.Seq.{take-suc, take-suc-set, take-set-le, getD-set-same, getD-set-other}
 use mir.Syntax.{w16}
 use mir.Val.{SFits}
 use Rattle.rules.specs.Rules.{Sound, silence, heard, heardAll, older}
@@ -48,6 +50,19 @@ module _ (s : List ℤ) (m : ℕ) (h : m < length s) where
       ap (λ (n : ℕ). heardAll silence (take n (set s m v))) (add-one m)
       ∙ ap (heardAll silence) (take-suc-set s m v h)
       ∙ heardAll-more silence (take m s) v
+
+-- a sample put at a place: what is heard before it stays, and every sample still fits
+module _ (s : List ℤ) (p : ℕ) (v : ℤ) where
+  pub ago-before : ago (set s p v) p ≡ ago s p
+  unfolding ago
+  ago-before = ap (heardAll silence) (take-set-le p s p v (le-refl p))
+
+  pub samples-put : SFits w16 v → p < length s → Samples s → Samples (set s p v)
+  samples-put f l r = record { each = λ i. by-place i (ℕ-discrete i p) }
+    where
+      by-place : (i : ℕ) → Dec (i ≡ p) → SFits w16 (at (set s p v) i)
+      by-place i (yes e) = subst (λ (k : ℕ). SFits w16 (at (set s p v) k)) (sym e) (rw (getD-set-same s p v (pos 0) l) f)
+      by-place i (no n) = rw (getD-set-other s p i v (pos 0) n) (r .each i)
 
 -- ---- the sample of k samples ago stands k places before the newest
 pub ago-at : (s : List ℤ) (m k : ℕ) → m ≤ length s → k < m → ago s m k ≡ at s (m - 1 - k)

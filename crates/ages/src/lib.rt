@@ -9,7 +9,8 @@ ghost use Rattle.ages.specs.Ages.{ago, laid, Samples};
 // Lays the samples xs into a store from a place on.
 pub fn lay(into: &mut [i16], from: usize, xs: &[i16])
     requires { ⌜ from + length (now xs) ≤ length (now into) ⌝ }
-    ensures { λ r. ⌜ now (into .exit) ≡ laid (now (into .entry)) from (now (xs .entry)) ⌝ }
+    ensures laid { λ r. ⌜ now (into .exit) ≡ laid (now (into .entry)) from (now (xs .entry)) ⌝ }
+    ensures samples { λ r. ⌜ (Samples (now (into .entry)) → Samples (now (into .exit))) ⌝ }
 {
     let mut i: usize = 0;
     while i < xs.len() {

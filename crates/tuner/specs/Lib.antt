@@ -1,4 +1,6 @@
 pub mod Goods
+pub mod Taking
+pub mod Afters
 pub mod Meters
 pub mod Tuners
 pub mod Unrounded

@@ -1,18 +1,21 @@
 // The tuner that hosts use: start, change, take a block, reset, read the meter, cut a recording.
 pub use rules::Settings;
 use tracking::Tracker;
+use voice::Progress;
 use voice::Voice;
 ghost use mathlib.Core.Path.{_≡_};
 ghost use mathlib.Core.Bool.{true, false};
-ghost use Prim.Native.Nat.{ℕ, _-_, _*_, _^_, _≤_, _<_};
+ghost use Prim.Native.Nat.{ℕ, _+_, _-_, _*_, _^_, _≤_, _<_};
 ghost use lib.IntN.{pos};
 ghost use lib.ListN.{length, take, drop};
 ghost use Rattle.whole.specs.Tests.{Decides};
-ghost use Rattle.rules.specs.Rules.{inRange, defaults};
+ghost use Rattle.rules.specs.Rules.{Sound, inRange, defaults};
 ghost use Rattle.ages.specs.Ages.{at, Samples};
-ghost use Rattle.voice.specs.Voices.{Lags};
-ghost use Rattle.tuner.specs.Tuners.{soundOf, PitchRight, Good, blank, fresh, plain, Started};
+ghost use Rattle.voice.specs.Voices.{Lags, Voiced, pitchOf};
+ghost use mathlib.Core.List.{[]};
+ghost use Rattle.tuner.specs.Tuners.{soundOf, voiceOf, afterBlock, PitchRight, Good, blank, fresh, plain, Started};
 ghost use Rattle.tuner.specs.Goods.{EighthsRight, VoiceRight};
+ghost use Rattle.tuner.specs.Taking.{Joined};
 ghost use Rattle.tuner.specs.Meters.{Exactly, Exact, shownOf, Readable, Metered};
 
 pub struct Tuner {
@@ -364,4 +367,110 @@ pub fn cut<'a>(recording: &'a [i16], k: usize) -> &'a [i16]
     let from = if k <= n / 512 { 512 * k } else { n };
     let to = if n - from <= 512 { n } else { from + 512 };
     &recording[from..to]
+}
+
+// The kept samples, and the block's after them, in one store.
+fn joined(store: [i16; 1764], samples: &[i16]) -> [i16; 2276]
+    requires { ⌜ length (now samples) ≤ 512 ⌝ }
+    ensures { λ r. ⌜ Joined store (now (samples .entry)) 2276 r ⌝ }
+{
+    let mut all = [0i16; 2276];
+    ages::lay(&mut all, 0, &store);
+    ages::lay(&mut all, 1764, samples);
+    all
+}
+
+// The kept eighth-rate samples, with places for those of a block.
+fn opened(eighths: [i16; 224]) -> [i16; 288]
+    ensures { λ r. ⌜ Joined eighths [] 288 r ⌝ }
+{
+    let mut all = [0i16; 288];
+    ages::lay(&mut all, 0, &eighths);
+    all
+}
+
+// The 1764 samples after the first n.
+fn newest(all: &[i16], n: usize) -> [i16; 1764]
+    requires { ⌜ n + 1764 ≤ length (now all) ⌝ }
+    ensures { λ r. ⌜ r ≡ take 1764 (drop n (now (all .entry))) ⌝ }
+{
+    let mut kept = [0i16; 1764];
+    let to = n + 1764;
+    ages::lay(&mut kept, 0, &all[n..to]);
+    kept
+}
+
+// The 224 eighth-rate samples after the first n.
+fn newest_eighths(all: &[i16], n: usize) -> [i16; 224]
+    requires { ⌜ n + 224 ≤ length (now all) ⌝ }
+    ensures { λ r. ⌜ r ≡ take 224 (drop n (now (all .entry))) ⌝ }
+{
+    let mut kept = [0i16; 224];
+    let to = n + 224;
+    ages::lay(&mut kept, 0, &all[n..to]);
+    kept
+}
+
+// A voice as it is kept: the eight lags are blank while searching.
+fn settled(v: Voice) -> Voice
+    ensures { λ r. ⌜ ((x : Sound) → Voiced x v → r ≡ voiceOf (pitchOf v) x) ⌝ }
+{
+    if v.tracking {
+        return v;
+    }
+    Voice {
+        tracking: false,
+        period: v.period,
+        note: v.note,
+        rate: v.rate,
+        tracker: blank(),
+    }
+}
+
+// The tuner after a block that is taken.
+fn after_block(t: Tuner, number: u16, samples: &[i16]) -> Tuner
+    requires { ⌜ Good t × (0 < length (now samples)) × (length (now samples) ≤ 512) × (t .count + length (now samples) ≤ 1000000000) ⌝ }
+    ensures { λ r. ⌜ r ≡ afterBlock t number (now (samples .entry)) ⌝ }
+{
+    let g = t.settings;
+    let n = samples.len();
+    let store = t.store;
+    let eighths = t.eighths;
+    let mut e = t.energies;
+    let mut h = t.correlations;
+    let v = t.voice;
+    let s = joined(store, samples);
+    let mut y = opened(eighths);
+    let mut out = [0i16; 512];
+    let p = Progress {
+        count: t.count,
+        places: 224,
+        behind: t.behind,
+        repeated: 0,
+        dropped: 0,
+        voice: v,
+    };
+    let q = voice::run(p, g, &mut y, &mut e, &mut h, &s, 1764, n, &mut out);
+    let k = q.places - 224;
+    let kept = newest(&s, n);
+    let kept8 = newest_eighths(&y, k);
+    let w = settled(q.voice);
+    let length = n as u16;
+    let repeated = q.repeated as u16;
+    let dropped = q.dropped as u16;
+    Tuner {
+        settings: g,
+        count: q.count,
+        store: kept,
+        eighths: kept8,
+        energies: e,
+        correlations: h,
+        voice: w,
+        behind: q.behind,
+        number: number,
+        length: length,
+        repeated: repeated,
+        dropped: dropped,
+        out: out,
+    }
 }

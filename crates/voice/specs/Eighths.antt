@@ -2,17 +2,14 @@
 use mathlib.Core.Path.{_≡_, refl, sym, ap, _∙_, subst}
 use mathlib.Core.List.{List}
 use Prim.Native.Nat.{ℕ, _+_, _*_, _/_, _%_, _≤_, _<_}
-use native.Mathlib.Decide.{ℕ-discrete}
-use native.Mathlib.Nat.{le-refl}
 use native.Mathlib.Omega.{arith}
 use borrow.Author.Tests.{ne-eqb}
-use lib.IntN.{ℤ, pos}
-use lib.ListN.{length, getD, set, take, length-set}
-use lib.Seq.{take-set-le, getD-set-same, getD-set-other, set-out}
+use lib.IntN.{ℤ}
+use lib.ListN.{length, set, length-set}
 use mir.Syntax.{w16}
 use mir.Val.{SFits}
-use Rattle.rules.specs.Rules.{Sound, silence, heardAll, older, eighthSample, eighthDue, eighthsAfter}
-use Rattle.ages.specs.Ages.{at, ago, Samples, ago-older, ago-put}
+use Rattle.rules.specs.Rules.{Sound, older, eighthSample, eighthDue, eighthsAfter}
+use Rattle.ages.specs.Ages.{ago, Samples, ago-older, ago-put, ago-before, samples-put}
 use Rattle.sums.specs.Kept.{Right, Room}
 
 -- 288 places hold the eighth-rate samples of a take, as far as `places`, and e and h are the sums over them
@@ -47,32 +44,21 @@ heard-one {n} {x} {y} {places = places} d l q r =
 pub as-many : {x : Sound} {low n m : ℕ} {e : List ℕ} {h : List ℤ} → n ≡ m → Right x low n e h → Right x low m e h
 as-many {x} {low} {e = e} {h = h} q r = subst (λ (n : ℕ). Right x low n e h) q r
 
--- a sample put at a place
+-- a sample put at the next place
 module _ (y : List ℤ) (p : ℕ) (v : ℤ) where
-  pub ago-before : ago (set y p v) p ≡ ago y p
-  unfolding ago
-  ago-before = ap (heardAll silence) (take-set-le p y p v (le-refl p))
-
-  pub samples-put : Samples y → SFits w16 v → p < length y → Samples (set y p v)
-  samples-put s f l = record { each = λ i. by-place i (ℕ-discrete i p) }
-    where
-      by-place : (i : ℕ) → Dec (i ≡ p) → SFits w16 (at (set y p v) i)
-      by-place i (yes e) = subst (λ (k : ℕ). SFits w16 (at (set y p v) k)) (sym e) (rw (getD-set-same y p v (pos 0) l) f)
-      by-place i (no n) = rw (getD-set-other y p i v (pos 0) n) (s .each i)
-
   module _ {e : List ℕ} {h : List ℤ} (r : Eighths y p e h) (f : SFits w16 v) (lo : 224 ≤ p) (hi : p < 288) where
     put-long : length (set y p v) ≡ 288
     put-long = length-set y p v ∙ r .long
 
     pub put-samples : Samples (set y p v)
-    put-samples = samples-put (r .samples) f (omega (arith, r .long))
+    put-samples = samples-put y p v f (omega (arith, r .long)) (r .samples)
 
     -- what the update of the sums asks
     pub put-room : Room (set y p v) (p + 1) 2 109
     put-room = record { samples = put-samples; long = omega (arith, put-long); from = omega arith; upto = omega arith; reach = omega arith }
 
     pub put-older : Right (older (ago (set y p v) (p + 1))) 2 109 e h
-    put-older = subst (λ (x : Sound). Right x 2 109 e h) (sym (ago-older (set y p v) p (omega (arith, put-long)) ∙ ago-before)) (r .sums)
+    put-older = subst (λ (x : Sound). Right x 2 109 e h) (sym (ago-older (set y p v) p (omega (arith, put-long)) ∙ ago-before y p v)) (r .sums)
 
     pub put-eighths : {e′ : List ℕ} {h′ : List ℤ} → Right (ago (set y p v) (p + 1)) 2 109 e′ h′ → Eighths (set y p v) (p + 1) e′ h′
     put-eighths q = record { long = put-long; samples = put-samples; sums = q }
