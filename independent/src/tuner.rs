@@ -332,6 +332,19 @@ impl Tuner {
         }
     }
 
+    /// Puts the read position so far behind the input, as a host that hands
+    /// in a record might.
+    pub fn put_behind(&mut self, units: i64) {
+        self.position = input_position(self.take.count()) - units;
+    }
+
+    /// Lets the take end 10 to 49 samples from here, as if its count were as
+    /// near to the limit; both phases of such a count are those of this one.
+    pub fn put_near_the_limit(&mut self) {
+        let near = TAKE_LIMIT - 10 - self.take.count();
+        self.limit = self.take.count() + 10 + near % 40;
+    }
+
     /// Whether every number of the record is in its range. Samples before the
     /// take are 0 by the making of a history, and no sum is kept.
     pub fn is_good(&self) -> bool {

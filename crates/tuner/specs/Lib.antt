@@ -4,3 +4,4 @@ pub mod Afters
 pub mod Meters
 pub mod Tuners
 pub mod Unrounded
+pub mod Verdicts

@@ -5,18 +5,19 @@ use voice::Progress;
 use voice::Voice;
 ghost use mathlib.Core.Path.{_≡_};
 ghost use mathlib.Core.Bool.{true, false};
+ghost use mathlib.Core.List.{_++_, []};
 ghost use Prim.Native.Nat.{ℕ, _+_, _-_, _*_, _^_, _≤_, _<_};
 ghost use lib.IntN.{pos};
 ghost use lib.ListN.{length, take, drop};
 ghost use Rattle.whole.specs.Tests.{Decides};
-ghost use Rattle.rules.specs.Rules.{Sound, inRange, defaults};
+ghost use Rattle.rules.specs.Rules.{inRange, defaults, Sound};
 ghost use Rattle.ages.specs.Ages.{at, Samples};
 ghost use Rattle.voice.specs.Voices.{Lags, Voiced, pitchOf};
-ghost use mathlib.Core.List.{[]};
-ghost use Rattle.tuner.specs.Tuners.{soundOf, voiceOf, afterBlock, PitchRight, Good, blank, fresh, plain, Started};
+ghost use Rattle.tuner.specs.Tuners.{soundOf, PitchRight, Good, blank, fresh, afterBlock, plain, Verdict, Took, Started, Changed, Reset, voiceOf};
 ghost use Rattle.tuner.specs.Goods.{EighthsRight, VoiceRight};
-ghost use Rattle.tuner.specs.Taking.{Joined};
+ghost use Rattle.tuner.specs.Verdicts.{HasNumber, following, Numbered};
 ghost use Rattle.tuner.specs.Meters.{Exactly, Exact, shownOf, Readable, Metered};
+ghost use Rattle.tuner.specs.Taking.{Joined};
 
 pub struct Tuner {
     pub settings: Settings,
@@ -346,27 +347,98 @@ fn shown(v: Voice) -> Meter
     })
 }
 
-impl Tuner {
-    // Refused where the record is not good.
-    pub fn meter(self) -> Meter
-        ensures { λ r. ⌜ Metered self r ⌝ }
-    {
-        if !good(self) {
-            return Meter::Refused;
+// The samples are those of the store from a place on.
+fn same(samples: &[i16], store: &[i16; 1764], from: usize) -> bool
+    requires { ⌜ (length (now store) ≡ 1764) × (from + length (now samples) ≡ 1764) ⌝ }
+    ensures { λ r. ⌜ Decides r (now (samples .entry) ≡ drop from (now (store .entry))) ⌝ }
+{
+    let mut i: usize = 0;
+    while i < samples.len() {
+        if samples[i] != store[from + i] {
+            return false;
         }
-        let v = self.voice;
-        shown(v)
+        i += 1;
     }
+    true
 }
 
-// The k-th stretch of 512 samples: the last may be shorter, and past the end there is nothing.
-pub fn cut<'a>(recording: &'a [i16], k: usize) -> &'a [i16]
-    ensures { λ r. ⌜ now r ≡ take 512 (drop (512 * k) (now (recording .entry))) ⌝ }
+// The samples are those of the last block: the newest of the store, so many as it had.
+fn again(samples: &[i16], store: &[i16; 1764], size: u16) -> bool
+    requires { ⌜ (length (now store) ≡ 1764) × (size ≤ 512) ⌝ }
+    ensures { λ r. ⌜ Decides r (now (samples .entry) ≡ drop (1764 - size) (now (store .entry))) ⌝ }
 {
-    let n = recording.len();
-    let from = if k <= n / 512 { 512 * k } else { n };
-    let to = if n - from <= 512 { n } else { from + 512 };
-    &recording[from..to]
+    let n = size as usize;
+    if samples.len() != n {
+        return false;
+    }
+    same(samples, store, 1764 - n)
+}
+
+// There is a last block, and it has this number.
+fn is_last(size: u16, last: u16, number: u16) -> bool
+    ensures { λ r. ⌜ Decides r (HasNumber size last number) ⌝ }
+{
+    if size == 0 {
+        return false;
+    }
+    number == last
+}
+
+// The first block of a take is 0 and 65535 is followed by 0.
+fn next_number(size: u16, last: u16) -> u16
+    ensures { λ r. ⌜ r ≡ following size last ⌝ }
+{
+    if size == 0 {
+        return 0;
+    }
+    std::num::wrapping_add_u16(last, 1)
+}
+
+// The number of the answer where the record is good and the block fits.
+fn judge_number(
+    count: u32,
+    last: u16,
+    size: u16,
+    store: &[i16; 1764],
+    number: u16,
+    samples: &[i16],
+) -> u32
+    requires { ⌜ (length (now store) ≡ 1764) × (count ≤ 1000000000) × (size ≤ 512) × (length (now samples) ≤ 512) ⌝ }
+    ensures { λ r. ⌜ Numbered count last size (now (store .entry)) number (now (samples .entry)) r ⌝ }
+{
+    if is_last(size, last, number) {
+        if again(samples, store, size) {
+            return 1;
+        }
+        return 6;
+    }
+    if number != next_number(size, last) {
+        return 5;
+    }
+    if count + samples.len() as u32 > 1000000000 {
+        return 7;
+    }
+    0
+}
+
+// The number of the answer to a block, with so much room for the output.
+fn judge(t: Tuner, number: u16, samples: &[i16], room: usize) -> u32
+    ensures { λ r. ⌜ Verdict t number (now (samples .entry)) room r ⌝ }
+{
+    if !good(t) {
+        return 9;
+    }
+    let n = samples.len();
+    if n == 0 {
+        return 2;
+    }
+    if n > 512 {
+        return 3;
+    }
+    if room < n {
+        return 4;
+    }
+    judge_number(t.count, t.number, t.length, &t.store, number, samples)
 }
 
 // The kept samples, and the block's after them, in one store.
@@ -473,4 +545,107 @@ fn after_block(t: Tuner, number: u16, samples: &[i16]) -> Tuner
         dropped: dropped,
         out: out,
     }
+}
+
+// Writes the first n of the kept samples.
+fn give(kept: &[i16], out: &mut [i16], n: usize)
+    requires { ⌜ (n ≤ length (now kept)) × (n ≤ length (now out)) ⌝ }
+    ensures { λ r. ⌜ now (out .exit) ≡ take n (now (kept .entry)) ++ drop n (now (out .entry)) ⌝ }
+{
+    ages::lay(out, 0, &kept[..n]);
+}
+
+impl Tuner {
+    // The settings count from the next sample.
+    pub fn change(self, s: Settings) -> Taken
+        ensures { λ r. ⌜ Changed self s (r .tuner) (r .answer) ⌝ }
+    {
+        let right = good(self);
+        let allowed = in_range(s);
+        if !right {
+            return Taken {
+                tuner: self,
+                answer: plain(9),
+            };
+        }
+        if !allowed {
+            return Taken {
+                tuner: self,
+                answer: plain(8),
+            };
+        }
+        let mut t = self;
+        t.settings = s;
+        Taken {
+            tuner: t,
+            answer: plain(0),
+        }
+    }
+
+    // Settings kept, everything else fresh.
+    pub fn reset(self) -> Taken
+        ensures { λ r. ⌜ Reset self (r .tuner) (r .answer) ⌝ }
+    {
+        if good(self) {
+            let g = self.settings;
+            return Taken {
+                tuner: fresh(g),
+                answer: plain(0),
+            };
+        }
+        Taken {
+            tuner: self,
+            answer: plain(9),
+        }
+    }
+
+    // Takes a block, gives the last one again or refuses, and writes the output.
+    pub fn block(self, number: u16, samples: &[i16], out: &mut [i16]) -> Taken
+        ensures { λ r. ⌜ Took self number (now (samples .entry)) (now (out .entry)) (r .tuner) (r .answer) (now (out .exit)) ⌝ }
+    {
+        let v = judge(self, number, samples, out.len());
+        if v > 1 {
+            return Taken {
+                tuner: self,
+                answer: plain(v),
+            };
+        }
+        let n = samples.len();
+        let t = if v == 0 {
+            after_block(self, number, samples)
+        } else {
+            self
+        };
+        give(&t.out, out, n);
+        Taken {
+            tuner: t,
+            answer: Answer {
+                number: v,
+                written: n as u16,
+                repeated: t.repeated,
+                dropped: t.dropped,
+            },
+        }
+    }
+
+    // Refused where the record is not good.
+    pub fn meter(self) -> Meter
+        ensures { λ r. ⌜ Metered self r ⌝ }
+    {
+        if !good(self) {
+            return Meter::Refused;
+        }
+        let v = self.voice;
+        shown(v)
+    }
+}
+
+// The k-th stretch of 512 samples: the last may be shorter, and past the end there is nothing.
+pub fn cut<'a>(recording: &'a [i16], k: usize) -> &'a [i16]
+    ensures { λ r. ⌜ now r ≡ take 512 (drop (512 * k) (now (recording .entry))) ⌝ }
+{
+    let n = recording.len();
+    let from = if k <= n / 512 { 512 * k } else { n };
+    let to = if n - from <= 512 { n } else { from + 512 };
+    &recording[from..to]
 }

@@ -1,0 +1,43 @@
+-- `tuner::Tuner::reset` meets its contract: the record is tested, and a good one begins again with its settings.
+-- Assumes nothing.
+use mathlib.Core.Path.{refl}
+use borrow.Author.Needs.{needs}
+use Rattle.tuner.specs.Tuners.{record-out-of-range, begun-again}
+use Rattle.tuner.proofs.Tuner.reset.Statement.{statement}
+use Rattle.tuner.proofs.Tuner.reset.Tie as tie
+
+good-requires : tie.Need-good-requires
+good-requires c κs = search needs
+
+fresh-requires : tie.Need-fresh-requires
+fresh-requires c κs = search needs
+
+plain-requires : tie.Need-plain-requires
+plain-requires c κs = search needs
+
+returns : tie.Need-returns
+returns c =
+    let g = c .before .before .before in
+    record {
+      number = 0;
+      verdict = begun-again (g .before .good2 .ensures .yes (g .if1 .taken));
+      tuner = c .before .fresh .ensures;
+      answer = c .plain .ensures;
+    }
+
+plain-requires-2 : tie.Need-plain-requires-2
+plain-requires-2 c κs = search needs
+
+returns-2 : tie.Need-returns-2
+returns-2 c =
+    record {
+      number = 9;
+      verdict = record-out-of-range (c .before .before .good2 .ensures .no (c .before .if1 .left));
+      tuner = refl;
+      answer = c .plain2 .ensures;
+    }
+
+pub reset-spec : {M : Type 1} → statement M
+reset-spec =
+    tie.close
+    (tie.spec good-requires fresh-requires plain-requires returns plain-requires-2 returns-2)

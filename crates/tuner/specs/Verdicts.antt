@@ -1,0 +1,189 @@
+-- Laws of the numbers that answer a block, a change and a reset: no second number, and what follows from one.
+use mathlib.Core.Path.{_≡_, refl, sym, ap, _∙_}
+use mathlib.Core.Bool.{true, cond}
+use mathlib.Core.List.{List, _++_}
+use Prim.Native.Nat.{ℕ, zero, suc, _+_, _-_, _%_, _≤_, _<_}
+use native.Mathlib.Omega.{arith}
+use borrow.Author.Tests.{eq-eqb, ne-eqb}
+use lib.Dec.{eqb}
+use lib.IntN.{ℤ}
+use lib.ListN.{length, take, drop, length-append, length-drop, length-replicate}
+use Rattle.whole.specs.Tests.{yes-and-no}
+use Rattle.rules.specs.declared.Settings.{Settings}
+use Rattle.rules.specs.Rules.{inRange}
+use Rattle.rules.specs.Blocks.{gives-length}
+use Rattle.tuner.specs.declared.Tuner.{Tuner}
+use Rattle.tuner.specs.declared.Answer.{Answer}
+use Rattle.tuner.specs.Tuners.{Good, fresh, afterBlock, IsLast, lastSamples, nextNumber, Fits, Verdict, record-out-of-range, block-empty, block-over-512, output-short, number-neither, other-samples, given-again, take-full, taken, tunerBy, plain, answerBy, outBy, Took, ChangeVerdict, withSettings, setting-out-of-range, changed, Changed, ResetVerdict, begun-again, Reset}
+
+-- ---- the number where the record is good and the block fits, over the record's numbers
+
+-- there is a last block, of so many samples, and it has this number
+abbrev pub HasNumber : ℕ → ℕ → ℕ → Type 0
+HasNumber size last k = (0 < size) × (k ≡ last)
+
+abbrev pub following : ℕ → ℕ → ℕ
+following size last = cond (eqb size 0) 0 ((last + 1) % 65536)
+
+pub data Numbered (count last size : ℕ) (store : List ℤ) (k : ℕ) (xs : List ℤ) : ℕ → Type 0 where
+  neither : (HasNumber size last k → ⊥) → (k ≡ following size last → ⊥) → Numbered count last size store k xs 5
+  other : HasNumber size last k → (xs ≡ drop (1764 - size) store → ⊥) → Numbered count last size store k xs 6
+  again : HasNumber size last k → xs ≡ drop (1764 - size) store → Numbered count last size store k xs 1
+  full : (HasNumber size last k → ⊥) → k ≡ following size last → 1000000000 < count + length xs → Numbered count last size store k xs 7
+  new : (HasNumber size last k → ⊥) → k ≡ following size last → count + length xs ≤ 1000000000 → Numbered count last size store k xs 0
+
+module _ {t : Tuner} {k : ℕ} {xs : List ℤ} {room : ℕ} where
+  pub by-number : {v : ℕ} → Fits t xs room → Numbered (t .count) (t .number) (t .length) (t .store) k xs v → Verdict t k xs room v
+  by-number f (neither l n) = number-neither f l n
+  by-number f (other l e) = other-samples f l e
+  by-number f (again l e) = given-again f l e
+  by-number f (full l n c) = take-full f l n c
+  by-number f (new l n c) = taken f l n c
+
+-- ---- no second number: each is the end of one path through the same tests
+data Step (P no yes : Type 0) : Type 0 where
+  isn't : (P → ⊥) → no → Step P no yes
+  is : P → yes → Step P no yes
+
+step-one : {P A B A′ B′ C : Type 0} → Step P A B → Step P A′ B′ → (A → A′ → C) → (B → B′ → C) → C
+step-one (isn't n a) (isn't m b) f g = f a b
+step-one (isn't n a) (is p b) f g = absurd (n p)
+step-one (is p a) (isn't n b) f g = absurd (n p)
+step-one (is p a) (is q b) f g = g a b
+
+both : {v w n : ℕ} → v ≡ n → w ≡ n → v ≡ w
+both e f = e ∙ sym f
+
+-- the tests before any number is looked at, and then A
+abbrev Before : Tuner → List ℤ → ℕ → ℕ → Type 0 → Type 0
+Before t xs room v A = Step (Good t) (v ≡ 9) (Step (0 < length xs) (v ≡ 2) (Step (length xs ≤ 512) (v ≡ 3) (Step (length xs ≤ room) (v ≡ 4) A)))
+
+module _ {t : Tuner} {xs : List ℤ} {room v : ℕ} {A : Type 0} where
+  fitting : Fits t xs room → A → Before t xs room v A
+  fitting f a = is (f .good) (is (f .some) (is (f .most) (is (f .written) a)))
+
+  fits-on : v ≤ 1 → Before t xs room v A → Fits t xs room
+  fits-on h (isn't n e) = absurd (omega arith)
+  fits-on h (is g (isn't n e)) = absurd (omega arith)
+  fits-on h (is g (is a (isn't n e))) = absurd (omega arith)
+  fits-on h (is g (is a (is b (isn't n e)))) = absurd (omega arith)
+  fits-on h (is g (is a (is b (is c s)))) = record { good = g; some = a; most = b; written = c }
+
+module _ {t : Tuner} {k : ℕ} {xs : List ℤ} {room : ℕ} where
+  path : {v : ℕ} → Verdict t k xs room v → Before t xs room v
+      (Step (IsLast t k)
+      (Step (k ≡ nextNumber t) (v ≡ 5) (Step (t .count + length xs ≤ 1000000000) (v ≡ 7) (v ≡ 0)))
+      (Step (xs ≡ lastSamples t) (v ≡ 6) (v ≡ 1)))
+  path (record-out-of-range n) = isn't n refl
+  path (block-empty g e) = is g (isn't (λ p. omega arith) refl)
+  path (block-over-512 g e) = is g (is (omega arith) (isn't (λ p. omega arith) refl))
+  path (output-short g a b e) = is g (is a (is b (isn't (λ p. omega arith) refl)))
+  path (number-neither f l n) = fitting f (isn't l (isn't n refl))
+  path (other-samples f l n) = fitting f (is l (isn't n refl))
+  path (given-again f l e) = fitting f (is l (is e refl))
+  path (take-full f l n c) = fitting f (isn't l (is n (isn't (λ p. omega arith) refl)))
+  path (taken f l n c) = fitting f (isn't l (is n (is c refl)))
+
+  pub verdict-one : {v w : ℕ} → Verdict t k xs room v → Verdict t k xs room w → v ≡ w
+  verdict-one p q =
+      step-one (path p) (path q) both
+      (λ p q. step-one p q both
+      (λ p q. step-one p q both
+      (λ p q. step-one p q both
+      (λ p q. step-one p q
+      (λ p q. step-one p q both (λ p q. step-one p q both both))
+      (λ p q. step-one p q both both)))))
+
+  -- what 0 and 1 say
+  pub verdict-fits : {v : ℕ} → Verdict t k xs room v → v ≤ 1 → Fits t xs room
+  verdict-fits p h = fits-on h (path p)
+
+  pub verdict-zero : Verdict t k xs room 0 → t .count + length xs ≤ 1000000000
+  verdict-zero (taken f l n c) = c
+
+-- ---- what a block leaves, answers and writes, by its number
+module _ {v : ℕ} (t : Tuner) (k : ℕ) (xs : List ℤ) where
+  pub tuner-taken : v ≡ 0 → tunerBy v t k xs ≡ afterBlock t k xs
+  unfolding tunerBy
+  tuner-taken e = simp (eq-eqb v 0 e)
+
+  pub tuner-kept : (v ≡ 0 → ⊥) → tunerBy v t k xs ≡ t
+  unfolding tunerBy
+  tuner-kept n = simp (ne-eqb v 0 n)
+
+-- the answer with the counts that the tuner u then keeps, and the output with what it keeps
+abbrev pub counted : ℕ → Tuner → List ℤ → Answer
+counted v u xs = record { number = v; written = length xs; repeated = u .repeated; dropped = u .dropped }
+
+abbrev pub overlaid : Tuner → List ℤ → List ℤ → List ℤ
+overlaid u xs ys = take (length xs) (u .out) ++ drop (length xs) ys
+
+module _ (t : Tuner) (k : ℕ) (xs ys : List ℤ) where
+  pub by-refused : (v : ℕ) → 1 < v → (answerBy v t k xs ≡ plain v) × (outBy v t k xs ys ≡ ys)
+  unfolding answerBy outBy
+  by-refused zero h = absurd (omega arith)
+  by-refused (suc zero) h = absurd (omega arith)
+  by-refused (suc (suc v)) h = (refl, refl)
+
+  pub by-given : (v : ℕ) → v ≤ 1 → (answerBy v t k xs ≡ counted v (tunerBy v t k xs) xs) × (outBy v t k xs ys ≡ overlaid (tunerBy v t k xs) xs ys)
+  unfolding tunerBy answerBy outBy
+  by-given zero h = (refl, refl)
+  by-given (suc zero) h = (refl, refl)
+  by-given (suc (suc v)) h = absurd (omega arith)
+
+module _ {t : Tuner} {k : ℕ} {xs ys : List ℤ} where
+  pub took-refused : {v : ℕ} {a : Answer} → Verdict t k xs (length ys) v → 1 < v → a ≡ plain v → Took t k xs ys t a ys
+  took-refused {v} p h e =
+      let by = by-refused t k xs ys v h in
+      record { number = v; verdict = p; tuner = sym (tuner-kept t k xs (λ z. omega arith)); answer = e ∙ sym (by .0); out = sym (by .1) }
+
+  pub took-given : {v : ℕ} {u : Tuner} {ys′ : List ℤ} → Verdict t k xs (length ys) v → v ≤ 1 → u ≡ tunerBy v t k xs → ys′ ≡ overlaid u xs ys → Took t k xs ys u (counted v u xs) ys′
+  took-given {v} p h e o =
+      let by = by-given t k xs ys v h in
+      record {
+        number = v;
+        verdict = p;
+        tuner = e;
+        answer = ap (λ (u : Tuner). counted v u xs) e ∙ sym (by .0);
+        out = o ∙ ap (λ (u : Tuner). overlaid u xs ys) e ∙ sym (by .1);
+      }
+
+  -- no second answer
+  pub took-one : {t₁ t₂ : Tuner} {a₁ a₂ : Answer} {zs₁ zs₂ : List ℤ} → Took t k xs ys t₁ a₁ zs₁ → Took t k xs ys t₂ a₂ zs₂ → (t₁ ≡ t₂) × (a₁ ≡ a₂) × (zs₁ ≡ zs₂)
+  took-one p q =
+      let e = verdict-one (p .verdict) (q .verdict) in (
+        p .tuner ∙ ap (λ (v : ℕ). tunerBy v t k xs) e ∙ sym (q .tuner),
+        p .answer ∙ ap (λ (v : ℕ). answerBy v t k xs) e ∙ sym (q .answer),
+        p .out ∙ ap (λ (v : ℕ). outBy v t k xs ys) e ∙ sym (q .out),
+      )
+
+-- the kept output stays 512 long
+pub out-length : (v : ℕ) (t : Tuner) (k : ℕ) (xs : List ℤ) → length xs ≤ 512 → length (t .out) ≡ 512 → length (tunerBy v t k xs .out) ≡ 512
+unfolding tunerBy afterBlock
+out-length zero t k xs h e = simp (length-append, gives-length, length-drop, length-replicate) (omega arith)
+out-length (suc v) t k xs h e = rw (tuner-kept {v = suc v} t k xs (λ z. omega arith)) e
+
+-- ---- no second answer to a change and a reset
+module _ {t : Tuner} where
+  change-path : {s : Settings} {v : ℕ} → ChangeVerdict t s v → Step (Good t) (v ≡ 9) (Step (inRange s ≡ true) (v ≡ 8) (v ≡ 0))
+  change-path (record-out-of-range n) = isn't n refl
+  change-path (setting-out-of-range g e) = is g (isn't (λ y. yes-and-no y e) refl)
+  change-path (changed g e) = is g (is e refl)
+
+  pub changed-one : {s : Settings} {t₁ t₂ : Tuner} {a₁ a₂ : Answer} → Changed t s t₁ a₁ → Changed t s t₂ a₂ → (t₁ ≡ t₂) × (a₁ ≡ a₂)
+  changed-one {s} p q =
+      let e = step-one (change-path (p .verdict)) (change-path (q .verdict)) both (λ p q. step-one p q both both) in (
+        p .tuner ∙ ap (λ (v : ℕ). cond (eqb v 0) (withSettings t s) t) e ∙ sym (q .tuner),
+        p .answer ∙ ap plain e ∙ sym (q .answer),
+      )
+
+  reset-path : {v : ℕ} → ResetVerdict t v → Step (Good t) (v ≡ 9) (v ≡ 0)
+  reset-path (record-out-of-range n) = isn't n refl
+  reset-path (begun-again g) = is g refl
+
+  pub reset-one : {t₁ t₂ : Tuner} {a₁ a₂ : Answer} → Reset t t₁ a₁ → Reset t t₂ a₂ → (t₁ ≡ t₂) × (a₁ ≡ a₂)
+  reset-one p q =
+      let e = step-one (reset-path (p .verdict)) (reset-path (q .verdict)) both both in (
+        p .tuner ∙ ap (λ (v : ℕ). cond (eqb v 0) (fresh (t .settings)) t) e ∙ sym (q .tuner),
+        p .answer ∙ ap plain e ∙ sym (q .answer),
+      )

@@ -1,0 +1,236 @@
+//! A scripted take as records of calls, for a program that has no lines to
+//! read: every call, every refusal, repeats and resets, in both programs.
+//!
+//! A record has 1050 bytes: byte 0 is the call; 2, 4 and 6 are a block's
+//! number, length and room, low byte first; from 8 on the four settings; from
+//! 24 on the samples, each with 32768 added.
+
+use crate::rules::{cut, POSITION_UNIT};
+use crate::settings::Settings;
+use crate::statistics::Statistics;
+use crate::tuner::{Answer, Counts, Meter, Tuner};
+
+pub const RECORD: usize = 1050;
+const MOST: usize = 513;
+
+/// What is asked of the tuner.
+#[derive(Clone, Copy, Debug, PartialEq, Eq)]
+pub enum Call {
+    Start = 0,
+    StartDefault = 1,
+    Change = 2,
+    Reset = 3,
+    Block = 4,
+    Meter = 5,
+    Cut = 6,
+    /// The position is put too far behind: the record is out of range.
+    Spoil = 7,
+    /// The count is put near the take's limit, its phases kept.
+    Age = 8,
+    /// The position is put level.
+    Mend = 9,
+}
+
+/// One record.
+pub fn record(call: Call, number: u16, room: u16, settings: [u32; 4], samples: &[i16]) -> Vec<u8> {
+    let mut bytes = vec![0u8; RECORD];
+    bytes[0] = call as u8;
+    bytes[2..4].copy_from_slice(&number.to_le_bytes());
+    bytes[4..6].copy_from_slice(&(samples.len() as u16).to_le_bytes());
+    bytes[6..8].copy_from_slice(&room.to_le_bytes());
+    for (place, setting) in settings.iter().enumerate() {
+        bytes[8 + 4 * place..12 + 4 * place].copy_from_slice(&setting.to_le_bytes());
+    }
+    for (place, &sample) in samples.iter().enumerate() {
+        let level = (i32::from(sample) + 32_768) as u16;
+        bytes[24 + 2 * place..26 + 2 * place].copy_from_slice(&level.to_le_bytes());
+    }
+    bytes
+}
+
+fn word(bytes: &[u8], at: usize) -> u16 {
+    u16::from_le_bytes([bytes[at], bytes[at + 1]])
+}
+
+fn sample(bytes: &[u8], place: usize) -> i16 {
+    (i32::from(word(bytes, 24 + 2 * place)) - 32_768) as i16
+}
+
+fn settings(bytes: &[u8]) -> Settings {
+    let long = |at: usize| u32::from_le_bytes(bytes[at..at + 4].try_into().unwrap());
+    Settings {
+        scale: long(8),
+        eps: long(12),
+        decay: long(16),
+        floor: long(20),
+    }
+}
+
+fn said(answer: Answer, counts: Counts) -> String {
+    let Counts {
+        written,
+        repeated,
+        dropped,
+    } = counts;
+    format!("{} {written} {repeated} {dropped} ", answer.number())
+}
+
+fn level(sample: i16) -> String {
+    format!("{} ", i32::from(sample) + 32_768)
+}
+
+/// Plays one record, and gives its line.
+pub fn play(tuner: &mut Tuner, bytes: &[u8]) -> String {
+    let none = Counts::default();
+    match bytes[0] {
+        0 => {
+            let (answer, started) = Tuner::start(settings(bytes));
+            *tuner = started;
+            said(answer, none)
+        }
+        1 => {
+            *tuner = Tuner::default_start();
+            String::new()
+        }
+        2 => said(tuner.change(settings(bytes)), none),
+        3 => said(tuner.reset(), none),
+        4 => {
+            let most = |at: usize| usize::from(word(bytes, at)).min(MOST);
+            let samples: Vec<i16> = (0..most(4)).map(|place| sample(bytes, place)).collect();
+            let mut output = vec![7i16; most(6)];
+            let seen = &mut Statistics::default();
+            let (answer, counts) = tuner.block(word(bytes, 2), &samples, &mut output, seen);
+            said(answer, counts) + &output.into_iter().map(level).collect::<String>()
+        }
+        5 => match tuner.meter() {
+            Meter::Searching => "0 ".into(),
+            Meter::Locking(_) => "1 ".into(),
+            Meter::Pitched(_) => "2 ".into(),
+            Meter::Refused => "3 ".into(),
+        },
+        6 => {
+            let recording: Vec<i16> = (0..MOST).map(|place| sample(bytes, place)).collect();
+            let part = cut(&recording, usize::from(word(bytes, 2)));
+            let first = part.first().map_or(String::new(), |&sample| level(sample));
+            format!("{} {first}", part.len())
+        }
+        7 => {
+            tuner.put_behind(1_000 * POSITION_UNIT + 1);
+            String::new()
+        }
+        8 => {
+            tuner.put_near_the_limit();
+            String::new()
+        }
+        _ => {
+            tuner.put_behind(0);
+            String::new()
+        }
+    }
+}
+
+/// A voice for the take: two partials whose period wanders, in whole numbers.
+fn voice(at: usize) -> i16 {
+    let wave = |period: i64, loud: i64| {
+        let phase = at as i64 % period;
+        let half = period / 2;
+        let rise = if phase < half { phase } else { period - phase };
+        loud * (4 * rise - period) / period
+    };
+    let period = if at % 20_000 < 5_000 { 223 } else { 165 };
+    (wave(period, 9_000) + wave(period / 2, 2_500)) as i16
+}
+
+/// The scripted take: every call, every refusal, repeats and resets.
+pub fn script() -> Vec<u8> {
+    const ALL: [u32; 4] = [4095, 100, 0, 100];
+    /// A alone, so that cycles are repeated and dropped.
+    const SOME: [u32; 4] = [0b0010_0000_0000, 150, 100, 50];
+    let mut bytes = Vec::new();
+    let mut add = |call, number, room, settings, samples: &[i16]| {
+        bytes.extend(record(call, number, room, settings, samples))
+    };
+    let stretch =
+        |from: usize, length: usize| -> Vec<i16> { (from..from + length).map(voice).collect() };
+    let none: &[i16] = &[];
+    let refused: [[u32; 4]; 5] = [
+        [0, 100, 0, 100],
+        [4096, 100, 0, 100],
+        [4095, 410, 0, 100],
+        [4095, 100, 256, 100],
+        [4095, 100, 0, 1_000_001],
+    ];
+    add(Call::Meter, 0, 0, ALL, none);
+    add(Call::Block, 65_535, 512, ALL, &stretch(0, 512));
+    let mut at = 0;
+    for number in 0..48u16 {
+        let length = [512, 511, 512, 1, 300, 512, 77, 512][usize::from(number % 8)];
+        let samples = stretch(at, length);
+        add(
+            Call::Block,
+            number,
+            length as u16 + number % 2,
+            ALL,
+            &samples,
+        );
+        add(Call::Meter, 0, 0, ALL, none);
+        at += length;
+        if number % 7 == 3 {
+            // The last block again, among refusals and changes.
+            add(Call::Block, number, 513, ALL, &samples);
+            add(Call::Block, number, 513, ALL, &samples[1..]);
+            add(Call::Block, number + 1, 513, ALL, none);
+            add(Call::Block, number + 1, 513, ALL, &stretch(at, 513));
+            add(Call::Block, number + 1, 9, ALL, &stretch(at, 10));
+            add(Call::Block, number + 2, 512, ALL, &stretch(at, 10));
+            add(Call::Change, 0, 0, refused[usize::from(number % 5)], none);
+            add(
+                Call::Change,
+                0,
+                0,
+                if number == 3 { ALL } else { SOME },
+                none,
+            );
+            add(Call::Block, number, 512, ALL, &samples);
+        }
+        if number % 16 == 9 {
+            // A record out of range, and mended.
+            add(Call::Spoil, 0, 0, ALL, none);
+            add(Call::Block, number + 1, 512, ALL, none);
+            add(Call::Change, 0, 0, [0, 0, 0, 0], none);
+            add(Call::Reset, 0, 0, ALL, none);
+            add(Call::Meter, 0, 0, ALL, none);
+            add(Call::Mend, 0, 0, ALL, none);
+        }
+    }
+    add(Call::Reset, 0, 0, ALL, none);
+    // Eight samples at a time, so that the meter is seen locking.
+    for number in 0..100u16 {
+        add(
+            Call::Block,
+            number,
+            8,
+            ALL,
+            &stretch(8 * usize::from(number), 8),
+        );
+        add(Call::Meter, 0, 0, ALL, none);
+    }
+    add(Call::Reset, 0, 0, ALL, none);
+    add(Call::Block, 0, 512, ALL, &stretch(0, 512));
+    add(Call::Age, 0, 0, ALL, none);
+    add(Call::Block, 1, 512, ALL, &stretch(512, 512));
+    add(Call::Block, 0, 512, ALL, &stretch(0, 512));
+    add(Call::Block, 1, 512, ALL, &stretch(512, 10));
+    add(Call::Start, 0, 0, SOME, none);
+    add(Call::Block, 0, 512, ALL, &stretch(100, 512));
+    for settings in refused {
+        add(Call::Start, 0, 0, settings, none);
+    }
+    add(Call::Block, 0, 512, ALL, &stretch(100, 512));
+    for number in [0, 1, 2, 65_535] {
+        add(Call::Cut, number, 0, ALL, &stretch(7, 513));
+    }
+    add(Call::StartDefault, 0, 0, ALL, none);
+    add(Call::Meter, 0, 0, ALL, none);
+    bytes
+}
