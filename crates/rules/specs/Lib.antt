@@ -10,4 +10,7 @@ pub mod Table
 pub mod Notes
 pub mod Position
 pub mod Blocks
+pub mod Sane
+pub mod Local
+pub mod Accounts
 pub mod Worked

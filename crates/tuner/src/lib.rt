@@ -649,3 +649,12 @@ pub fn cut<'a>(recording: &'a [i16], k: usize) -> &'a [i16]
     let to = if n - from <= 512 { n } else { from + 512 };
     &recording[from..to]
 }
+
+// The block call over a record lent and altered there, with equal answers.
+pub fn block_in_place(t: &mut Tuner, number: u16, samples: &[i16], out: &mut [i16]) -> Answer
+    ensures { λ r. ⌜ Took (now (t .entry)) number (now (samples .entry)) (now (out .entry)) (now (t .exit)) r (now (out .exit)) ⌝ }
+{
+    let d = Tuner::block(*t, number, samples, out);
+    *t = d.tuner;
+    d.answer
+}

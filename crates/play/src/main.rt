@@ -1,0 +1,206 @@
+// Plays a scripted take through the tuner's calls: records of 1050 bytes in, a line for each out.
+// Byte 0 is the call; 2, 4 and 6 a block's number, length and room, low byte first; from 8 on the four settings; from 24 on the samples.
+ghost use mathlib.Core.Path.{_≡_};
+ghost use Prim.Native.Nat.{_≤_, _<_, _*_, _+_};
+use libc::STDIN_FILENO;
+use libc::STDOUT_FILENO;
+use tuner::Answer;
+use tuner::Meter;
+use tuner::Settings;
+use tuner::Taken;
+use tuner::Tuner;
+
+fn wide(b: u8) -> u32
+    ensures { λ r. ⌜ r < 256 ⌝ }
+{
+    b as u32
+}
+
+// The number in the bytes at and at + 1.
+fn word(b: &[u8; 1050], at: usize) -> u32
+    requires { ⌜ at < 1049 ⌝ }
+    ensures { λ r. ⌜ r < 65536 ⌝ }
+{
+    wide(b[at]) + 256 * wide(b[at + 1])
+}
+
+fn long(b: &[u8; 1050], at: usize) -> u32
+    requires { ⌜ at < 1047 ⌝ }
+{
+    word(b, at) + 65536 * word(b, at + 2)
+}
+
+// A sample, and back, as a number from 0 on.
+fn sample(n: u32) -> i16
+    requires { ⌜ n < 65536 ⌝ }
+{
+    ((n as i32) - 32768) as i16
+}
+
+fn level(x: i16) -> u64 {
+    ((x as i32) + 32768) as u64
+}
+
+fn settings(b: &[u8; 1050]) -> Settings {
+    Settings {
+        scale: long(b, 8),
+        eps: long(b, 12),
+        decay: long(b, 16),
+        floor: long(b, 20),
+    }
+}
+
+fn most(n: u32) -> usize
+    ensures { λ r. ⌜ r ≤ 513 ⌝ }
+{
+    if n < 513 { n as usize } else { 513 }
+}
+
+fn samples(b: &[u8; 1050], n: usize) -> [i16; 513]
+    requires { ⌜ n ≤ 513 ⌝ }
+{
+    let mut xs = [0i16; 513];
+    let mut i: usize = 0;
+    while i < n {
+        xs[i] = sample(word(b, 24 + 2 * i));
+        i += 1;
+    }
+    xs
+}
+
+fn put(n: u64) {
+    io::print_decimal(STDOUT_FILENO, n);
+    io::write_all(STDOUT_FILENO, b" ");
+}
+
+fn say(a: Answer) {
+    put(a.number as u64);
+    put(a.written as u64);
+    put(a.repeated as u64);
+    put(a.dropped as u64);
+}
+
+fn show(xs: &[i16; 513], n: usize)
+    requires { ⌜ n ≤ 513 ⌝ }
+{
+    let mut i: usize = 0;
+    while i < n {
+        put(level(xs[i]));
+        i += 1;
+    }
+}
+
+// A block, with an output of so much room; all of the output is shown, what is not written too.
+fn block(t: Tuner, b: &[u8; 1050]) -> Tuner {
+    let n = most(word(b, 4));
+    let room = most(word(b, 6));
+    let number = word(b, 2) as u16;
+    let xs = samples(b, n);
+    let mut out = [7i16; 513];
+    let r = t.block(number, &xs[..n], &mut out[..room]);
+    say(r.answer);
+    show(&out, room);
+    r.tuner
+}
+
+fn metered(t: Tuner) {
+    let m = t.meter();
+    match m {
+        Meter::Searching => put(0),
+        Meter::Locking(_) => put(1),
+        Meter::Pitched(_) => put(2),
+        Meter::Refused => put(3),
+    }
+}
+
+// A stretch of the samples of the record, by its number.
+fn stretch(b: &[u8; 1050]) {
+    let xs = samples(b, 513);
+    let k = word(b, 2) as usize;
+    let s = tuner::cut(&xs, k);
+    put(s.len() as u64);
+    if 0 < s.len() {
+        put(level(s[0]));
+    }
+}
+
+// The record with its position too far behind, and mended again.
+fn spoilt(t: Tuner) -> Tuner {
+    let mut u = t;
+    u.behind = 65536001;
+    u
+}
+
+// The record with its count near the take's limit, its phases kept.
+fn aged(t: Tuner) -> Tuner {
+    let mut u = t;
+    let n = u.count;
+    if n < 999999990 {
+        u.count = n + 40 * ((999999990 - n) / 40);
+    }
+    u
+}
+
+fn mended(t: Tuner) -> Tuner {
+    let mut u = t;
+    u.behind = 0;
+    u
+}
+
+fn took(r: Taken) -> Tuner {
+    say(r.answer);
+    r.tuner
+}
+
+fn other(op: u8, t: Tuner, b: &[u8; 1050]) -> Tuner {
+    if op == 5 {
+        metered(t);
+        return t;
+    }
+    if op == 6 {
+        stretch(b);
+        return t;
+    }
+    if op == 7 {
+        return spoilt(t);
+    }
+    if op == 8 {
+        return aged(t);
+    }
+    mended(t)
+}
+
+fn one(t: Tuner, b: &[u8; 1050]) -> Tuner {
+    let op = b[0];
+    if op == 0 {
+        return took(tuner::start(settings(b)));
+    }
+    if op == 1 {
+        return tuner::start_default();
+    }
+    if op == 2 {
+        return took(t.change(settings(b)));
+    }
+    if op == 3 {
+        return took(t.reset());
+    }
+    if op == 4 {
+        return block(t, b);
+    }
+    other(op, t, b)
+}
+
+fn main() {
+    let mut t = tuner::start_default();
+    let mut turns = u64::MAX;
+    while turns > 0 {
+        let mut b = [0u8; 1050];
+        let got = io::read_full(STDIN_FILENO, &mut b);
+        if got < 1050 {
+            return;
+        }
+        t = one(t, &b);
+        io::write_all(STDOUT_FILENO, b"\n");
+        turns = turns - 1;
+    }
+}

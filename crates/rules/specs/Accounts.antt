@@ -1,0 +1,230 @@
+-- The account of the read position, over a take made of any pieces: each sample's growth adds its rate, takes off what it repeats and puts on what it drops,
+-- and accounts of samples one after the other add up (`accounted-append`); so nothing else moves the position, a change of the settings neither.
+use mathlib.Core.Path.{_≡_, refl, sym, ap, _∙_, subst}
+use mathlib.Core.List.{List, [], _∷_, _++_, append-assoc, append-nil}
+use Prim.Native.Nat.{ℕ, suc, _+_}
+use native.Mathlib.Nat.{add-assoc, add-zero, zero-add}
+use native.Mathlib.Omega.{arith}
+use lib.IntN.{ℤ, pos, _+ℤ_, _-ℤ_}
+use lib.ListN.{length, length-append}
+use Rattle.whole.specs.Ring.{var, con, _⊕_, _⊖_, solve}
+use Rattle.rules.specs.declared.Settings.{Settings}
+use Rattle.rules.specs.Rules.{Sound, Take, Given, silence, heardAll, cycles, growth, fresh, stepped, after, gives, joined, allRepeated, allDropped}
+use Rattle.rules.specs.Ranges.{InRange}
+use Rattle.rules.specs.Hearing.{heardAll-append}
+use Rattle.rules.specs.Position.{InBounds}
+use Rattle.rules.specs.Blocks.{after-count, after-sound, joined-append}
+use Rattle.rules.specs.Sane.{Sane, fresh-sane, after-sane, always-in-bounds}
+
+-- ---- the account
+
+-- the rate used at each of the samples: the one in force once the sample was searched or tracked
+unfoldable pub ratesUsed : Settings → Take → List ℤ → List ℕ
+ratesUsed s t [] = []
+ratesUsed s t (x ∷ xs) = stepped s t x .next .pitch .rate ∷ ratesUsed s (stepped s t x .next) xs
+
+-- the sum of all rates used
+unfoldable pub totalOf : List ℕ → ℕ
+totalOf [] = 0
+totalOf (r ∷ rs) = r + totalOf rs
+
+-- from a position on: the sum of all rates used, minus the period of every cycle repeated, plus the period of every cycle dropped
+abbrev pub accounted : ℤ → List ℕ → List Given → ℤ
+accounted at rates gs = at +ℤ pos (totalOf rates) -ℤ pos (cycles (allRepeated gs)) +ℤ pos (cycles (allDropped gs))
+
+-- ---- a take made of pieces
+
+-- a piece: samples heard under one choice of settings
+pub record Piece : Type 0 where
+  pub settings : Settings
+  pub samples : List ℤ
+
+-- the take after the pieces, one after the other
+unfoldable pub afterPieces : Take → List Piece → Take
+afterPieces t [] = t
+afterPieces t (p ∷ ps) = afterPieces (after (p .settings) t (p .samples)) ps
+
+-- what is listed of each piece's samples, one piece after the other
+unfoldable pub overPieces : {A : Type 0} → (Settings → Take → List ℤ → List A) → Take → List Piece → List A
+overPieces part t [] = []
+overPieces part t (p ∷ ps) = part (p .settings) t (p .samples) ++ overPieces part (after (p .settings) t (p .samples)) ps
+
+-- what each of their samples gives
+abbrev pub givesPieces : Take → List Piece → List Given
+givesPieces t ps = overPieces gives t ps
+
+-- the rate used at each of their samples
+abbrev pub ratesPieces : Take → List Piece → List ℕ
+ratesPieces t ps = overPieces ratesUsed t ps
+
+-- all their samples, in order
+unfoldable pub samplesPieces : List Piece → List ℤ
+samplesPieces [] = []
+samplesPieces (p ∷ ps) = p .samples ++ samplesPieces ps
+
+-- a change of the settings alone: a piece without samples
+abbrev pub unheard : Settings → Piece
+unheard s = record { settings = s; samples = [] }
+
+-- each piece's settings are in range
+abbrev pub InRanges : List Piece → Type 0
+InRanges [] = Unit
+InRanges (p ∷ ps) = InRange (p .settings) × InRanges ps
+
+-- ---- accounts one after the other add up
+total-append : (rs qs : List ℕ) → totalOf (rs ++ qs) ≡ totalOf rs + totalOf qs
+unfolding totalOf
+total-append [] qs = sym (zero-add (totalOf qs))
+total-append (r ∷ rs) qs = omega (arith, total-append rs qs)
+
+pub cycles-append : (ps qs : List ℕ) → cycles (ps ++ qs) ≡ cycles ps + cycles qs
+unfolding cycles
+cycles-append [] qs = sym (zero-add (cycles qs))
+cycles-append (p ∷ ps) qs = omega (arith, cycles-append ps qs)
+
+nothing-accounted : (at : ℤ) → at ≡ accounted at [] []
+unfolding totalOf joined cycles
+nothing-accounted at = solve (at ∷ []) (var 0) (var 0 ⊕ con (pos 0) ⊖ con (pos 0) ⊕ con (pos 0)) refl
+
+-- where z is an account, an account from z on is one account more
+pub accounted-append : (at : ℤ) (rs qs : List ℕ) (gs hs : List Given) {z : ℤ} → z ≡ accounted at rs gs → accounted z qs hs ≡ accounted at (rs ++ qs) (gs ++ hs)
+accounted-append at rs qs gs hs e =
+    simp (e, total-append, joined-append, cycles-append)
+    (solve (at ∷ pos (totalOf rs) ∷ pos (totalOf qs) ∷ pos (cycles (allRepeated gs)) ∷ pos (cycles (allRepeated hs)) ∷ pos (cycles (allDropped gs)) ∷ pos (cycles (allDropped hs)) ∷ [])
+    (var 0 ⊕ var 1 ⊖ var 3 ⊕ var 5 ⊕ var 2 ⊖ var 4 ⊕ var 6)
+    (var 0 ⊕ (var 1 ⊕ var 2) ⊖ (var 3 ⊕ var 4) ⊕ (var 5 ⊕ var 6))
+    refl)
+
+-- a growth is the account of its sample
+one-accounted : (s : Settings) (t : Take) (x : ℤ)
+    → stepped s t x .next .position ≡ accounted (t .position) (stepped s t x .next .pitch .rate ∷ []) (stepped s t x .given ∷ [])
+unfolding stepped growth totalOf joined
+one-accounted s t x = simp (append-nil, add-zero)
+
+pub position-account : (s : Settings) (t : Take) (xs : List ℤ) → after s t xs .position ≡ accounted (t .position) (ratesUsed s t xs) (gives s t xs)
+unfolding after gives ratesUsed
+position-account s t [] = nothing-accounted (t .position)
+position-account s t (x ∷ xs) =
+    let next = stepped s t x .next in
+    position-account s next xs
+    ∙ accounted-append (t .position) (next .pitch .rate ∷ []) (ratesUsed s next xs) (stepped s t x .given ∷ []) (gives s next xs) (one-accounted s t x)
+
+pub pieces-account : (t : Take) (ps : List Piece) → afterPieces t ps .position ≡ accounted (t .position) (ratesPieces t ps) (givesPieces t ps)
+unfolding afterPieces overPieces
+pieces-account t [] = nothing-accounted (t .position)
+pieces-account t (p ∷ ps) =
+    let next = after (p .settings) t (p .samples) in
+    pieces-account next ps
+    ∙ accounted-append (t .position) (ratesUsed (p .settings) t (p .samples)) (ratesPieces next ps) (gives (p .settings) t (p .samples)) (givesPieces next ps)
+    (position-account (p .settings) t (p .samples))
+
+-- the read position equals the sum of all rates used, minus the period of every cycle repeated, plus the period of every cycle dropped
+pub account : (ps : List Piece) → afterPieces fresh ps .position
+    ≡ pos (totalOf (ratesPieces fresh ps)) -ℤ pos (cycles (allRepeated (givesPieces fresh ps))) +ℤ pos (cycles (allDropped (givesPieces fresh ps)))
+unfolding fresh
+account ps = rw zero-add at (pieces-account fresh ps)
+
+-- ---- one rate for each sample; the count; and each sample is heard
+rates-length : (s : Settings) (t : Take) (xs : List ℤ) → length (ratesUsed s t xs) ≡ length xs
+unfolding ratesUsed
+rates-length s t [] = refl
+rates-length s t (x ∷ xs) = ap suc (rates-length s (stepped s t x .next) xs)
+
+pub pieces-rates : (t : Take) (ps : List Piece) → length (ratesPieces t ps) ≡ length (samplesPieces ps)
+unfolding overPieces samplesPieces
+pieces-rates t [] = refl
+pieces-rates t (p ∷ ps) =
+    let rest = pieces-rates (after (p .settings) t (p .samples)) ps in
+    simp (length-append, rates-length, rest)
+
+count-from : (t : Take) (ps : List Piece) → afterPieces t ps .count ≡ t .count + length (samplesPieces ps)
+unfolding afterPieces samplesPieces
+count-from t [] = sym (add-zero (t .count))
+count-from t (p ∷ ps) =
+    count-from (after (p .settings) t (p .samples)) ps ∙ rw (length-append, after-count) (add-assoc (t .count) (length (p .samples)) (length (samplesPieces ps)))
+
+pub pieces-count : (ps : List Piece) → afterPieces fresh ps .count ≡ length (samplesPieces ps)
+unfolding fresh
+pieces-count ps = count-from fresh ps ∙ zero-add _
+
+sound-from : (t : Take) (ps : List Piece) → afterPieces t ps .sound ≡ heardAll (t .sound) (samplesPieces ps)
+unfolding afterPieces samplesPieces heardAll
+sound-from t [] = refl
+sound-from t (p ∷ ps) =
+    sound-from (after (p .settings) t (p .samples)) ps
+    ∙ ap (λ (x : Sound). heardAll x (samplesPieces ps)) (after-sound (p .settings) t (p .samples))
+    ∙ sym (heardAll-append (t .sound) (p .samples) (samplesPieces ps))
+
+pub pieces-sound : (ps : List Piece) → afterPieces fresh ps .sound ≡ heardAll silence (samplesPieces ps)
+unfolding fresh
+pieces-sound ps = sound-from fresh ps
+
+-- ---- pieces, and more pieces after them
+pub afterPieces-append : (t : Take) (ps qs : List Piece) → afterPieces t (ps ++ qs) ≡ afterPieces (afterPieces t ps) qs
+unfolding afterPieces
+afterPieces-append t [] qs = refl
+afterPieces-append t (p ∷ ps) qs = afterPieces-append (after (p .settings) t (p .samples)) ps qs
+
+module _ {A : Type 0} (part : Settings → Take → List ℤ → List A) where
+  pub overPieces-append : (t : Take) (ps qs : List Piece) → overPieces part t (ps ++ qs) ≡ overPieces part t ps ++ overPieces part (afterPieces t ps) qs
+  unfolding afterPieces overPieces
+  overPieces-append t [] qs = refl
+  overPieces-append t (p ∷ ps) qs = rw (append-assoc, overPieces-append (after (p .settings) t (p .samples)) ps qs)
+
+-- one piece more
+module _ (t : Take) (ps : List Piece) (p : Piece) where
+  pub afterPieces-more : afterPieces t (ps ++ (p ∷ [])) ≡ after (p .settings) (afterPieces t ps) (p .samples)
+  unfolding afterPieces
+  afterPieces-more = afterPieces-append t ps (p ∷ [])
+
+  overPieces-more : {A : Type 0} (part : Settings → Take → List ℤ → List A)
+      → overPieces part t (ps ++ (p ∷ [])) ≡ overPieces part t ps ++ part (p .settings) (afterPieces t ps) (p .samples)
+  unfolding overPieces
+  overPieces-more part = overPieces-append part t ps (p ∷ []) ∙ ap (λ l. overPieces part t ps ++ l) (append-nil _)
+
+  pub givesPieces-more : givesPieces t (ps ++ (p ∷ [])) ≡ givesPieces t ps ++ gives (p .settings) (afterPieces t ps) (p .samples)
+  givesPieces-more = overPieces-more gives
+
+  pub ratesPieces-more : ratesPieces t (ps ++ (p ∷ [])) ≡ ratesPieces t ps ++ ratesUsed (p .settings) (afterPieces t ps) (p .samples)
+  ratesPieces-more = overPieces-more ratesUsed
+
+-- a change of the settings alone, anywhere, adds nothing
+module _ (t : Take) (ps : List Piece) (s : Settings) (qs : List Piece) where
+  pub afterPieces-unheard : afterPieces t (ps ++ (unheard s ∷ qs)) ≡ afterPieces t (ps ++ qs)
+  unfolding afterPieces after
+  afterPieces-unheard = afterPieces-append t ps (unheard s ∷ qs) ∙ sym (afterPieces-append t ps qs)
+
+  overPieces-unheard : {A : Type 0} (part : Settings → Take → List ℤ → List A) → ((u : Take) → part s u [] ≡ [])
+      → overPieces part t (ps ++ (unheard s ∷ qs)) ≡ overPieces part t (ps ++ qs)
+  unfolding overPieces after
+  overPieces-unheard part e =
+      overPieces-append part t ps (unheard s ∷ qs)
+      ∙ ap (λ l. overPieces part t ps ++ (l ++ overPieces part (afterPieces t ps) qs)) (e (afterPieces t ps))
+      ∙ sym (overPieces-append part t ps qs)
+
+  pub givesPieces-unheard : givesPieces t (ps ++ (unheard s ∷ qs)) ≡ givesPieces t (ps ++ qs)
+  unfolding gives
+  givesPieces-unheard = overPieces-unheard gives (λ u. refl)
+
+  pub ratesPieces-unheard : ratesPieces t (ps ++ (unheard s ∷ qs)) ≡ ratesPieces t (ps ++ qs)
+  unfolding ratesUsed
+  ratesPieces-unheard = overPieces-unheard ratesUsed (λ u. refl)
+
+-- ---- settings in range: every range is kept, at every sample
+sane-from : {t : Take} → Sane t → (ps : List Piece) → InRanges ps → Sane (afterPieces t ps)
+unfolding afterPieces
+sane-from h [] r = h
+sane-from h (p ∷ ps) r = sane-from (after-sane (r .0) h (p .samples)) ps (r .1)
+
+module _ (ps : List Piece) (r : InRanges ps) where
+  pub pieces-sane : Sane (afterPieces fresh ps)
+  pieces-sane = sane-from fresh-sane ps r
+
+  -- also within a piece: xs is any beginning of the samples that come next
+  pub pieces-sane-within : {s : Settings} → InRange s → (xs : List ℤ) → Sane (after s (afterPieces fresh ps) xs)
+  pieces-sane-within q xs = after-sane q pieces-sane xs
+
+  -- never ahead, never over 1,000 samples behind
+  pub pieces-in-bounds : {s : Settings} → InRange s → (xs : List ℤ) → InBounds (length (samplesPieces ps) + length xs) (after s (afterPieces fresh ps) xs .position)
+  pieces-in-bounds {s} q xs =
+      subst (λ (n : ℕ). InBounds (n + length xs) (after s (afterPieces fresh ps) xs .position)) (pieces-count ps) (always-in-bounds q pieces-sane xs)
