@@ -3,13 +3,13 @@
 use mathlib.Core.Path.{_≡_, refl, subst}
 use mathlib.Core.List.{List, [], _∷_}
 use mathlib.Core.Option.{Option, none, some}
-use Prim.Native.Nat.{ℕ, suc, _+_, _-_, _≤_, _<_}
+use Prim.Native.Nat.{ℕ, _+_, _-_, _≤_, _<_}
 use native.Mathlib.Omega.{arith}
 use lib.IntN.{ℤ}
 use lib.ListN.{length}
 use Rattle.whole.specs.Tests.{cond-case}
 use Rattle.rules.specs.declared.Settings.{Settings}
-use Rattle.rules.specs.Rules.{Sound, Mode, searching, tracking, Pitch, Take, unpitched, found, searched, best, period, moved, isLost, noteOf, wanted, tuned, tracked, eighthDue, stepDue, listenedIn, listened, inputAt, fresh, stepped, after}
+use Rattle.rules.specs.Rules.{Sound, Mode, searching, tracking, Pitch, Take, unpitched, found, searched, best, period, moved, isLost, noteOf, tuned, tracked, eighthDue, stepDue, listenedIn, listened, inputAt, fresh, stepped, after}
 use Rattle.rules.specs.Ranges.{InRange}
 use Rattle.rules.specs.Choosing.{best-first, found-range}
 use Rattle.rules.specs.Periods.{period-range, moved-range, moved-best}

@@ -5,3 +5,4 @@ pub mod Meters
 pub mod Tuners
 pub mod Unrounded
 pub mod Verdicts
+pub mod Reached

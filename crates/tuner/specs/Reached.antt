@@ -1,0 +1,423 @@
+-- Every call leaves a good tuner good, so no tuner reached from a start is ever answered 9; and a refusal changes nothing.
+-- The last block sent again, whatever was refused or set in between, gives the same samples and counts and leaves the same tuner.
+use mathlib.Core.Path.{_≡_, refl, sym, ap, _∙_, subst}
+use mathlib.Core.Bool.{true, false, cond}
+use mathlib.Core.List.{List, _++_}
+use Prim.Native.Nat.{ℕ, zero, suc, _+_, _-_, _*_, _≤_, _<_}
+use native.Mathlib.Omega.{arith}
+use borrow.Author.Tests.{eqb-true, ne-eqb}
+use lib.Dec.{eqb}
+use lib.IntN.{ℤ, pos, _*ℤ_}
+use lib.ListN.{length, take, drop, replicate, length-append, length-drop, length-replicate, getD-replicate, List·getD-append}
+use lib.Seq.{drop-drop, drop-at, take-at, length-take-le, getD-drop}
+use Rattle.whole.specs.Tests.{by, cond-case, cond-yes, cond-no, yes-and-no}
+use Rattle.whole.specs.Bounds.{natAbs-zero}
+use Rattle.whole.specs.Lists.{length-listOf, getD-listOf}
+use Rattle.whole.specs.Sums.{sum-within, total-zero}
+use Rattle.rules.specs.declared.Settings.{Settings}
+use Rattle.rules.specs.Rules.{Sound, silence, heard, heardAll, sq, E, H, Mode, searching, tracking, inRange, defaults, after}
+use Rattle.rules.specs.Ranges.{InRange, in-range, is-in-range, defaults-in-range}
+use Rattle.rules.specs.Hearing.{all-heard}
+use Rattle.rules.specs.Position.{Paced, withPeriod, withoutPeriod, InBounds, behind-in-bounds, in-bounds-behind}
+use Rattle.rules.specs.Sane.{SaneMode, SanePitch, Sane, tracking-is-not-searching, after-sane, always-in-bounds}
+use Rattle.ages.specs.Ages.{at}
+use Rattle.sums.specs.Kept.{Right}
+use Rattle.voice.specs.declared.Voice.{Voice}
+use Rattle.voice.specs.Voices.{Lags, Voiced, pitchOf}
+use Rattle.tuner.specs.declared.Tuner.{Tuner}
+use Rattle.tuner.specs.declared.Answer.{Answer}
+use Rattle.tuner.specs.Tuners.{soundOf, takeOf, PitchRight, pitched, unpitched, Good, fresh, keeping, made, energiesOf, correlationsOf, trackerOf, isTracking, afterBlock, lastSamples, Fits, Verdict, record-out-of-range, given-again, tunerBy, plain, answerBy, Took, Started, withSettings, ChangeVerdict, setting-out-of-range, changed, Changed, ResetVerdict, Reset}
+use Rattle.tuner.specs.Taking.{made-length}
+use Rattle.tuner.specs.Afters.{good-voiced}
+use Rattle.tuner.specs.Verdicts.{verdict-one, verdict-fits, verdict-zero, tuner-taken, tuner-kept, by-refused, by-given, counted, overlaid, out-length}
+
+-- how long a tuner's arrays are
+pub record Lengths (t : Tuner) : Type 0 where
+  pub store : length (t .store) ≡ 1764
+  pub eighths : length (t .eighths) ≡ 224
+  pub energies : length (t .energies) ≡ 109
+  pub correlations : length (t .correlations) ≡ 109
+  pub out : length (t .out) ≡ 512
+
+-- a tuner reached by calls: a start, and any calls after it
+pub data Reached : Tuner → Type 0 where
+  by-start : {s : Settings} {t′ : Tuner} {a : Answer} → Started s t′ a → Reached t′
+  by-block : {t t′ : Tuner} {k : ℕ} {xs ys ys′ : List ℤ} {a : Answer} → Reached t → Took t k xs ys t′ a ys′ → Reached t′
+  by-change : {t t′ : Tuner} {s : Settings} {a : Answer} → Reached t → Changed t s t′ a → Reached t′
+  by-reset : {t t′ : Tuner} {a : Answer} → Reached t → Reset t t′ a → Reached t′
+
+-- no call on the tuner is answered 9
+pub record NeverNine (t : Tuner) : Type 0 where
+  pub block : {k : ℕ} {xs ys ys′ : List ℤ} {t′ : Tuner} {a : Answer} → Took t k xs ys t′ a ys′ → a .number ≡ 9 → ⊥
+  pub change : {s : Settings} {t′ : Tuner} {a : Answer} → Changed t s t′ a → a .number ≡ 9 → ⊥
+  pub reset : {t′ : Tuner} {a : Answer} → Reset t t′ a → a .number ≡ 9 → ⊥
+
+-- the same last block: its samples, number, length, counts and output
+pub record SameLast (u w : Tuner) : Type 0 where
+  pub store : w .store ≡ u .store
+  pub number : w .number ≡ u .number
+  pub length : w .length ≡ u .length
+  pub repeated : w .repeated ≡ u .repeated
+  pub dropped : w .dropped ≡ u .dropped
+  pub out : w .out ≡ u .out
+
+-- calls that take no block: settings changed or refused, blocks refused or given again
+pub data Meanwhile (u : Tuner) : Tuner → Type 0 where
+  nothing : Meanwhile u u
+  a-change : {w w′ : Tuner} {s : Settings} {a : Answer} → Meanwhile u w → Changed w s w′ a → Meanwhile u w′
+  a-block : {w w′ : Tuner} {k : ℕ} {xs ys ys′ : List ℤ} {a : Answer} → Meanwhile u w → Took w k xs ys w′ a ys′ → 0 < a .number → Meanwhile u w′
+
+-- a block of n samples answered a was given again: 1, the tuner as it was, the same counts, and the same samples out
+pub record GivenAgain (n : ℕ) (w w′ : Tuner) (a b : Answer) (zs zs₂ : List ℤ) : Type 0 where
+  pub number : b .number ≡ 1
+  pub tuner : w′ ≡ w
+  pub written : b .written ≡ a .written
+  pub repeated : b .repeated ≡ a .repeated
+  pub dropped : b .dropped ≡ a .dropped
+  pub samples : take n zs₂ ≡ take n zs
+
+-- ---- a fresh tuner is good
+
+-- silence, and zeros heard after it
+still-silent : (n : ℕ) (x : Sound) → ((k : ℕ) → x k ≡ pos 0) → (k : ℕ) → heardAll x (replicate n (pos 0)) k ≡ pos 0
+unfolding heardAll
+still-silent zero x p = p
+still-silent (suc n) x p = still-silent n (heard (pos 0) x) (all-heard (λ z. z ≡ pos 0) p refl)
+
+silent-right : {x : Sound} (low n : ℕ) → ((k : ℕ) → x k ≡ pos 0) → Right x low n (replicate n 0) (replicate n (pos 0))
+unfolding E H
+silent-right {x} low n p =
+    record {
+      energies = length-replicate n 0;
+      correlations = length-replicate n (pos 0);
+      energy = λ j h. getD-replicate n j 0 0 h ∙ sym (total-zero (λ (k : ℕ). sq (x k)) (2 * (low + j)) (λ k l. ap sq (p k)));
+      correlation = λ j h.
+          getD-replicate n j (pos 0) (pos 0) h
+          ∙ sym (natAbs-zero (H x (low + j)) (omega (arith, sum-within 0 (λ (k : ℕ). x k *ℤ x (k + (low + j))) (λ k. record { within = rw (p k, p (k + (low + j))) (omega arith) }) (low + j) .within)));
+    }
+
+pub good-fresh : (s : Settings) → inRange s ≡ true → Good (fresh s)
+unfolding fresh silence
+good-fresh s e =
+    record {
+      settings = in-range s e;
+      count = omega arith;
+      length = omega arith;
+      within = omega arith;
+      before = λ i h. getD-replicate 1764 i (pos 0) (pos 0) (omega arith);
+      eighthsBefore = λ i h. getD-replicate 224 i (pos 0) (pos 0) (omega arith);
+      sums = silent-right 2 109 (still-silent 224 silence (λ k. refl));
+      lags = λ t. absurd (yes-and-no t refl);
+      position = omega arith;
+      pitch = unpitched refl refl;
+      searching = λ t. refl;
+    }
+
+pub fresh-lengths : (s : Settings) → Lengths (fresh s)
+unfolding fresh
+fresh-lengths s =
+    record {
+      store = length-replicate 1764 (pos 0);
+      eighths = length-replicate 224 (pos 0);
+      energies = length-replicate {A = ℕ} 109 0;
+      correlations = length-replicate 109 (pos 0);
+      out = length-replicate 512 (pos 0);
+    }
+
+-- ---- a good tuner holds a take in its ranges
+
+voice-sane : {x : Sound} {v : Voice} → Voiced x v → SanePitch (pitchOf v)
+voice-sane {x} {v} r =
+    let m = tracking (v .tracker .low) (v .tracker .last) in
+    record {
+      paced = r .paced;
+      noted = r .noted;
+      lags = cond-case (v .tracking) m searching SaneMode (λ e. let l = r .lags e in (l .from, l .upto, l .lastFrom, l .lastUpto)) (λ e. tt);
+      unpitched = λ e. by (v .tracking) (λ y. absurd (tracking-is-not-searching (sym (cond-yes m searching y) ∙ e))) (r .unpitched);
+    }
+
+pub good-sane : {t : Tuner} → Good t → Sane (takeOf t)
+unfolding takeOf
+good-sane g = record { pitch = voice-sane (good-voiced g); bounds = behind-in-bounds (record { is = refl; near = g .position }) }
+
+-- ---- a block leaves a good tuner
+
+keeping-length : (kept new : List ℤ) → length (keeping kept new) ≡ length kept
+keeping-length kept new = omega (arith, length-drop (length new) (kept ++ new), length-append kept new)
+
+-- what was silent before the take has moved on by what came
+keeping-silent : (kept new : List ℤ) (i : ℕ) → i + length new < length kept → at kept (length new + i) ≡ pos 0 → at (keeping kept new) i ≡ pos 0
+keeping-silent kept new i h e =
+    getD-drop (length new) (kept ++ new) i (pos 0) ∙ List·getD-append kept new (pos 0) (length new + i) (omega arith) ∙ e
+
+listed-right : (x : Sound) (low n : ℕ) → Right x low n (energiesOf x low n) (correlationsOf x low n)
+listed-right x low n =
+    record {
+      energies = length-listOf (λ (j : ℕ). E x (low + j)) n;
+      correlations = length-listOf (λ (j : ℕ). H x (low + j)) n;
+      energy = λ j h. getD-listOf (λ (j : ℕ). E x (low + j)) n j 0 h;
+      correlation = λ j h. getD-listOf (λ (j : ℕ). H x (low + j)) n j (pos 0) h;
+    }
+
+kept-lags : (m : Mode) (x : Sound) → SaneMode m → isTracking m ≡ true → Lags x (trackerOf m x)
+unfolding isTracking trackerOf
+kept-lags searching x h e = absurd (yes-and-no e refl)
+kept-lags (tracking low last) x h e = record { from = h .0; upto = h .1; lastFrom = h .2; lastUpto = h .3; sums = listed-right x low 8 }
+
+not-tracking : (m : Mode) → isTracking m ≡ false → m ≡ searching
+unfolding isTracking
+not-tracking searching e = refl
+not-tracking (tracking low last) e = absurd (yes-and-no refl e)
+
+pitch-right : (v : Voice) → (0 < v .period → (32 ≤ v .note) × (v .note ≤ 100)) → Paced (v .rate) (v .period) → PitchRight v
+pitch-right v noted (withPeriod lo hi from upto) = let n = noted (omega arith) in pitched from upto (n .0) (n .1) lo hi
+pitch-right v noted (withoutPeriod r z) = unpitched z r
+
+pub good-after : (t : Tuner) (k : ℕ) (xs : List ℤ) → Good t → Lengths t → length xs ≤ 512 → t .count + length xs ≤ 1000000000 → Good (afterBlock t k xs)
+unfolding afterBlock
+good-after t k xs g l most upto =
+    let new8 = made (t .count) (soundOf (t .store)) xs in
+    let made8 = made-length (t .count) (soundOf (t .store)) xs in
+    let sane = after-sane (g .settings) (good-sane g) xs in
+    record {
+      settings = g .settings;
+      count = upto;
+      length = most;
+      within = omega arith;
+      before = λ i h. keeping-silent (t .store) xs i (omega (arith, l .store)) (g .before (length xs + i) (omega arith));
+      eighthsBefore = λ i h. keeping-silent (t .eighths) new8 i (omega (arith, l .eighths)) (g .eighthsBefore (length new8 + i) (omega arith));
+      sums = listed-right (soundOf (keeping (t .eighths) new8)) 2 109;
+      lags = kept-lags _ _ (sane .pitch .lags);
+      position = in-bounds-behind (sane .bounds) .near;
+      pitch = pitch-right _ (sane .pitch .noted) (sane .pitch .paced);
+      searching = λ e. sane .pitch .unpitched (not-tracking _ e);
+    }
+
+pub after-lengths : (t : Tuner) (k : ℕ) (xs : List ℤ) → Lengths t → length xs ≤ 512 → Lengths (afterBlock t k xs)
+unfolding afterBlock tunerBy
+after-lengths t k xs l most =
+    record {
+      store = keeping-length (t .store) xs ∙ l .store;
+      eighths = keeping-length (t .eighths) (made (t .count) (soundOf (t .store)) xs) ∙ l .eighths;
+      energies = length-listOf _ 109;
+      correlations = length-listOf _ 109;
+      out = out-length 0 t k xs most (l .out);
+    }
+
+-- ---- every call keeps a good tuner good
+
+module _ {t : Tuner} (g : Good t) (l : Lengths t) where
+  pub took-good : {k : ℕ} {xs ys ys′ : List ℤ} {t′ : Tuner} {a : Answer} → Took t k xs ys t′ a ys′ → Good t′ × Lengths t′
+  unfolding tunerBy
+  took-good {k} {xs} {ys} p =
+      rw (p .tuner)
+      (cond-case (eqb (p .number) 0) (afterBlock t k xs) t (λ (u : Tuner). Good u × Lengths u)
+      (λ e. let v = subst (Verdict t k xs (length ys)) (eqb-true (p .number) 0 e) (p .verdict) in
+      let f = verdict-fits v (omega arith) in (good-after t k xs g l (f .most) (verdict-zero v), after-lengths t k xs l (f .most)))
+      (λ e. (g, l)))
+
+  good-with : {s : Settings} → InRange s → Good (withSettings t s)
+  good-with r =
+      record {
+        settings = r;
+        count = g .count;
+        length = g .length;
+        within = g .within;
+        before = g .before;
+        eighthsBefore = g .eighthsBefore;
+        sums = g .sums;
+        lags = g .lags;
+        position = g .position;
+        pitch = g .pitch;
+        searching = g .searching;
+      }
+
+  pub changed-good : {s : Settings} {t′ : Tuner} {a : Answer} → Changed t s t′ a → Good t′ × Lengths t′
+  changed-good {s} p = rw (p .tuner) (go (p .verdict))
+    where
+      go : {v : ℕ} → ChangeVerdict t s v → Good (cond (eqb v 0) (withSettings t s) t) × Lengths (cond (eqb v 0) (withSettings t s) t)
+      go (record-out-of-range n) = (g, l)
+      go (setting-out-of-range h e) = (g, l)
+      go (changed h e) = (good-with (in-range s e), record { store = l .store; eighths = l .eighths; energies = l .energies; correlations = l .correlations; out = l .out })
+
+  pub reset-good : {t′ : Tuner} {a : Answer} → Reset t t′ a → Good t′ × Lengths t′
+  reset-good p =
+      rw (p .tuner)
+      (cond-case (eqb (p .number) 0) (fresh (t .settings)) t (λ (u : Tuner). Good u × Lengths u)
+      (λ e. (good-fresh (t .settings) (is-in-range (t .settings) (g .settings)), fresh-lengths (t .settings)))
+      (λ e. (g, l)))
+
+pub started-good : {s : Settings} {t′ : Tuner} {a : Answer} → Started s t′ a → Good t′ × Lengths t′
+started-good {s} p =
+    rw (p .tuner)
+    (cond-case (inRange s) s defaults (λ (r : Settings). Good (fresh r) × Lengths (fresh r))
+    (λ e. (good-fresh s e, fresh-lengths s))
+    (λ e. (good-fresh defaults defaults-in-range, fresh-lengths defaults)))
+
+pub reached-good : {t : Tuner} → Reached t → Good t × Lengths t
+reached-good (by-start p) = started-good p
+reached-good (by-block r p) = let h = reached-good r in took-good (h .0) (h .1) p
+reached-good (by-change r p) = let h = reached-good r in changed-good (h .0) (h .1) p
+reached-good (by-reset r p) = let h = reached-good r in reset-good (h .0) (h .1) p
+
+-- never ahead of the input, never over 1,000 samples behind, after any samples that come
+pub reached-in-bounds : {t : Tuner} → Reached t → (xs : List ℤ) → InBounds (t .count + length xs) (after (t .settings) (takeOf t) xs .position)
+unfolding takeOf
+reached-in-bounds r xs = let g = reached-good r .0 in always-in-bounds (g .settings) (good-sane g) xs
+
+-- ---- the answer's number is the verdict's
+
+number-by : (v : ℕ) (t : Tuner) (k : ℕ) (xs : List ℤ) → answerBy v t k xs .number ≡ v
+unfolding answerBy
+number-by zero t k xs = refl
+number-by (suc zero) t k xs = refl
+number-by (suc (suc v)) t k xs = refl
+
+module _ {t t′ : Tuner} {k : ℕ} {xs ys ys′ : List ℤ} {a : Answer} (p : Took t k xs ys t′ a ys′) where
+  took-number : p .number ≡ a .number
+  took-number = sym (ap (λ (b : Answer). b .number) (p .answer) ∙ number-by (p .number) t k xs)
+
+  -- 0 and 1 answer and write what the tuner then keeps
+  took-keeps : a .number ≤ 1 → (a ≡ counted (p .number) t′ xs) × (ys′ ≡ overlaid t′ xs ys)
+  took-keeps h =
+      let given = by-given t k xs ys (p .number) (omega (arith, took-number)) in (
+        p .answer ∙ given .0 ∙ ap (λ (u : Tuner). counted (p .number) u xs) (sym (p .tuner)),
+        p .out ∙ given .1 ∙ ap (λ (u : Tuner). overlaid u xs ys) (sym (p .tuner)),
+      )
+
+plain-number : {v : ℕ} {a : Answer} → a ≡ plain v → v ≡ a .number
+plain-number e = sym (ap (λ (b : Answer). b .number) e)
+
+-- ---- never 9
+
+good-never-nine : {t : Tuner} → Good t → NeverNine t
+good-never-nine {t} g =
+    record {
+      block = λ {k} {xs} {ys} p e. block-nine (subst (Verdict t k xs (length ys)) (took-number p ∙ e) (p .verdict));
+      change = λ {s} p e. change-nine (subst (ChangeVerdict t s) (plain-number (p .answer) ∙ e) (p .verdict));
+      reset = λ p e. reset-nine (subst (ResetVerdict t) (plain-number (p .answer) ∙ e) (p .verdict));
+    }
+  where
+    block-nine : {k room : ℕ} {xs : List ℤ} → Verdict t k xs room 9 → ⊥
+    block-nine (record-out-of-range n) = n g
+
+    change-nine : {s : Settings} → ChangeVerdict t s 9 → ⊥
+    change-nine (record-out-of-range n) = n g
+
+    reset-nine : ResetVerdict t 9 → ⊥
+    reset-nine (record-out-of-range n) = n g
+
+pub never-nine : {t : Tuner} → Reached t → NeverNine t
+never-nine r = good-never-nine (reached-good r .0)
+
+-- ---- a refusal changes nothing
+
+module _ {t t′ : Tuner} {k : ℕ} {xs ys ys′ : List ℤ} {a : Answer} (p : Took t k xs ys t′ a ys′) where
+  -- a block that is not taken, given again or refused, leaves the tuner as it was
+  pub untaken-unchanged : 0 < a .number → t′ ≡ t
+  untaken-unchanged h = p .tuner ∙ tuner-kept t k xs (λ z. omega (arith, took-number p))
+
+  -- one that is refused leaves the output too
+  pub refused-unchanged : 1 < a .number → (t′ ≡ t) × (ys′ ≡ ys)
+  refused-unchanged h = (untaken-unchanged (omega arith), p .out ∙ by-refused t k xs ys (p .number) (omega (arith, took-number p)) .1)
+
+kept-unless-zero : {v : ℕ} (u : Tuner) {t t′ : Tuner} {a : Answer} → t′ ≡ cond (eqb v 0) u t → a ≡ plain v → 0 < a .number → t′ ≡ t
+kept-unless-zero {v} u {t} e f h = e ∙ cond-no u t (ne-eqb v 0 (λ z. omega (arith, plain-number f)))
+
+pub refused-change-unchanged : {t t′ : Tuner} {s : Settings} {a : Answer} → Changed t s t′ a → 0 < a .number → t′ ≡ t
+refused-change-unchanged {t} {s = s} p h = kept-unless-zero (withSettings t s) (p .tuner) (p .answer) h
+
+pub refused-reset-unchanged : {t t′ : Tuner} {a : Answer} → Reset t t′ a → 0 < a .number → t′ ≡ t
+refused-reset-unchanged {t} p h = kept-unless-zero (fresh (t .settings)) (p .tuner) (p .answer) h
+
+-- ---- the last block again
+
+pub same-last-self : {u : Tuner} → SameLast u u
+same-last-self = record { store = refl; number = refl; length = refl; repeated = refl; dropped = refl; out = refl }
+
+module _ {u w w′ : Tuner} {a : Answer} (same : SameLast u w) where
+  pub same-last-changed : {s : Settings} → Changed w s w′ a → SameLast u w′
+  same-last-changed {s} p =
+      rw (p .tuner)
+      (cond-case (eqb (p .number) 0) (withSettings w s) w (SameLast u)
+      (λ e. record { store = same .store; number = same .number; length = same .length; repeated = same .repeated; dropped = same .dropped; out = same .out })
+      (λ e. same))
+
+  pub same-last-refused : {k : ℕ} {xs ys ys′ : List ℤ} → Took w k xs ys w′ a ys′ → 0 < a .number → SameLast u w′
+  same-last-refused p h = subst (SameLast u) (sym (untaken-unchanged p h)) same
+
+pub meanwhile-good : {u w : Tuner} → Good u → Lengths u → Meanwhile u w → Good w × Lengths w
+meanwhile-good g l nothing = (g, l)
+meanwhile-good g l (a-change m p) = let h = meanwhile-good g l m in changed-good (h .0) (h .1) p
+meanwhile-good g l (a-block m p n) = let h = meanwhile-good g l m in took-good (h .0) (h .1) p
+
+pub meanwhile-same : {u w : Tuner} → Meanwhile u w → SameLast u w
+meanwhile-same nothing = same-last-self
+meanwhile-same (a-change m p) = same-last-changed (meanwhile-same m) p
+meanwhile-same (a-block m p n) = same-last-refused (meanwhile-same m) p n
+
+-- what is written first is what is read first
+overlaid-starts : (u : Tuner) (xs ys : List ℤ) → length xs ≤ length (u .out) → take (length xs) (overlaid u xs ys) ≡ take (length xs) (u .out)
+overlaid-starts u xs ys h = take-at (take (length xs) (u .out)) (drop (length xs) ys) (length xs) (length-take-le (length xs) (u .out) h)
+
+-- block k of the samples xs is taken, and sent again to a tuner with the same last block
+module _ {t u : Tuner} {k : ℕ} {xs ys zs : List ℤ} {a : Answer} (g : Good t) (l : Lengths t) (p : Took t k xs ys u a zs) (first : a .number ≡ 0) where
+  number-zero : p .number ≡ 0
+  number-zero = took-number p ∙ first
+
+  taken-fits : Fits t xs (length ys)
+  taken-fits = verdict-fits (p .verdict) (omega (arith, number-zero))
+
+  taken-is : u ≡ afterBlock t k xs
+  taken-is = p .tuner ∙ tuner-taken t k xs number-zero
+
+  module _ {w : Tuner} (gw : Good w) (same : SameLast u w) where
+    last-length : w .length ≡ length xs
+    unfolding afterBlock
+    last-length = same .length ∙ ap (λ (v : Tuner). v .length) taken-is
+
+    last-number : w .number ≡ k
+    unfolding afterBlock
+    last-number = same .number ∙ ap (λ (v : Tuner). v .number) taken-is
+
+    last-store : w .store ≡ keeping (t .store) xs
+    unfolding afterBlock
+    last-store = same .store ∙ ap (λ (v : Tuner). v .store) taken-is
+
+    last-are : xs ≡ lastSamples w
+    last-are =
+        let all : length xs + (1764 - length xs) ≡ 1764 = omega (arith, taken-fits .most) in
+        sym
+        ((λ i. drop (1764 - last-length i) (last-store i))
+        ∙ drop-drop (1764 - length xs) (length xs) (t .store ++ xs)
+        ∙ ap (λ (n : ℕ). drop n (t .store ++ xs)) all
+        ∙ drop-at (t .store) xs 1764 (l .store))
+
+    verdict-again : {room : ℕ} → length xs ≤ room → Verdict w k xs room 1
+    verdict-again h =
+        given-again (record { good = gw; some = taken-fits .some; most = taken-fits .most; written = h })
+        (omega (arith, last-length, taken-fits .some), sym last-number) last-are
+
+    pub again : {w′ : Tuner} {b : Answer} {ys₂ zs₂ : List ℤ} → length xs ≤ length ys₂ → Took w k xs ys₂ w′ b zs₂ → GivenAgain (length xs) w w′ a b zs zs₂
+    again {w′} {ys₂ = ys₂} room q =
+        let one = sym (took-number q) ∙ verdict-one (q .verdict) (verdict-again room) in
+        let before = took-keeps p (omega arith) in
+        let now = took-keeps q (omega arith) in
+        let stays = untaken-unchanged q (omega arith) in
+        let out : w′ .out ≡ u .out = ap (λ (v : Tuner). v .out) stays ∙ same .out in
+        let long : length xs ≤ length (u .out) = omega (arith, ap (λ (v : Tuner). length (v .out)) taken-is, after-lengths t k xs l (taken-fits .most) .out, taken-fits .most) in
+        record {
+          number = one;
+          tuner = stays;
+          written = ap (λ (c : Answer). c .written) (now .0) ∙ sym (ap (λ (c : Answer). c .written) (before .0));
+          repeated = ap (λ (c : Answer). c .repeated) (now .0) ∙ ap (λ (v : Tuner). v .repeated) stays ∙ same .repeated ∙ sym (ap (λ (c : Answer). c .repeated) (before .0));
+          dropped = ap (λ (c : Answer). c .dropped) (now .0) ∙ ap (λ (v : Tuner). v .dropped) stays ∙ same .dropped ∙ sym (ap (λ (c : Answer). c .dropped) (before .0));
+          samples =
+              ap (take (length xs)) (now .1) ∙ overlaid-starts w′ xs ys₂ (omega (arith, ap length out)) ∙ ap (take (length xs)) out
+              ∙ sym (ap (take (length xs)) (before .1) ∙ overlaid-starts u xs ys long);
+        }
+
+  -- after any refusals, changes and repeats in between
+  pub again-after : {w w′ : Tuner} {b : Answer} {ys₂ zs₂ : List ℤ} → Meanwhile u w → length xs ≤ length ys₂ → Took w k xs ys₂ w′ b zs₂ → GivenAgain (length xs) w w′ a b zs zs₂
+  again-after m room q =
+      let h = took-good g l p in again (meanwhile-good (h .0) (h .1) m .0) (meanwhile-same m) room q
