@@ -5,4 +5,3 @@ pub mod Meters
 pub mod Tuners
 pub mod Unrounded
 pub mod Verdicts
-pub mod Reached

@@ -1,5 +1,5 @@
 -- A block is taken: the stores before and after it, and that the tuner put together from the samples' fold is `afterBlock`.
-use mathlib.Core.Path.{_≡_, refl, sym, ap, _∙_, subst}
+use mathlib.Core.Path.{_≡_, refl, sym, ap, _∙_}
 use mathlib.Core.Bool.{Bool, true, false, cond}
 use mathlib.Core.List.{List, [], _∷_, _++_, append-nil}
 use Prim.Native.Nat.{ℕ, zero, suc, _+_, _-_, _*_, _/_, _%_, _≤_, _<_}
@@ -8,13 +8,13 @@ use native.Mathlib.Nat.{zero-add, add-zero, suc-add}
 use native.Mathlib.Omega.{arith}
 use borrow.Author.Tests.{eqb-true, eqb-false}
 use lib.Dec.{eqb}
-use lib.IntN.{ℤ, pos, natAbs, _-ℤ_}
-use lib.ListN.{length, getD, take, drop, replicate, length-append, length-drop, drop-of-length-le}
+use lib.IntN.{ℤ, pos}
+use lib.ListN.{length, take, drop, replicate, length-append, length-drop, drop-of-length-le}
 use lib.Seq.{take-nil, length-take-le, take-take, take-at, drop-at, ext-getD, getD-drop}
 use mir.Syntax.{w16}
 use mir.Val.{SFits}
 use Rattle.whole.specs.Tests.{cond-case}
-use Rattle.whole.specs.Lists.{listOf, is-listOf}
+use Rattle.whole.specs.Lists.{is-listOf}
 use Rattle.rules.specs.declared.Settings.{Settings}
 use Rattle.rules.specs.Rules.{Sound, silence, heard, heardAll, E, H, eighthDue, eighthSample, eighthsAfter, Take, after, stepped}
 use Rattle.rules.specs.Energies.{E-same, H-same}
@@ -126,14 +126,18 @@ kept-age k l i h =
     let e : k + (length (drop k l) - 1 - i) ≡ length l - 1 - i = omega arith in
     sound-at (drop k l) i h ∙ getD-drop k l (length (drop k l) - 1 - i) (pos 0) ∙ ap (at l) e ∙ sym (sound-at l i (omega arith))
 
-pub kept-right : {low n : ℕ} {e : List ℕ} {h : List ℤ} (k : ℕ) (l : List ℤ) → 2 * (low + n) ≤ length (drop k l) → Right (soundOf l) low n e h → Right (soundOf (drop k l)) low n e h
-kept-right {low} {n} k l few r =
+-- sums are right over any sound with the same newest samples
+pub right-alike : {x y : Sound} {low n : ℕ} {e : List ℕ} {h : List ℤ} → ((i : ℕ) → i < 2 * (low + n) → x i ≡ y i) → Right x low n e h → Right y low n e h
+right-alike {x} {y} {low} same r =
     record {
       energies = r .energies;
       correlations = r .correlations;
-      energy = λ j m. r .energy j m ∙ sym (E-same (soundOf (drop k l)) (soundOf l) (low + j) (λ i g. kept-age k l i (omega arith)));
-      correlation = λ j m. r .correlation j m ∙ sym (H-same (soundOf (drop k l)) (soundOf l) (low + j) (λ i g. kept-age k l i (omega arith)));
+      energy = λ j m. r .energy j m ∙ E-same x y (low + j) (λ i g. same i (omega arith));
+      correlation = λ j m. r .correlation j m ∙ H-same x y (low + j) (λ i g. same i (omega arith));
     }
+
+pub kept-right : {low n : ℕ} {e : List ℕ} {h : List ℤ} (k : ℕ) (l : List ℤ) → 2 * (low + n) ≤ length (drop k l) → Right (soundOf l) low n e h → Right (soundOf (drop k l)) low n e h
+kept-right k l few r = right-alike (λ i g. sym (kept-age k l i (omega arith))) r
 
 -- sums that are right are the lists that the rules give
 pub right-energies : {x : Sound} {low n : ℕ} {e : List ℕ} {h : List ℤ} → Right x low n e h → e ≡ energiesOf x low n
@@ -152,6 +156,21 @@ made-length n x (new ∷ more) =
     (λ (l : List ℤ). length l + n / 8 ≡ (n + suc (length more)) / 8)
     (λ e. let d = eqb-true (suc n % 8) 0 e in omega arith)
     (λ e. let d : suc n % 8 ≢ 0 = eqb-false (suc n % 8) 0 e in omega arith)
+
+-- of samples, and more samples after them
+pub made-append : (n : ℕ) (x : Sound) (xs ys : List ℤ) → made n x (xs ++ ys) ≡ made n x xs ++ made (n + length xs) (heardAll x xs) ys
+unfolding made heardAll
+made-append n x [] ys = ap (λ (m : ℕ). made m x ys) (sym (add-zero n))
+made-append n x (new ∷ more) ys =
+    let y = heard new x in
+    let first = made (suc n) y more in
+    let e : suc n + length more ≡ n + suc (length more) = omega arith in
+    let rest = made-append (suc n) y more ys ∙ ap (λ (m : ℕ). first ++ made m (heardAll y more) ys) e in
+    ap (λ (l : List ℤ). cond (eighthDue (suc n)) (eighthSample y ∷ l) l) rest ∙ either (eighthDue (suc n)) (eighthSample y) first _
+  where
+    either : (b : Bool) (z : ℤ) (first last : List ℤ) → cond b (z ∷ (first ++ last)) (first ++ last) ≡ cond b (z ∷ first) first ++ last
+    either true z first last = refl
+    either false z first last = refl
 
 pub after-eighths : (s : Settings) (t : Take) (xs : List ℤ) → after s t xs .eighths ≡ heardAll (t .eighths) (made (t .count) (t .sound) xs)
 unfolding after made heardAll stepped eighthsAfter

@@ -79,7 +79,7 @@ pub record GivenAgain (n : ℕ) (w w′ : Tuner) (a b : Answer) (zs zs₂ : List
 -- ---- a fresh tuner is good
 
 -- silence, and zeros heard after it
-still-silent : (n : ℕ) (x : Sound) → ((k : ℕ) → x k ≡ pos 0) → (k : ℕ) → heardAll x (replicate n (pos 0)) k ≡ pos 0
+pub still-silent : (n : ℕ) (x : Sound) → ((k : ℕ) → x k ≡ pos 0) → (k : ℕ) → heardAll x (replicate n (pos 0)) k ≡ pos 0
 unfolding heardAll
 still-silent zero x p = p
 still-silent (suc n) x p = still-silent n (heard (pos 0) x) (all-heard (λ z. z ≡ pos 0) p refl)
@@ -142,7 +142,7 @@ good-sane g = record { pitch = voice-sane (good-voiced g); bounds = behind-in-bo
 
 -- ---- a block leaves a good tuner
 
-keeping-length : (kept new : List ℤ) → length (keeping kept new) ≡ length kept
+pub keeping-length : (kept new : List ℤ) → length (keeping kept new) ≡ length kept
 keeping-length kept new = omega (arith, length-drop (length new) (kept ++ new), length-append kept new)
 
 -- what was silent before the take has moved on by what came
@@ -274,11 +274,11 @@ number-by (suc zero) t k xs = refl
 number-by (suc (suc v)) t k xs = refl
 
 module _ {t t′ : Tuner} {k : ℕ} {xs ys ys′ : List ℤ} {a : Answer} (p : Took t k xs ys t′ a ys′) where
-  took-number : p .number ≡ a .number
+  pub took-number : p .number ≡ a .number
   took-number = sym (ap (λ (b : Answer). b .number) (p .answer) ∙ number-by (p .number) t k xs)
 
   -- 0 and 1 answer and write what the tuner then keeps
-  took-keeps : a .number ≤ 1 → (a ≡ counted (p .number) t′ xs) × (ys′ ≡ overlaid t′ xs ys)
+  pub took-keeps : a .number ≤ 1 → (a ≡ counted (p .number) t′ xs) × (ys′ ≡ overlaid t′ xs ys)
   took-keeps h =
       let given = by-given t k xs ys (p .number) (omega (arith, took-number)) in (
         p .answer ∙ given .0 ∙ ap (λ (u : Tuner). counted (p .number) u xs) (sym (p .tuner)),
@@ -357,7 +357,7 @@ meanwhile-same (a-change m p) = same-last-changed (meanwhile-same m) p
 meanwhile-same (a-block m p n) = same-last-refused (meanwhile-same m) p n
 
 -- what is written first is what is read first
-overlaid-starts : (u : Tuner) (xs ys : List ℤ) → length xs ≤ length (u .out) → take (length xs) (overlaid u xs ys) ≡ take (length xs) (u .out)
+pub overlaid-starts : (u : Tuner) (xs ys : List ℤ) → length xs ≤ length (u .out) → take (length xs) (overlaid u xs ys) ≡ take (length xs) (u .out)
 overlaid-starts u xs ys h = take-at (take (length xs) (u .out)) (drop (length xs) ys) (length xs) (length-take-le (length xs) (u .out) h)
 
 -- block k of the samples xs is taken, and sent again to a tuner with the same last block

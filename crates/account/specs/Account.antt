@@ -1,0 +1,130 @@
+-- The account: what holds after any series of calls. Definitions only, and the statement (`Theorem`); its proof is `holds` in Holds.antt.
+-- To believe it, read the rules (rules: Rules.antt, and the pieces and `accounted` of Accounts.antt) and the promises of the calls (tuner: Tuners.antt, Meters.antt).
+use mathlib.Core.Path.{_≡_}
+use mathlib.Core.Bool.{true, cond}
+use mathlib.Core.List.{List, [], _∷_, _++_}
+use Prim.Native.Nat.{ℕ, _+_}
+use lib.Dec.{eqb}
+use lib.IntN.{ℤ, pos, _+ℤ_, _-ℤ_}
+use lib.ListN.{length, take}
+use Rattle.rules.specs.declared.Settings.{Settings}
+use Rattle.rules.specs.Rules.{Sound, silence, heardAll, Given, cycles, fresh, defaults, after, samplesOut, allRepeated, allDropped}
+use Rattle.rules.specs.Position.{InBounds}
+use Rattle.rules.specs.Accounts.{Piece, afterPieces, givesPieces, ratesPieces, samplesPieces, totalOf}
+use Rattle.sums.specs.Kept.{Right}
+use Rattle.tuner.specs.declared.Tuner.{Tuner}
+use Rattle.tuner.specs.declared.Answer.{Answer}
+use Rattle.tuner.specs.declared.Meter.{Meter}
+use Rattle.tuner.specs.Tuners.{takeOf, Good, made, Took, Started, Changed, Reset}
+use Rattle.tuner.specs.Tuners as tuners
+use Rattle.tuner.specs.Meters.{Metered}
+
+-- ---- the history
+
+-- a call and what it answered; a block also with its output before and after
+pub data Call : Type 0 where
+  startDefault : Call
+  start : Settings → Answer → Call
+  change : Settings → Answer → Call
+  block : ℕ → List ℤ → List ℤ → Answer → List ℤ → Call
+  reset : Answer → Call
+  meter : Meter → Call
+
+-- the call to the tuner t keeps its promise and leaves t′; a start asks nothing of t, and the meter leaves it
+pub data Leaves (t : Tuner) : Call → Tuner → Type 0 where
+  by-default : Leaves t startDefault (tuners.fresh defaults)
+  by-start : {s : Settings} {a : Answer} {t′ : Tuner} → Started s t′ a → Leaves t (start s a) t′
+  by-change : {s : Settings} {a : Answer} {t′ : Tuner} → Changed t s t′ a → Leaves t (change s a) t′
+  by-block : {k : ℕ} {xs ys ys′ : List ℤ} {a : Answer} {t′ : Tuner} → Took t k xs ys t′ a ys′ → Leaves t (block k xs ys a ys′) t′
+  by-reset : {a : Answer} {t′ : Tuner} → Reset t t′ a → Leaves t (reset a) t′
+  by-meter : {r : Meter} → Metered t r → Leaves t (meter r) t
+
+-- any calls one after the other, the newest first, from a fresh start on
+pub data Series : List Call → Tuner → Type 0 where
+  fresh-start : Series [] (tuners.fresh defaults)
+  and-then : {cs : List Call} {c : Call} {t t′ : Tuner} → Series cs t → Leaves t c t′ → Series (c ∷ cs) t′
+
+-- since the last start or reset: each block taken, with the settings in force; what they wrote, one after the other; the counts that they answered, added up
+pub record Received : Type 0 where
+  pub settings : Settings
+  pub pieces : List Piece
+  pub written : List ℤ
+  pub repeated : ℕ
+  pub dropped : ℕ
+
+abbrev pub begun : Settings → Received
+begun s = record { settings = s; pieces = []; written = []; repeated = 0; dropped = 0 }
+
+-- one block more: its samples under the settings in force, what it wrote and what it counted
+abbrev pub withBlock : Received → List ℤ → Answer → List ℤ → Received
+withBlock r xs a ys′ =
+    record {
+      settings = r .settings;
+      pieces = r .pieces ++ (record { settings = r .settings; samples = xs } ∷ []);
+      written = r .written ++ take (a .written) ys′;
+      repeated = r .repeated + a .repeated;
+      dropped = r .dropped + a .dropped;
+    }
+
+-- a block taken is received once: one that is refused or given again adds nothing
+unfoldable pub plusBlock : Received → List ℤ → Answer → List ℤ → Received
+plusBlock r xs a ys′ = cond (eqb (a .number) 0) (withBlock r xs a ys′) r
+
+-- settings taken are in force from the next sample
+unfoldable pub plusChange : Received → Settings → Answer → Received
+plusChange r s a =
+    cond (eqb (a .number) 0) (record { settings = s; pieces = r .pieces; written = r .written; repeated = r .repeated; dropped = r .dropped }) r
+
+-- what one call adds; a start or a reset begins the account again
+unfoldable pub plus : Call → Received → Received
+plus startDefault r = begun defaults
+plus (start s a) r = begun (cond (eqb (a .number) 0) s defaults)
+plus (change s a) r = plusChange r s a
+plus (block k xs ys a ys′) r = plusBlock r xs a ys′
+plus (reset a) r = cond (eqb (a .number) 0) (begun (r .settings)) r
+plus (meter m) r = r
+
+unfoldable pub received : List Call → Received
+received [] = begun defaults
+received (c ∷ cs) = plus c (received cs)
+
+-- ---- what holds
+
+-- all samples received
+abbrev pub samplesOf : Received → List ℤ
+samplesOf r = samplesPieces (r .pieces)
+
+-- what the rules give for each of them
+abbrev pub givenOf : Received → List Given
+givenOf r = givesPieces fresh (r .pieces)
+
+-- the sound of all samples received, and of the eighth-rate samples made of them: 0 before the first
+abbrev pub heardOf : Received → Sound
+heardOf r = heardAll silence (samplesOf r)
+
+abbrev pub eighthsOf : Received → Sound
+eighthsOf r = heardAll silence (made 0 silence (samplesOf r))
+
+-- the account of the tuner t over what was received
+pub record Accounted (r : Received) (t : Tuner) : Type 0 where
+  -- the record is good, so no call is answered 9; the settings are those in force; each sample is counted once
+  pub good : Good t
+  pub settings : t .settings ≡ r .settings
+  pub count : t .count ≡ length (samplesOf r)
+  -- sums: the 109 at eighth rate and, while tracking, the eight at full rate are the direct sums over all that was received
+  pub sums : Right (eighthsOf r) 2 109 (t .energies) (t .correlations)
+  pub lags : t .voice .tracking ≡ true → Right (heardOf r) (t .voice .tracker .low) 8 (t .voice .tracker .e) (t .voice .tracker .h)
+  -- position: all rates used, minus the period of every cycle repeated, plus the period of every cycle dropped
+  pub position : takeOf t .position ≡ pos (totalOf (ratesPieces fresh (r .pieces))) -ℤ pos (cycles (allRepeated (givenOf r))) +ℤ pos (cycles (allDropped (givenOf r)))
+  -- the counts answered are the numbers of those cycles
+  pub repeated : r .repeated ≡ length (allRepeated (givenOf r))
+  pub dropped : r .dropped ≡ length (allDropped (givenOf r))
+  -- never ahead of the input nor over 1,000 samples behind: now, and after any beginning xs of the block that comes next
+  pub bounds : InBounds (t .count) (takeOf t .position)
+  pub within : (xs : List ℤ) → InBounds (length (samplesOf r) + length xs) (after (t .settings) (afterPieces fresh (r .pieces)) xs .position)
+  -- samples out: what was written is the rules' reading of all that was received
+  pub written : r .written ≡ samplesOut (givenOf r)
+
+-- after any series of calls
+abbrev pub Theorem : Type 0
+Theorem = (cs : List Call) (t : Tuner) → Series cs t → Accounted (received cs) t

@@ -1,0 +1,250 @@
+-- The proof of the account. Over any calls the tuner's record keeps to the take that the rules make of the blocks received (`Keeps`): it differs from it only in samples too old to be looked at.
+use mathlib.Core.Path.{_≡_, refl, sym, ap, _∙_, subst}
+use mathlib.Core.Bool.{true, cond}
+use mathlib.Core.List.{List, [], _∷_, _++_}
+use Prim.Native.Nat.{ℕ, _+_}
+use native.Mathlib.Omega.{arith}
+use borrow.Author.Tests.{eqb-true, eqb-false}
+use lib.Dec.{eqb}
+use lib.IntN.{ℤ, pos, _-ℤ_}
+use lib.ListN.{length, take, length-append}
+use lib.Seq.{take-at}
+use Rattle.whole.specs.Tests.{by, cond-case, cond-yes, cond-no}
+use Rattle.rules.specs.declared.Settings.{Settings}
+use Rattle.rules.specs.Rules.{Sound, silence, heardAll, Mode, searching, tracking, Pitch, unpitched, Take, Given, inputAt, fresh, inRange, defaults, after, gives, samplesOut, joined, allRepeated, allDropped}
+use Rattle.rules.specs.Ranges.{InRange, is-in-range, defaults-in-range}
+use Rattle.rules.specs.Hearing.{heardAll-append}
+use Rattle.rules.specs.Position.{in-bounds-behind}
+use Rattle.rules.specs.Blocks.{after-count, after-sound, gives-length, samplesOut-append, joined-append}
+use Rattle.rules.specs.Sane.{after-sane}
+use Rattle.rules.specs.Accounts.{Piece, afterPieces, overPieces, givesPieces, samplesPieces, InRanges, account, pieces-count, pieces-sound, afterPieces-more, givesPieces-more, pieces-sane, pieces-in-bounds}
+use Rattle.rules.specs.Local.{reach, reachEighths, SameNewest, Agree, after-agree}
+use Rattle.voice.specs.Voices.{pitchOf}
+use Rattle.tuner.specs.declared.Tuner.{Tuner}
+use Rattle.tuner.specs.declared.Answer.{Answer}
+use Rattle.tuner.specs.Tuners.{soundOf, takeOf, Good, keeping, made, trackerOf, isTracking, voiceOf, afterBlock, Took, Started, withSettings, Changed, Reset}
+use Rattle.tuner.specs.Tuners as tuners
+use Rattle.tuner.specs.Taking.{kept-age, right-alike, made-append, after-eighths}
+use Rattle.tuner.specs.Verdicts.{tuner-taken, verdict-fits}
+use Rattle.account.specs.Reached.{Lengths, still-silent, good-fresh, fresh-lengths, good-sane, keeping-length, took-good, changed-good, took-number, took-keeps, untaken-unchanged, overlaid-starts}
+use Rattle.account.specs.Account.{Call, reset, Leaves, by-default, by-start, by-change, by-block, by-reset, by-meter, Series, fresh-start, and-then, Received, begun, plusBlock, plusChange, plus, received, givenOf, heardOf, eighthsOf, Accounted, Theorem}
+
+-- ---- what each call keeps
+record Keeps (r : Received) (t : Tuner) : Type 0 where
+  good : Good t
+  lengths : Lengths t
+  settings : t .settings ≡ r .settings
+  ranges : InRanges (r .pieces)
+  agree : Agree (afterPieces fresh (r .pieces)) (takeOf t)
+  repeated : r .repeated ≡ length (allRepeated (givenOf r))
+  dropped : r .dropped ≡ length (allDropped (givenOf r))
+  written : r .written ≡ samplesOut (givenOf r)
+
+-- ---- a fresh tuner
+begun-keeps : (s : Settings) → inRange s ≡ true → Keeps (begun s) (tuners.fresh s)
+unfolding tuners.fresh fresh unpitched takeOf afterPieces overPieces samplesOut joined inputAt silence
+begun-keeps s e =
+    record {
+      good = good-fresh s e;
+      lengths = fresh-lengths s;
+      settings = refl;
+      ranges = tt;
+      agree = record { count = refl; pitch = refl; position = refl; sound = λ k h. sym (still-silent 1764 silence (λ j. refl) k); eighths = λ k h. sym (still-silent 224 silence (λ j. refl) k) };
+      repeated = refl;
+      dropped = refl;
+      written = refl;
+    }
+
+start-keeps : {s : Settings} {t′ : Tuner} {a : Answer} → Started s t′ a → Keeps (begun (cond (eqb (a .number) 0) s defaults)) t′
+start-keeps {s} p =
+    rw (p .tuner, p .answer) (by (inRange s) (λ e. rw e (begun-keeps s e)) (λ e. rw e (begun-keeps defaults defaults-in-range)))
+
+-- ---- a block taken: the record after it, and the rules' take
+agree-then : {t u v : Take} → Agree t u → Agree u v → Agree t v
+agree-then a b =
+    record {
+      count = a .count ∙ b .count;
+      pitch = a .pitch ∙ b .pitch;
+      position = a .position ∙ b .position;
+      sound = λ k h. a .sound k h ∙ b .sound k h;
+      eighths = λ k h. a .eighths k h ∙ b .eighths k h;
+    }
+
+-- a voice keeps the pitch it is made of
+voice-pitch : (p : Pitch) (x : Sound) → p ≡ pitchOf (voiceOf p x)
+unfolding isTracking trackerOf
+voice-pitch p x = λ i. record { mode = same (p .mode) i; period = p .period; note = p .note; rate = p .rate }
+  where
+    same : (m : Mode) → m ≡ cond (isTracking m) (tracking (trackerOf m x .low) (trackerOf m x .last)) searching
+    same searching = refl
+    same (tracking low last) = refl
+
+-- what is kept sounds as all of it, as far back as it goes
+keeping-age : {n : ℕ} (kept new : List ℤ) → length kept ≡ n → SameNewest n (heardAll (soundOf kept) new) (soundOf (keeping kept new))
+keeping-age kept new e k h =
+    ap (λ (x : Sound). x k) (sym (heardAll-append silence kept new)) ∙ sym (kept-age (length new) (kept ++ new) k (omega (arith, keeping-length kept new)))
+
+block-agree : (t : Tuner) (n : ℕ) (xs : List ℤ) → Good t → Lengths t → Agree (after (t .settings) (takeOf t) xs) (takeOf (afterBlock t n xs))
+unfolding takeOf afterBlock
+block-agree t n xs g l =
+    let s = t .settings in
+    let then = after s (takeOf t) xs in
+    let count = after-count s (takeOf t) xs in
+    let new8 = made (t .count) (soundOf (t .store)) xs in
+    record {
+      count = count;
+      pitch = voice-pitch (then .pitch) (soundOf (keeping (t .store) xs));
+      position = in-bounds-behind (after-sane (g .settings) (good-sane g) xs .bounds) .is ∙ ap (λ (m : ℕ). inputAt m -ℤ pos (afterBlock t n xs .behind)) count;
+      sound = λ k h. ap (λ (x : Sound). x k) (after-sound s (takeOf t) xs) ∙ keeping-age (t .store) xs (l .store) k h;
+      eighths = λ k h. ap (λ (x : Sound). x k) (after-eighths s (takeOf t) xs) ∙ keeping-age (t .eighths) new8 (l .eighths) k h;
+    }
+
+-- one piece more in range
+more-in-range : (ps : List Piece) (p : Piece) → InRanges ps → InRange (p .settings) → InRanges (ps ++ (p ∷ []))
+more-in-range [] p h r = (r, tt)
+more-in-range (q ∷ ps) p h r = (h .0, more-in-range ps p (h .1) r)
+
+module _ {r : Received} {t : Tuner} (k : Keeps r t) where
+  -- ---- a block taken
+  module _ {n : ℕ} {xs ys ys′ : List ℤ} {t′ : Tuner} {a : Answer} (p : Took t n xs ys t′ a ys′) (z : a .number ≡ 0) where
+    abbrev given : List Given
+    given = gives (t .settings) (takeOf t) xs
+
+    abbrev piece : Piece
+    piece = record { settings = r .settings; samples = xs }
+
+    taken-is : t′ ≡ afterBlock t n xs
+    taken-is = p .tuner ∙ tuner-taken t n xs (took-number p ∙ z)
+
+    -- the rules take the block alike after all pieces and after what the tuner kept of them
+    taken-alike : Agree (after (r .settings) (afterPieces fresh (r .pieces)) xs) (after (t .settings) (takeOf t) xs) × (gives (r .settings) (afterPieces fresh (r .pieces)) xs ≡ given)
+    taken-alike =
+        let all = afterPieces fresh (r .pieces) in
+        subst (λ (s : Settings). Agree (after s all xs) (after (t .settings) (takeOf t) xs) × (gives s all xs ≡ given)) (k .settings)
+        (after-agree (k .good .settings) (pieces-sane (r .pieces) (k .ranges)) (k .agree) xs)
+
+    given-more : givesPieces fresh (r .pieces ++ (piece ∷ [])) ≡ givenOf r ++ given
+    given-more = givesPieces-more fresh (r .pieces) piece ∙ ap (λ (gs : List Given). givenOf r ++ gs) (taken-alike .1)
+
+    counts-more : (part : Given → List ℕ) {m c : ℕ} → m ≡ length (joined part (givenOf r)) → c ≡ length (joined part given)
+        → m + c ≡ length (joined part (givesPieces fresh (r .pieces ++ (piece ∷ []))))
+    counts-more part e f =
+        (λ i. e i + f i)
+        ∙ sym (ap (λ (gs : List Given). length (joined part gs)) given-more ∙ ap length (joined-append part (givenOf r) given) ∙ length-append (joined part (givenOf r)) (joined part given))
+
+    out-is : take (a .written) ys′ ≡ samplesOut given
+    unfolding afterBlock
+    out-is =
+        let kept = took-keeps p (omega arith) in
+        let fits = verdict-fits (p .verdict) (omega (arith, took-number p)) in
+        (λ i. take (kept .0 i .written) (kept .1 i))
+        ∙ overlaid-starts t′ xs ys (omega (arith, took-good (k .good) (k .lengths) p .1 .out, fits .most))
+        ∙ ap (λ (u : Tuner). take (length xs) (u .out)) taken-is
+        ∙ take-at (samplesOut given) _ (length xs) (gives-length (t .settings) (takeOf t) xs)
+
+  -- ---- every call
+  block-keeps : {n : ℕ} {xs ys ys′ : List ℤ} {t′ : Tuner} {a : Answer} → Took t n xs ys t′ a ys′ → Keeps (plusBlock r xs a ys′) t′
+  unfolding plusBlock afterBlock
+  block-keeps {n} {xs} {t′ = t′} {a = a} p =
+      let left = took-good (k .good) (k .lengths) p in
+      cond-case (eqb (a .number) 0) _ r (λ (q : Received). Keeps q t′)
+      (λ e. let z = eqb-true (a .number) 0 e in
+      let is = taken-is p z in
+      let kept = took-keeps p (omega arith) .0 in
+      record {
+        good = left .0;
+        lengths = left .1;
+        settings = ap (λ (u : Tuner). u .settings) is ∙ k .settings;
+        ranges = more-in-range (r .pieces) _ (k .ranges) (subst InRange (k .settings) (k .good .settings));
+        agree = rw (afterPieces-more, is) (agree-then (taken-alike p z .0) (block-agree t n xs (k .good) (k .lengths)));
+        repeated = counts-more p z (λ (g : Given). g .repeated) (k .repeated) (ap (λ (b : Answer). b .repeated) kept ∙ ap (λ (u : Tuner). u .repeated) is);
+        dropped = counts-more p z (λ (g : Given). g .dropped) (k .dropped) (ap (λ (b : Answer). b .dropped) kept ∙ ap (λ (u : Tuner). u .dropped) is);
+        written = (λ i. k .written i ++ out-is p z i) ∙ sym (ap samplesOut (given-more p z) ∙ samplesOut-append (givenOf r) (given p z));
+      })
+      (λ e. let some = eqb-false (a .number) 0 e in subst (Keeps r) (sym (untaken-unchanged p (omega arith))) k)
+
+  change-keeps : {s : Settings} {t′ : Tuner} {a : Answer} → Changed t s t′ a → Keeps (plusChange r s a) t′
+  unfolding plusChange takeOf
+  change-keeps {s} {t′} p =
+      let left = changed-good (k .good) (k .lengths) p in
+      subst (λ (b : Answer). Keeps (plusChange r s b) t′) (sym (p .answer))
+      (cond-case (eqb (p .number) 0) _ r (λ (q : Received). Keeps q t′)
+      (λ e. let is = p .tuner ∙ cond-yes (withSettings t s) t e in
+      record {
+        good = left .0;
+        lengths = left .1;
+        settings = ap (λ (u : Tuner). u .settings) is;
+        ranges = k .ranges;
+        agree = subst (λ (u : Tuner). Agree (afterPieces fresh (r .pieces)) (takeOf u)) (sym is) (k .agree);
+        repeated = k .repeated;
+        dropped = k .dropped;
+        written = k .written;
+      })
+      (λ e. subst (Keeps r) (sym (p .tuner ∙ cond-no (withSettings t s) t e)) k))
+
+  reset-keeps : {t′ : Tuner} {a : Answer} → Reset t t′ a → Keeps (plus (reset a) r) t′
+  unfolding plus
+  reset-keeps {t′} p =
+      let first = tuners.fresh (t .settings) in
+      subst (λ (b : Answer). Keeps (plus (reset b) r) t′) (sym (p .answer))
+      (cond-case (eqb (p .number) 0) _ r (λ (q : Received). Keeps q t′)
+      (λ e. rw (p .tuner ∙ cond-yes first t e, sym (k .settings)) (begun-keeps (t .settings) (is-in-range (t .settings) (k .good .settings))))
+      (λ e. subst (Keeps r) (sym (p .tuner ∙ cond-no first t e)) k))
+
+  call-keeps : {c : Call} {t′ : Tuner} → Leaves t c t′ → Keeps (plus c r) t′
+  unfolding plus
+  call-keeps by-default = begun-keeps defaults defaults-in-range
+  call-keeps (by-start p) = start-keeps p
+  call-keeps (by-change p) = change-keeps p
+  call-keeps (by-block p) = block-keeps p
+  call-keeps (by-reset p) = reset-keeps p
+  call-keeps (by-meter p) = k
+
+series-keeps : {cs : List Call} {t : Tuner} → Series cs t → Keeps (received cs) t
+unfolding received
+series-keeps fresh-start = begun-keeps defaults defaults-in-range
+series-keeps (and-then h p) = call-keeps (series-keeps h) p
+
+-- ---- the account of what is kept
+
+-- the eighth-rate samples of the pieces are those of all their samples
+eighths-from : (t : Take) (ps : List Piece) → afterPieces t ps .eighths ≡ heardAll (t .eighths) (made (t .count) (t .sound) (samplesPieces ps))
+unfolding afterPieces samplesPieces made heardAll
+eighths-from t [] = refl
+eighths-from t (p ∷ ps) =
+    let xs = p .samples in
+    let s = p .settings in
+    let more = samplesPieces ps in
+    eighths-from (after s t xs) ps
+    ∙ (λ i. heardAll (after-eighths s t xs i) (made (after-count s t xs i) (after-sound s t xs i) more))
+    ∙ sym (heardAll-append (t .eighths) (made (t .count) (t .sound) xs) (made (t .count + length xs) (heardAll (t .sound) xs) more))
+    ∙ ap (heardAll (t .eighths)) (sym (made-append (t .count) (t .sound) xs more))
+
+module _ {r : Received} {t : Tuner} (k : Keeps r t) where
+  eighths-are : SameNewest reachEighths (soundOf (t .eighths)) (eighthsOf r)
+  unfolding takeOf fresh
+  eighths-are i h = sym (k .agree .eighths i h) ∙ ap (λ (x : Sound). x i) (eighths-from fresh (r .pieces))
+
+  sound-is : SameNewest reach (soundOf (t .store)) (heardOf r)
+  unfolding takeOf
+  sound-is i h = sym (k .agree .sound i h) ∙ ap (λ (x : Sound). x i) (pieces-sound (r .pieces))
+
+  kept-accounted : Accounted r t
+  unfolding takeOf
+  kept-accounted =
+      record {
+        good = k .good;
+        settings = k .settings;
+        count = sym (k .agree .count) ∙ pieces-count (r .pieces);
+        sums = right-alike (λ i h. eighths-are i (omega arith)) (k .good .sums);
+        lags = λ e. let l = k .good .lags e in right-alike (λ i h. sound-is i (omega (arith, l .upto))) (l .sums);
+        position = sym (k .agree .position) ∙ account (r .pieces);
+        repeated = k .repeated;
+        dropped = k .dropped;
+        bounds = good-sane (k .good) .bounds;
+        within = pieces-in-bounds (r .pieces) (k .ranges) (k .good .settings);
+        written = k .written;
+      }
+
+pub holds : Theorem
+holds cs t h = kept-accounted (series-keeps h)
