@@ -1,9 +1,9 @@
--- The account: what holds after any series of calls. Definitions only, and the statement (`Theorem`); its proof is `holds` in Holds.antt.
+-- The account: what holds after any series of calls. Definitions only, and two statements (`Theorem`, `SentAgain`); their proofs are `holds` and `again-holds` in Holds.antt.
 -- To believe it, read the rules (rules: Rules.antt, and the pieces and `accounted` of Accounts.antt) and the promises of the calls (tuner: Tuners.antt, Meters.antt).
 use mathlib.Core.Path.{_≡_}
 use mathlib.Core.Bool.{true, cond}
 use mathlib.Core.List.{List, [], _∷_, _++_}
-use Prim.Native.Nat.{ℕ, _+_}
+use Prim.Native.Nat.{ℕ, _+_, _≤_, _<_}
 use lib.Dec.{eqb}
 use lib.IntN.{ℤ, pos, _+ℤ_, _-ℤ_}
 use lib.ListN.{length, take}
@@ -128,3 +128,26 @@ pub record Accounted (r : Received) (t : Tuner) : Type 0 where
 -- after any series of calls
 abbrev pub Theorem : Type 0
 Theorem = (cs : List Call) (t : Tuner) → Series cs t → Accounted (received cs) t
+
+-- ---- a block sent again
+
+-- calls that take no block: settings changed or refused, blocks refused or given again
+pub data Meanwhile (u : Tuner) : Tuner → Type 0 where
+  nothing : Meanwhile u u
+  a-change : {w w′ : Tuner} {s : Settings} {a : Answer} → Meanwhile u w → Changed w s w′ a → Meanwhile u w′
+  a-block : {w w′ : Tuner} {k : ℕ} {xs ys ys′ : List ℤ} {a : Answer} → Meanwhile u w → Took w k xs ys w′ a ys′ → 0 < a .number → Meanwhile u w′
+
+-- a block of n samples answered a was given again: 1, the tuner as it was, the same counts, and the same samples out
+pub record GivenAgain (n : ℕ) (w w′ : Tuner) (a b : Answer) (zs zs₂ : List ℤ) : Type 0 where
+  pub number : b .number ≡ 1
+  pub tuner : w′ ≡ w
+  pub written : b .written ≡ a .written
+  pub repeated : b .repeated ≡ a .repeated
+  pub dropped : b .dropped ≡ a .dropped
+  pub samples : take n zs₂ ≡ take n zs
+
+-- after any series of calls: a block taken, and sent again with room for its samples and no block taken between, gives the same again and changes nothing
+abbrev pub SentAgain : Type 0
+SentAgain =
+    (cs : List Call) (t u w w′ : Tuner) (k : ℕ) (xs ys zs ys₂ zs₂ : List ℤ) (a b : Answer)
+    → Series cs t → Took t k xs ys u a zs → a .number ≡ 0 → Meanwhile u w → length xs ≤ length ys₂ → Took w k xs ys₂ w′ b zs₂ → GivenAgain (length xs) w w′ a b zs zs₂

@@ -26,8 +26,8 @@ use Rattle.tuner.specs.Tuners.{soundOf, takeOf, Good, keeping, made, trackerOf,
 use Rattle.tuner.specs.Tuners as tuners
 use Rattle.tuner.specs.Taking.{kept-age, right-alike, made-append, after-eighths}
 use Rattle.tuner.specs.Verdicts.{tuner-taken, verdict-fits}
-use Rattle.account.specs.Reached.{Lengths, still-silent, good-fresh, fresh-lengths, good-sane, keeping-length, took-good, changed-good, took-number, took-keeps, untaken-unchanged, overlaid-starts}
-use Rattle.account.specs.Account.{Call, reset, Leaves, by-default, by-start, by-change, by-block, by-reset, by-meter, Series, fresh-start, and-then, Received, begun, plusBlock, plusChange, plus, received, givenOf, heardOf, eighthsOf, Accounted, Theorem}
+use Rattle.account.specs.Reached.{Lengths, still-silent, good-fresh, fresh-lengths, good-sane, keeping-length, took-good, changed-good, took-number, took-keeps, untaken-unchanged, overlaid-starts, again-after}
+use Rattle.account.specs.Account.{Call, reset, Leaves, by-default, by-start, by-change, by-block, by-reset, by-meter, Series, fresh-start, and-then, Received, begun, plusBlock, plusChange, plus, received, givenOf, heardOf, eighthsOf, Accounted, Theorem, SentAgain}
 
 -- ---- what each call keeps
 record Keeps (r : Received) (t : Tuner) : Type 0 where
@@ -248,3 +248,6 @@ module _ {r : Received} {t : Tuner} (k : Keeps r t) where
 
 pub holds : Theorem
 holds cs t h = kept-accounted (series-keeps h)
+
+pub again-holds : SentAgain
+again-holds cs t u w w′ k xs ys zs ys₂ zs₂ a b h p z m room q = let kept = series-keeps h in again-after (kept .good) (kept .lengths) p z m room q

@@ -30,6 +30,7 @@ use Rattle.tuner.specs.Tuners.{soundOf, takeOf, PitchRight, pitched, unpitched,
 use Rattle.tuner.specs.Taking.{made-length}
 use Rattle.tuner.specs.Afters.{good-voiced}
 use Rattle.tuner.specs.Verdicts.{verdict-one, verdict-fits, verdict-zero, tuner-taken, tuner-kept, by-refused, by-given, counted, overlaid, out-length}
+use Rattle.account.specs.Account.{Meanwhile, nothing, a-change, a-block, GivenAgain}
 
 -- how long a tuner's arrays are
 pub record Lengths (t : Tuner) : Type 0 where
@@ -60,21 +61,6 @@ pub record SameLast (u w : Tuner) : Type 0 where
   pub repeated : w .repeated ≡ u .repeated
   pub dropped : w .dropped ≡ u .dropped
   pub out : w .out ≡ u .out
-
--- calls that take no block: settings changed or refused, blocks refused or given again
-pub data Meanwhile (u : Tuner) : Tuner → Type 0 where
-  nothing : Meanwhile u u
-  a-change : {w w′ : Tuner} {s : Settings} {a : Answer} → Meanwhile u w → Changed w s w′ a → Meanwhile u w′
-  a-block : {w w′ : Tuner} {k : ℕ} {xs ys ys′ : List ℤ} {a : Answer} → Meanwhile u w → Took w k xs ys w′ a ys′ → 0 < a .number → Meanwhile u w′
-
--- a block of n samples answered a was given again: 1, the tuner as it was, the same counts, and the same samples out
-pub record GivenAgain (n : ℕ) (w w′ : Tuner) (a b : Answer) (zs zs₂ : List ℤ) : Type 0 where
-  pub number : b .number ≡ 1
-  pub tuner : w′ ≡ w
-  pub written : b .written ≡ a .written
-  pub repeated : b .repeated ≡ a .repeated
-  pub dropped : b .dropped ≡ a .dropped
-  pub samples : take n zs₂ ≡ take n zs
 
 -- ---- a fresh tuner is good
 
