@@ -26,7 +26,7 @@ use Rattle.tuner.specs.Tuners.{soundOf, takeOf, Good, keeping, made, trackerOf,
 use Rattle.tuner.specs.Tuners as tuners
 use Rattle.tuner.specs.Taking.{kept-age, right-alike, made-append, after-eighths}
 use Rattle.tuner.specs.Verdicts.{tuner-taken, verdict-fits}
-use Rattle.account.specs.Reached.{Lengths, still-silent, good-fresh, fresh-lengths, good-sane, keeping-length, took-good, changed-good, took-number, took-keeps, untaken-unchanged, overlaid-starts, again-after}
+use Rattle.account.specs.Calls.{Lengths, still-silent, good-fresh, fresh-lengths, good-sane, keeping-length, took-good, changed-good, took-number, took-keeps, untaken-unchanged, overlaid-starts, again-after, NeverNine, good-never-nine}
 use Rattle.account.specs.Account.{Call, reset, Leaves, by-default, by-start, by-change, by-block, by-reset, by-meter, Series, fresh-start, and-then, Received, begun, plusBlock, plusChange, plus, received, givenOf, heardOf, eighthsOf, Accounted, Theorem, SentAgain}
 
 -- ---- what each call keeps
@@ -251,3 +251,7 @@ holds cs t h = kept-accounted (series-keeps h)
 
 pub again-holds : SentAgain
 again-holds cs t u w w′ k xs ys zs ys₂ zs₂ a b h p z m room q = let kept = series-keeps h in again-after (kept .good) (kept .lengths) p z m room q
+
+-- no tuner reached from a start by calls is ever answered 9
+pub never-nine : {cs : List Call} {t : Tuner} → Series cs t → NeverNine t
+never-nine h = good-never-nine (series-keeps h .good)

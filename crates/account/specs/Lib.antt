@@ -1,3 +1,3 @@
 pub mod Account
 pub mod Holds
-pub mod Reached
+pub mod Calls

@@ -1,4 +1,4 @@
--- Every call leaves a good tuner good, so no tuner reached from a start is ever answered 9; and a refusal changes nothing.
+-- Every call leaves a good tuner good, and a good tuner is never answered 9; a refusal changes nothing.
 -- The last block sent again, whatever was refused or set in between, gives the same samples and counts and leaves the same tuner.
 use mathlib.Core.Path.{_≡_, refl, sym, ap, _∙_, subst}
 use mathlib.Core.Bool.{true, false, cond}
@@ -18,8 +18,8 @@ use Rattle.rules.specs.declared.Settings.{Settings}
 use Rattle.rules.specs.Rules.{Sound, silence, heard, heardAll, sq, E, H, Mode, searching, tracking, inRange, defaults, after}
 use Rattle.rules.specs.Ranges.{InRange, in-range, is-in-range, defaults-in-range}
 use Rattle.rules.specs.Hearing.{all-heard}
-use Rattle.rules.specs.Position.{Paced, withPeriod, withoutPeriod, InBounds, behind-in-bounds, in-bounds-behind}
-use Rattle.rules.specs.Sane.{SaneMode, SanePitch, Sane, tracking-is-not-searching, after-sane, always-in-bounds}
+use Rattle.rules.specs.Position.{Paced, withPeriod, withoutPeriod, behind-in-bounds, in-bounds-behind}
+use Rattle.rules.specs.Sane.{SaneMode, SanePitch, Sane, tracking-is-not-searching, after-sane}
 use Rattle.ages.specs.Ages.{at}
 use Rattle.sums.specs.Kept.{Right}
 use Rattle.voice.specs.declared.Voice.{Voice}
@@ -39,13 +39,6 @@ pub record Lengths (t : Tuner) : Type 0 where
   pub energies : length (t .energies) ≡ 109
   pub correlations : length (t .correlations) ≡ 109
   pub out : length (t .out) ≡ 512
-
--- a tuner reached by calls: a start, and any calls after it
-pub data Reached : Tuner → Type 0 where
-  by-start : {s : Settings} {t′ : Tuner} {a : Answer} → Started s t′ a → Reached t′
-  by-block : {t t′ : Tuner} {k : ℕ} {xs ys ys′ : List ℤ} {a : Answer} → Reached t → Took t k xs ys t′ a ys′ → Reached t′
-  by-change : {t t′ : Tuner} {s : Settings} {a : Answer} → Reached t → Changed t s t′ a → Reached t′
-  by-reset : {t t′ : Tuner} {a : Answer} → Reached t → Reset t t′ a → Reached t′
 
 -- no call on the tuner is answered 9
 pub record NeverNine (t : Tuner) : Type 0 where
@@ -240,17 +233,6 @@ started-good {s} p =
     (λ e. (good-fresh s e, fresh-lengths s))
     (λ e. (good-fresh defaults defaults-in-range, fresh-lengths defaults)))
 
-pub reached-good : {t : Tuner} → Reached t → Good t × Lengths t
-reached-good (by-start p) = started-good p
-reached-good (by-block r p) = let h = reached-good r in took-good (h .0) (h .1) p
-reached-good (by-change r p) = let h = reached-good r in changed-good (h .0) (h .1) p
-reached-good (by-reset r p) = let h = reached-good r in reset-good (h .0) (h .1) p
-
--- never ahead of the input, never over 1,000 samples behind, after any samples that come
-pub reached-in-bounds : {t : Tuner} → Reached t → (xs : List ℤ) → InBounds (t .count + length xs) (after (t .settings) (takeOf t) xs .position)
-unfolding takeOf
-reached-in-bounds r xs = let g = reached-good r .0 in always-in-bounds (g .settings) (good-sane g) xs
-
 -- ---- the answer's number is the verdict's
 
 number-by : (v : ℕ) (t : Tuner) (k : ℕ) (xs : List ℤ) → answerBy v t k xs .number ≡ v
@@ -276,7 +258,7 @@ plain-number e = sym (ap (λ (b : Answer). b .number) e)
 
 -- ---- never 9
 
-good-never-nine : {t : Tuner} → Good t → NeverNine t
+pub good-never-nine : {t : Tuner} → Good t → NeverNine t
 good-never-nine {t} g =
     record {
       block = λ {k} {xs} {ys} p e. block-nine (subst (Verdict t k xs (length ys)) (took-number p ∙ e) (p .verdict));
@@ -292,9 +274,6 @@ good-never-nine {t} g =
 
     reset-nine : ResetVerdict t 9 → ⊥
     reset-nine (record-out-of-range n) = n g
-
-pub never-nine : {t : Tuner} → Reached t → NeverNine t
-never-nine r = good-never-nine (reached-good r .0)
 
 -- ---- a refusal changes nothing
 
