@@ -3,12 +3,13 @@ use mathlib.Core.Path.{_≡_, refl, sym, ap, _∙_}
 use mathlib.Core.Bool.{Bool, cond}
 use mathlib.Core.List.{List, [], _∷_}
 use Prim.Native.Nat.{ℕ, zero, suc, _+_, _-_, _≤_, _<_}
+use native.Mathlib.Numerals.{add-one}
 use native.Mathlib.Omega.{arith}
 use borrow.Author.Tests.{eq-eqb, ne-eqb, lt-ltb, le-ltb, ltb-true, ltb-false}
 use lib.Dec.{eqb, ltb, leb·suc-suc}
 use lib.ListN.{length, getD, take, drop, length-drop}
 use lib.Seq.{getD-drop, drop-drop}
-use Rattle.whole.specs.Tests.{by}
+use Rattle.whole.specs.Tests.{by, cond-yes, cond-case}
 use Rattle.text.specs.Text.{onto, fields}
 use Rattle.text.specs.Places.{First}
 
@@ -45,3 +46,28 @@ module _ {a : List ℕ} {from r : ℕ} (f : First a from 9 r) where
       (λ l. getD-drop from a (r - from) 0 ∙ ap (λ (k : ℕ). getD a k 0) e ∙ f .stands (omega (arith, n, f .after)))
       ∙ ap (λ (t : Bool). take (r - from) (drop from a) ∷ cond t (fields (drop (suc (r - from)) (drop from a))) []) ends
       ∙ ap (λ (l : List ℕ). take (r - from) (drop from a) ∷ cond (ltb r (length a)) (fields l) []) (drop-drop (suc (r - from)) from a ∙ ap (λ (k : ℕ). drop k a) s)
+
+-- at the end there is no field, and before it there is the one that starts after the tab
+pub later-end : (a : List ℕ) (at : ℕ) → length a ≤ at → later a at ≡ []
+later-end a at h = rw (le-ltb at (length a) h)
+
+pub later-field : (a : List ℕ) (at r : ℕ) → at < length a → First a (at + 1) 9 r → later a at ≡ take (r - (at + 1)) (drop (at + 1) a) ∷ later a r
+later-field a at r h f =
+    cond-yes (fields (drop (suc at) a)) [] (lt-ltb at (length a) h) ∙ ap (λ (n : ℕ). fields (drop n a)) (sym (add-one at)) ∙ field-at f
+
+-- before the end there is a field
+fields-some : (xs : List ℕ) → 0 < length (fields xs)
+unfolding fields onto
+fields-some [] = omega arith
+fields-some (b ∷ bs) = cond-case (eqb b 9) ([] ∷ fields bs) (onto b (fields bs)) (λ (l : List (List ℕ)). 0 < length l) (λ e. omega arith) (λ e. grown (fields bs))
+  where
+    grown : (fs : List (List ℕ)) → 0 < length (onto b fs)
+    grown [] = omega arith
+    grown (f ∷ fs) = omega arith
+
+pub later-some : (a : List ℕ) (at : ℕ) → at < length a → 0 < length (later a at)
+later-some a at h = rw (lt-ltb at (length a) h) (fields-some (drop (suc at) a))
+
+-- the first field
+pub first-field : {a : List ℕ} {r : ℕ} → First a 0 9 r → fields a ≡ take r a ∷ later a r
+first-field {a} {r} f = split r a (f .within) (λ k l. f .none-before k (omega arith) l) (f .stands)

@@ -97,6 +97,10 @@ module _ {s : List ℕ} {at : ℕ} {t s′ : List ℕ} {r : ℕ} where
 pub put-byte : {s : List ℕ} {at : ℕ} (b : ℕ) {t s′ : List ℕ} {r : ℕ} → at < length s → Put (set s at b) (at + 1) t s′ r → Put s at (b ∷ t) s′ r
 put-byte {s} {at} b {t} h q = put-then (record { text = put-one s at b h; next = refl }) q (omega arith)
 
+-- a byte was put after a text
+pub put-end : {s : List ℕ} {at : ℕ} {t s′ : List ℕ} {r : ℕ} (b : ℕ) → Put s at t s′ r → at + length t < length s → Put s at (t ++ (b ∷ [])) (set s′ r b) (r + 1)
+put-end {s′ = s′} {r} b p h = put-then p (record { text = put-one s′ r b (omega (arith, p .next, put-length p (omega arith))); next = refl }) (omega arith)
+
 -- what holds at each place passed, and at the next, holds at each one passed then
 pub passed-more : {P : ℕ → Type 0} {from : ℕ} (i : ℕ) → ((k : ℕ) → from ≤ k → k < i → P k) → P i → (k : ℕ) → from ≤ k → k < i + 1 → P k
 passed-more {P} i before here k h l = by-place (ℕ-discrete k i)

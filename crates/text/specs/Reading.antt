@@ -2,7 +2,7 @@
 use mathlib.Core.Path.{_≡_, refl, sym, ap, _∙_, subst}
 use mathlib.Core.Bool.{Bool, true, false, cond, _&&_}
 use mathlib.Core.List.{List, [], _∷_}
-use mathlib.Core.Option.{Option, none, some, Option·map, bind}
+use mathlib.Core.Option.{Option, none, some, Option·map, bind, Option·some-ne-none}
 use Prim.Native.Nat.{ℕ, zero, suc, _+_, _-_, _*_, _≤_, _<_}
 use native.Mathlib.Numerals.{add-one}
 use native.Mathlib.Omega.{arith}
@@ -90,3 +90,9 @@ pub plain-sample : (f : List ℕ) (ok : Bool) (n : ℕ) → 0 < length f → (ge
 unfolding sample
 plain-sample [] ok n h m e = absurd (omega arith)
 plain-sample (b ∷ bs) ok n h m e = rw (ne-eqb b 45 m) (turned (λ (n : ℕ). pos n) ok n e)
+
+-- a field with a sample in it is not empty
+pub sample-long : (f : List ℕ) (x : ℤ) → optional true x ≡ sample f → 0 < length f
+unfolding sample
+sample-long [] x e = absurd (Option·some-ne-none x e)
+sample-long (b ∷ bs) x e = omega arith

@@ -1,0 +1,5 @@
+pub mod Batch
+pub mod Laws
+pub mod Lines
+pub mod Saying
+pub mod Steps

@@ -1,0 +1,368 @@
+// The line program's lines: a line is read, answered by the tuner's calls, and the answer is written.
+use tuner::Answer;
+use tuner::Settings;
+use tuner::Tuner;
+ghost use mathlib.Core.Path.{_≡_};
+ghost use mathlib.Core.Bool.{false};
+ghost use Prim.Native.Nat.{ℕ, _+_, _*_, _≤_, _<_};
+ghost use lib.ListN.{length, take};
+ghost use Rattle.text.specs.Text.{fields};
+ghost use Rattle.text.specs.Places.{First, optional, Put};
+ghost use Rattle.text.specs.Fields.{later};
+ghost use Rattle.lines.specs.Lines.{settingsIn, recordIn, startIn, changeIn, blockIn, resetIn, numberLine, blockLine, Answered, AnsweredAll, unreadable};
+ghost use Rattle.lines.specs.Steps.{NumberRead, SampleRead, SamplesRead, wordOf, Replied};
+
+// What a line is answered: the tuner after it, and how many bytes were written.
+pub struct Reply {
+    pub tuner: Tuner,
+    pub length: usize,
+}
+
+// What lines are answered: the tuner after them, the place after the last one, and how many bytes were written.
+pub struct Replies {
+    pub tuner: Tuner,
+    pub at: usize,
+    pub length: usize,
+}
+
+// A number read from a field, where ok, and the place after the field.
+struct NumberField {
+    ok: bool,
+    value: u32,
+    to: usize,
+}
+
+// A sample read from a field, where ok, and the place after the field.
+struct SampleField {
+    ok: bool,
+    value: i16,
+    to: usize,
+}
+
+// Settings, where ok.
+struct FourSettings {
+    ok: bool,
+    settings: Settings,
+}
+
+// How many samples were read, where ok.
+struct Count {
+    ok: bool,
+    value: usize,
+}
+
+// The number in the field after the tab at a place.
+fn number_field(line: &[u8], at: usize, most: u32) -> NumberField
+    requires { ⌜ at ≤ length (now line) ⌝ }
+    ensures { λ r. ⌜ NumberRead most (now (line .entry)) at r ⌝ }
+{
+    let n = line.len();
+    if at == n {
+        return NumberField {
+            ok: false,
+            value: 0,
+            to: n,
+        };
+    }
+    let from = at + 1;
+    let to = text::first(line, from, 9);
+    let d = text::read_number(&line[from..to], most);
+    NumberField {
+        ok: d.ok,
+        value: d.value,
+        to: to,
+    }
+}
+
+// The sample in the field after the tab at a place.
+fn sample_field(line: &[u8], at: usize) -> SampleField
+    requires { ⌜ at < length (now line) ⌝ }
+    ensures { λ r. ⌜ SampleRead (now (line .entry)) at r ⌝ }
+{
+    let from = at + 1;
+    let to = text::first(line, from, 9);
+    let d = text::read_sample(&line[from..to]);
+    SampleField {
+        ok: d.ok,
+        value: d.value,
+        to: to,
+    }
+}
+
+fn no_settings() -> FourSettings
+    ensures { λ r. ⌜ r .ok ≡ false ⌝ }
+{
+    FourSettings {
+        ok: false,
+        settings: Settings {
+            scale: 0,
+            eps: 0,
+            decay: 0,
+            floor: 0,
+        },
+    }
+}
+
+// The four settings in the fields from a place on, and no field more.
+fn four_settings(line: &[u8], at: usize) -> FourSettings
+    requires { ⌜ at ≤ length (now line) ⌝ }
+    ensures { λ r. ⌜ optional (r .ok) (r .settings) ≡ settingsIn (later (now (line .entry)) at) ⌝ }
+{
+    let a = number_field(line, at, 4294967295);
+    if !a.ok {
+        return no_settings();
+    }
+    let b = number_field(line, a.to, 4294967295);
+    if !b.ok {
+        return no_settings();
+    }
+    let c = number_field(line, b.to, 4294967295);
+    if !c.ok {
+        return no_settings();
+    }
+    let d = number_field(line, c.to, 4294967295);
+    if !d.ok {
+        return no_settings();
+    }
+    if d.to < line.len() {
+        return no_settings();
+    }
+    FourSettings {
+        ok: true,
+        settings: Settings {
+            scale: a.value,
+            eps: b.value,
+            decay: c.value,
+            floor: d.value,
+        },
+    }
+}
+
+// The samples in the fields from a place on.
+fn samples_from(line: &[u8], at: usize, xs: &mut [i16; 4096]) -> Count
+    requires { ⌜ (at ≤ length (now line)) × (length (now line) ≤ 8192) × (length (now xs) ≡ 4096) ⌝ }
+    ensures { λ r. ⌜ SamplesRead (now (line .entry)) at r (now (xs .exit)) ⌝ }
+{
+    let mut to = at;
+    let mut n: usize = 0;
+    while to < line.len() {
+        let x = sample_field(line, to);
+        if !x.ok {
+            return Count {
+                ok: false,
+                value: 0,
+            };
+        }
+        let v = x.value;
+        xs[n] = v;
+        n += 1;
+        to = x.to;
+    }
+    Count { ok: true, value: n }
+}
+
+// Writes the line with a number alone.
+fn say_number(out: &mut [u8], n: u32) -> usize
+    requires { ⌜ 4096 ≤ length (now out) ⌝ }
+    ensures { λ r. ⌜ Put (now (out .entry)) 0 (numberLine n) (now (out .exit)) r ⌝ }
+{
+    let at = text::put_number(out, 0, n);
+    out[at] = 10;
+    at + 1
+}
+
+// Writes the line that answers a block.
+fn say_block(out: &mut [u8], a: Answer, ys: &[i16]) -> usize
+    requires { ⌜ (4096 ≤ length (now out)) × (a .written ≤ 512) × (length (now ys) ≡ 512) ⌝ }
+    ensures { λ r. ⌜ Put (now (out .entry)) 0 (blockLine a (now (ys .entry))) (now (out .exit)) r ⌝ }
+{
+    let p = text::put_number(out, 0, a.number);
+    let q = text::put_field(out, p, a.written as u32);
+    let r = text::put_field(out, q, a.repeated as u32);
+    let s = text::put_field(out, r, a.dropped as u32);
+    let n = a.written as usize;
+    let t = text::put_samples(out, s, ys, n);
+    out[t] = 10;
+    t + 1
+}
+
+// A line that cannot be read prints 10 alone and changes nothing.
+fn unreadable(t: Tuner, out: &mut [u8]) -> Reply
+    requires { ⌜ 4096 ≤ length (now out) ⌝ }
+    ensures { λ r. ⌜ Replied t unreadable r (now (out .entry)) (now (out .exit)) ⌝ }
+{
+    let n = say_number(out, 10);
+    Reply {
+        tuner: t,
+        length: n,
+    }
+}
+
+// Start begins anew; if it is refused, the old tuner stays.
+fn start_line(t: Tuner, line: &[u8], at: usize, out: &mut [u8]) -> Reply
+    requires { ⌜ (at ≤ length (now line)) × (4096 ≤ length (now out)) ⌝ }
+    ensures { λ r. ⌜ Replied t (startIn (later (now (line .entry)) at)) r (now (out .entry)) (now (out .exit)) ⌝ }
+{
+    let s = four_settings(line, at);
+    if !s.ok {
+        return unreadable(t, out);
+    }
+    let d = tuner::start(s.settings);
+    let number = d.answer.number;
+    let n = say_number(out, number);
+    if number == 0 {
+        let u = d.tuner;
+        return Reply {
+            tuner: u,
+            length: n,
+        };
+    }
+    Reply {
+        tuner: t,
+        length: n,
+    }
+}
+
+fn change_line(t: Tuner, line: &[u8], at: usize, out: &mut [u8]) -> Reply
+    requires { ⌜ (at ≤ length (now line)) × (4096 ≤ length (now out)) ⌝ }
+    ensures { λ r. ⌜ Replied t (changeIn (later (now (line .entry)) at)) r (now (out .entry)) (now (out .exit)) ⌝ }
+{
+    let s = four_settings(line, at);
+    if !s.ok {
+        return unreadable(t, out);
+    }
+    let d = t.change(s.settings);
+    let n = say_number(out, d.answer.number);
+    let u = d.tuner;
+    Reply {
+        tuner: u,
+        length: n,
+    }
+}
+
+fn reset_line(t: Tuner, line: &[u8], at: usize, out: &mut [u8]) -> Reply
+    requires { ⌜ (at ≤ length (now line)) × (4096 ≤ length (now out)) ⌝ }
+    ensures { λ r. ⌜ Replied t (resetIn (later (now (line .entry)) at)) r (now (out .entry)) (now (out .exit)) ⌝ }
+{
+    if at < line.len() {
+        return unreadable(t, out);
+    }
+    let d = t.reset();
+    let n = say_number(out, d.answer.number);
+    let u = d.tuner;
+    Reply {
+        tuner: u,
+        length: n,
+    }
+}
+
+fn block_line(t: Tuner, line: &[u8], at: usize, out: &mut [u8]) -> Reply
+    requires { ⌜ (at ≤ length (now line)) × (length (now line) ≤ 8192) × (4096 ≤ length (now out)) ⌝ }
+    ensures { λ r. ⌜ Replied t (blockIn (later (now (line .entry)) at)) r (now (out .entry)) (now (out .exit)) ⌝ }
+{
+    let k = number_field(line, at, 65535);
+    if !k.ok {
+        return unreadable(t, out);
+    }
+    let mut xs = [0i16; 4096];
+    let c = samples_from(line, k.to, &mut xs);
+    if !c.ok {
+        return unreadable(t, out);
+    }
+    let number = k.value as u16;
+    let n = c.value;
+    let mut ys = [0i16; 512];
+    let d = t.block(number, &xs[..n], &mut ys);
+    let length = say_block(out, d.answer, &ys);
+    let u = d.tuner;
+    Reply {
+        tuner: u,
+        length: length,
+    }
+}
+
+// The first word: 1 start, 2 change, 3 block, 4 reset, 0 another.
+fn word(f: &[u8]) -> u32
+    ensures { λ r. ⌜ r ≡ wordOf (now (f .entry)) ⌝ }
+{
+    if text::same(f, b"start") {
+        return 1;
+    }
+    if text::same(f, b"change") {
+        return 2;
+    }
+    if text::same(f, b"block") {
+        return 3;
+    }
+    if text::same(f, b"reset") {
+        return 4;
+    }
+    0
+}
+
+// By the line's first word.
+fn record_line(t: Tuner, line: &[u8], out: &mut [u8]) -> Reply
+    requires { ⌜ (length (now line) ≤ 8192) × (4096 ≤ length (now out)) ⌝ }
+    ensures { λ r. ⌜ Replied t (recordIn (fields (now (line .entry)))) r (now (out .entry)) (now (out .exit)) ⌝ }
+{
+    let at = text::first(line, 0, 9);
+    let w = word(&line[..at]);
+    if w == 1 {
+        return start_line(t, line, at, out);
+    }
+    if w == 2 {
+        return change_line(t, line, at, out);
+    }
+    if w == 3 {
+        return block_line(t, line, at, out);
+    }
+    if w == 4 {
+        return reset_line(t, line, at, out);
+    }
+    unreadable(t, out)
+}
+
+// Answers a line, given without its end. With less room than 4,096 bytes nothing is done.
+pub fn answer_line(t: Tuner, line: &[u8], out: &mut [u8]) -> Reply
+    ensures { λ r. ⌜ Answered t (now (line .entry)) (now (out .entry)) (r .tuner) (r .length) (now (out .exit)) ⌝ }
+{
+    if out.len() < 4096 {
+        return Reply {
+            tuner: t,
+            length: 0,
+        };
+    }
+    if line.len() > 8192 {
+        return unreadable(t, out);
+    }
+    record_line(t, line, out)
+}
+
+// Answers one line after the other, as far as lines end within the input and there is room for an answer.
+pub fn answer_lines(t: Tuner, input: &[u8], out: &mut [u8]) -> Replies
+    ensures { λ r. ⌜ AnsweredAll t (now (input .entry)) (now (out .entry)) (r .tuner) (r .at) (r .length) (now (out .exit)) ⌝ }
+{
+    let mut u = t;
+    let mut at: usize = 0;
+    let mut length: usize = 0;
+    let mut end = text::first(input, 0, 10);
+    while end < input.len() {
+        if out.len() - length < 4096 {
+            return Replies {
+                tuner: u,
+                at: at,
+                length: length,
+            };
+        }
+        let r = answer_line(u, &input[at..end], &mut out[length..]);
+        u = r.tuner;
+        length += r.length;
+        at = end + 1;
+        end = text::first(input, at, 10);
+    }
+    Replies {
+        tuner: u,
+        at: at,
+        length: length,
+    }
+}
