@@ -1,6 +1,5 @@
 // The line program: standard input to standard output. It only moves bytes; what lines are answered is proved in the crate `lines`.
-ghost use mathlib.Core.Path.{_≡_};
-ghost use Prim.Native.Nat.{_+_, _≤_};
+ghost use Prim.Native.Nat.{_≤_};
 ghost use lib.ListN.{length};
 use libc::STDIN_FILENO;
 use libc::STDOUT_FILENO;
@@ -20,8 +19,7 @@ struct Served {
 }
 
 // Answers all lines that end within the input, and writes the answers.
-fn serve(t: Tuner, input: &[u8], out: &mut [u8; 65536]) -> Served
-    requires { ⌜ length (now out) ≡ 65536 ⌝ }
+fn serve(t: Tuner, input: &[u8], out: &mut [u8]) -> Served
     ensures { λ r. ⌜ r .at ≤ length (now (input .entry)) ⌝ }
 {
     let mut u = t;
@@ -39,39 +37,35 @@ fn serve(t: Tuner, input: &[u8], out: &mut [u8; 65536]) -> Served
 }
 
 // Moves what is left of the input to its front. Of a line that is too long one byte too many is enough.
-fn keep(buf: &mut [u8; 65536], from: usize, to: usize) -> usize
-    requires { ⌜ (from ≤ to) × (to ≤ 65536) × (length (now buf) ≡ 65536) ⌝ }
+fn keep(buf: &mut [u8], from: usize, to: usize) -> usize
+    requires { ⌜ (from ≤ to) × (to ≤ length (now buf)) ⌝ }
     ensures { λ r. ⌜ r ≤ 8193 ⌝ }
 {
     let rest = to - from;
     let n = if rest < 8193 { rest } else { 8193 };
     let mut i: usize = 0;
     while i < n {
-        buf[i] = buf[from + i];
+        let b = buf[from + i];
+        buf[i] = b;
         i += 1;
     }
     n
 }
 
 // Reads once, after the bytes that are held, and answers.
-fn turn(t: Tuner, buf: &mut [u8; 65536], held: usize, out: &mut [u8; 65536]) -> Turn
-    requires { ⌜ (held ≤ 8193) × (length (now buf) ≡ 65536) × (length (now out) ≡ 65536) ⌝ }
+fn one_turn(t: Tuner, buf: &mut [u8], held: usize, out: &mut [u8]) -> Turn
+    requires { ⌜ (held ≤ 8193) × (held ≤ length (now buf)) ⌝ }
     ensures { λ r. ⌜ r .held ≤ 8193 ⌝ }
 {
-    let room = 65536 - held;
     let got = libc::read(STDIN_FILENO, &mut buf[held..]);
-    if got <= 0 {
+    let n = io::count(got, &buf[held..]);
+    if n == 0 {
         return Turn {
             tuner: t,
             held: held,
             more: false,
         };
     }
-    let n = if got < room as isize {
-        got as usize
-    } else {
-        room
-    };
     let to = held + n;
     let s = serve(t, &buf[..to], out);
     let k = keep(buf, s.at, to);
@@ -84,9 +78,7 @@ fn turn(t: Tuner, buf: &mut [u8; 65536], held: usize, out: &mut [u8; 65536]) -> 
 }
 
 // A last line may lack its end.
-fn finish(t: Tuner, line: &[u8], out: &mut [u8; 65536])
-    requires { ⌜ length (now out) ≡ 65536 ⌝ }
-{
+fn finish(t: Tuner, line: &[u8], out: &mut [u8]) {
     if line.len() == 0 {
         return;
     }
@@ -103,7 +95,7 @@ fn main() {
     let mut held: usize = 0;
     let mut turns = u64::MAX;
     while turns > 0 {
-        let r = turn(t, &mut buf, held, &mut out);
+        let r = one_turn(t, &mut buf, held, &mut out);
         t = r.tuner;
         held = r.held;
         turns = if r.more { turns - 1 } else { 0 };
