@@ -47,6 +47,8 @@ fn program(arguments: &[&str]) -> Child {
 #[test]
 fn the_whole_case() {
     assert_eq!(answers(CASE.0), CASE.1);
+    let example = include_str!("../../examples/whole_case.txt");
+    assert_eq!(example, tabbed(CASE.0));
 }
 
 #[test]

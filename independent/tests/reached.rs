@@ -1,6 +1,8 @@
-//! Every branch of document 01 is reached by the scripts of some kind.
+//! Every branch of document 01 is reached by the scripts of some kind, and by
+//! the night.
 
 use independent::generator::kinds::{kind_named, KINDS};
+use independent::generator::night::{write_night, NIGHT};
 use independent::generator::script::script;
 use independent::lines::{answers_to, Program};
 use independent::statistics::Statistics;
@@ -41,9 +43,9 @@ const REACHED: &[(&str, &str, u64)] = &[
     ("cycles_repeated", "shifted", 1),
     ("cycles_dropped", "shifted", 2),
     ("reads_before_take", "rough", 1),
-    ("answer_0", "ones", 1),
+    ("answer_0", "endless", 1),
     ("answer_1", "mixed", 1),
-    ("answer_2", "rough", 1),
+    ("answer_2", "hostile", 1),
     ("answer_3", "rough", 1),
     ("answer_5", "rough", 1),
     ("answer_6", "rough", 1),
@@ -56,9 +58,15 @@ const REACHED: &[(&str, &str, u64)] = &[
 /// from a start by calls is out of range (9). The calls' own tests reach them.
 const NEVER: [&str; 3] = ["answer_4", "answer_7", "answer_9"];
 
-fn statistics(kind: &str, seed: u64) -> Statistics {
-    let script = script(kind_named(kind).unwrap(), seed, SAMPLES);
+fn statistics(kind: &str, seed: u64, samples: usize) -> Statistics {
+    let script = script(kind_named(kind).unwrap(), seed, samples);
     answers_to(&script).1
+}
+
+fn count(seen: &Statistics, name: &str) -> u64 {
+    let counters = seen.counters();
+    let counter = counters.iter().find(|counter| counter.0 == name);
+    counter.expect("the counter has this name").1
 }
 
 #[test]
@@ -67,7 +75,7 @@ fn every_branch_is_reached() {
     let mut all = Statistics::default();
     for &(_, kind, seed) in REACHED {
         runs.entry((kind, seed)).or_insert_with(|| {
-            let seen = statistics(kind, seed);
+            let seen = statistics(kind, seed, SAMPLES);
             all.add(&seen);
             seen
         });
@@ -82,15 +90,32 @@ fn every_branch_is_reached() {
             assert_eq!(total, 0, "{name}");
             continue;
         };
-        let counters = runs[&(kind, seed)].counters();
-        let (_, count) = counters.iter().find(|counter| counter.0 == name).unwrap();
-        assert!(*count > 0, "{name} by {kind} {seed}");
+        let count = count(&runs[&(kind, seed)], &name);
+        assert!(count > 0, "{name} by {kind} {seed}");
     }
     assert_eq!(in_table.len() + NEVER.len(), all.counters().len());
     let kinds: HashSet<&str> = REACHED.iter().map(|row| row.1).collect();
     assert_eq!(kinds.len(), KINDS.len(), "every kind is of use");
     // Reading comes near to 1,000 samples behind and never farther.
     assert!((65_000_000..=65_536_000).contains(&all.largest_behind));
+}
+
+/// What a kind is there to reach, it reaches in the night too.
+#[test]
+fn the_night_reaches_every_branch() {
+    for &(kind, seed, samples) in NIGHT {
+        let seen = statistics(kind, seed, samples);
+        for row in REACHED.iter().filter(|row| row.1 == kind) {
+            assert!(count(&seen, row.0) > 0, "{} by {kind} {seed}", row.0);
+        }
+    }
+    let mut night = Vec::new();
+    write_night(&mut night).unwrap();
+    let (_, seen) = answers_to(&night);
+    for (name, count) in seen.counters() {
+        let reachable = !NEVER.contains(&name.as_str());
+        assert_eq!(count > 0, reachable, "{name}: {count}");
+    }
 }
 
 #[test]

@@ -36,6 +36,8 @@ const SUMS: &[(&str, u64, u64)] = &[
     ("rough", 0x196A_6D2A_21EE_0ECE, 0xF2FE_A1EE_6BEA_7C5A),
     ("unreadable", 0x3EEE_253C_5A38_6F72, 0xF6A7_AA9B_8CFD_31AC),
     ("mixed", 0x4C33_055F_D2E0_01AD, 0x37C4_C34B_DBF2_B3A0),
+    ("hostile", 0x537F_B251_C8A5_0272, 0xD25D_A7C8_E1DF_292B),
+    ("endless", 0x4781_3C14_FD81_70D8, 0x427C_84C0_40B9_EA7D),
 ];
 
 #[test]
@@ -57,11 +59,16 @@ fn seeds_give_other_scripts() {
     }
 }
 
+fn script_in_blocks_of(length: usize, kind: &str, seed: u64, samples: usize) -> Vec<u8> {
+    let mut bytes = Vec::new();
+    let kind = kind_named(kind).unwrap();
+    write_script(kind, seed, samples, Some(length), &mut bytes).unwrap();
+    bytes
+}
+
 #[test]
 fn blocks_have_the_length_asked_for() {
-    let mut bytes = Vec::new();
-    let kind = kind_named("tones").unwrap();
-    write_script(kind, 5, 5_120, Some(512), &mut bytes).unwrap();
+    let bytes = script_in_blocks_of(512, "tones", 5, 5_120);
     let records = bytes.split(|&byte| byte == b'\n').map(Record::on);
     let lengths = records.filter_map(|record| match record {
         Some(Record::Block(_, samples)) => Some(samples.len()),
@@ -70,4 +77,13 @@ fn blocks_have_the_length_asked_for() {
     let lengths: Vec<usize> = lengths.collect();
     assert_eq!(lengths[..10], [512; 10]);
     assert_eq!(lengths[10..], [3], "the line that closes a script");
+}
+
+/// The README shows the cycles that are repeated and dropped in it.
+#[test]
+fn the_example_take_is_of_this_generator() {
+    let take = include_bytes!("../../examples/vibrato_drawn_to_a.txt");
+    assert!(take[..] == script_in_blocks_of(64, "shifted", 70, 19_200));
+    let (_, seen) = answers_to(take);
+    assert_eq!((seen.cycles_repeated, seen.cycles_dropped), (5, 6));
 }

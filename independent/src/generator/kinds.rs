@@ -1,5 +1,6 @@
 //! The kinds of script: what is sung, and how it is sent.
 
+use super::hostile::{endless_line, hostile_line};
 use super::random::Random;
 use super::sound::{period_of_note, Passage, Wave};
 use crate::table::{HIGHEST_NOTE, LOWEST_NOTE};
@@ -9,6 +10,10 @@ const FULL: f64 = 32_768.0;
 
 /// A passage by chance and by its place in the script.
 type Singing = fn(&mut Random, usize) -> Passage;
+
+/// A line after a block, by chance, by its place among such lines and for the
+/// number that would be taken next.
+type Following = fn(&mut Random, usize, u16) -> Vec<u8>;
 
 pub struct Kind {
     pub name: &'static str,
@@ -26,6 +31,8 @@ pub struct Kind {
     pub trouble: usize,
     /// So many times in a thousand by a line that cannot be read.
     pub unreadable: usize,
+    /// What follows each block, if anything does.
+    pub hostile: Option<Following>,
 }
 
 const fn kind(name: &'static str, meaning: &'static str, singing: Singing) -> Kind {
@@ -39,6 +46,7 @@ const fn kind(name: &'static str, meaning: &'static str, singing: Singing) -> Ki
         resets: 0,
         trouble: 0,
         unreadable: 0,
+        hostile: None,
     }
 }
 
@@ -106,6 +114,18 @@ pub const KINDS: &[Kind] = &[
         unreadable: 50,
         changes: 50,
         ..kind("mixed", "all of these", any)
+    },
+    Kind {
+        settings: Some("4095\t409\t0\t1"),
+        lengths: (1, 4),
+        changes: 0,
+        hostile: Some(hostile_line),
+        ..kind("hostile", "lines at the edge of what can be read", tones)
+    },
+    Kind {
+        lengths: (500, 512),
+        hostile: Some(endless_line),
+        ..kind("endless", "lines of up to a million bytes", tones)
     },
 ];
 

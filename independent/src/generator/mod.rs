@@ -3,7 +3,9 @@
 //! Sound is made with +, -, x, / and floor of IEEE doubles alone, so a kind
 //! and a seed give the same bytes on every machine.
 
+mod hostile;
 pub mod kinds;
+pub mod night;
 mod random;
 pub mod script;
 mod sound;

@@ -4,7 +4,7 @@ use super::kinds::Kind;
 use super::random::Random;
 use super::sound::sing;
 use super::spoilt::{filled_line, spoilt_line};
-use crate::lines::LONGEST_LINE;
+use crate::lines::{Record, LONGEST_LINE};
 use crate::rules::LONGEST_BLOCK;
 use std::io::{self, Write};
 
@@ -25,7 +25,7 @@ pub fn write_script(
         to,
         sung: Vec::new(),
         phase: 0.0,
-        next: 0,
+        hostile: 0,
         last: None,
     };
     script.open()?;
@@ -56,8 +56,8 @@ struct Script<'a, W> {
     phase: f64,
     /// The place of the next passage; seeds begin at other ones.
     passages: usize,
-    /// The number that will be taken next.
-    next: u16,
+    /// Hostile lines sent.
+    hostile: usize,
     /// The last block that was taken.
     last: Option<(u16, Vec<i16>)>,
 }
@@ -67,7 +67,7 @@ impl<W: Write> Script<'_, W> {
     /// unless its kind has its own.
     fn open(&mut self) -> io::Result<()> {
         match self.kind.settings {
-            Some(settings) => writeln!(self.to, "start\t{settings}"),
+            Some(settings) => self.send(format!("start\t{settings}").as_bytes()),
             None if self.random.chance(250) => Ok(()),
             None => self.send_settings("start"),
         }
@@ -75,7 +75,7 @@ impl<W: Write> Script<'_, W> {
 
     /// One script in two lacks its last line's end.
     fn close(&mut self) -> io::Result<()> {
-        let number = self.next;
+        let number = self.next();
         write!(self.to, "block\t{number}\t-0\t007\t-00032768")?;
         if self.random.chance(500) {
             writeln!(self.to)?;
@@ -88,14 +88,20 @@ impl<W: Write> Script<'_, W> {
             self.send_settings("change")?;
         }
         if self.random.chance(self.kind.resets) {
-            self.reset()?;
+            self.send(b"reset")?;
         }
         if self.random.chance(self.kind.trouble) {
             self.trouble()?;
         }
         while self.random.chance(self.kind.unreadable) {
             let line = spoilt_line(&mut self.random);
-            self.send_line(&line)?;
+            self.send(&line)?;
+        }
+        if let Some(hostile) = self.kind.hostile {
+            let next = self.next();
+            let line = hostile(&mut self.random, self.hostile, next);
+            self.hostile += 1;
+            self.send(&line)?;
         }
         Ok(())
     }
@@ -113,25 +119,15 @@ impl<W: Write> Script<'_, W> {
 
     fn next_block(&mut self, length: usize) -> io::Result<()> {
         let samples = self.hear(length);
-        self.send_as_next(samples)
+        self.send_block(self.next(), &samples)
     }
 
-    /// Sends a block that is taken.
-    fn send_as_next(&mut self, samples: Vec<i16>) -> io::Result<()> {
-        self.send_block(self.next, &samples)?;
-        self.last = Some((self.next, samples));
-        self.next = self.next.wrapping_add(1);
-        Ok(())
-    }
-
-    fn reset(&mut self) -> io::Result<()> {
-        self.new_take();
-        self.send_line(b"reset")
-    }
-
-    fn new_take(&mut self) {
-        self.next = 0;
-        self.last = None;
+    /// The number that will be taken next.
+    fn next(&self) -> u16 {
+        match &self.last {
+            Some((number, _)) => number.wrapping_add(1),
+            None => 0,
+        }
     }
 
     /// Something that is not the next block.
@@ -139,68 +135,55 @@ impl<W: Write> Script<'_, W> {
         let Some((number, samples)) = self.last.clone() else {
             return Ok(());
         };
+        let next = self.next();
         match self.random.whole(0, 99) {
             0..=29 => self.send_block(number, &samples),
             30..=39 => {
                 let mut other = samples;
                 let place = self.random.whole(0, other.len() - 1);
                 other[place] ^= 1;
-                self.send_known(number, other)
+                self.send_block(number, &other)
             }
-            40..=44 => self.send_known(number, samples[1..].to_vec()),
+            40..=44 => self.send_block(number, &samples[1..]),
             45..=49 => {
                 let mut longer = samples;
                 longer.push(0);
-                self.send_known(number, longer)
+                self.send_block(number, &longer)
             }
             50..=54 => {
                 let other = self.random.next() as u16;
-                self.send_known(other, samples)
+                self.send_block(other, &samples)
             }
             55..=59 => {
-                let other = self
-                    .random
-                    .one_of(&[number.wrapping_sub(1), self.next.wrapping_add(1)]);
-                self.send_known(other, samples)
+                let far = [number.wrapping_sub(1), number.wrapping_add(2)];
+                let other = self.random.one_of(&far);
+                self.send_block(other, &samples)
             }
             60..=64 => {
-                let number = self.random.one_of(&[number, self.next, 65_535]);
+                let number = self.random.one_of(&[number, next, 65_535]);
                 self.send_block(number, &[])
             }
             65..=69 => {
                 let length = self.random.one_of(&[513, 600, 2_000]);
-                let number = self.random.one_of(&[number, self.next, 65_535]);
+                let number = self.random.one_of(&[number, next, 65_535]);
                 self.send_block(number, &vec![7; length])
             }
             70..=74 => {
                 // As long as a line may be, and its only sample is 0.
-                let beginning = format!("block\t{}\t", self.next);
+                let beginning = format!("block\t{next}\t");
                 let line = filled_line(beginning.as_bytes(), LONGEST_LINE);
-                self.send_line(&line)?;
-                self.last = Some((self.next, vec![0]));
-                self.next = self.next.wrapping_add(1);
-                Ok(())
+                self.send(&line)
             }
             75..=84 => self.send_settings("change"),
             85..=89 => self.send_refused_settings("change"),
             90..=94 => self.send_refused_settings("start"),
             95..=96 => self.send_settings("start"),
-            97..=98 => self.reset(),
+            97..=98 => self.send(b"reset"),
             _ => {
                 // The old samples as a first block are no repeat.
-                self.reset()?;
-                self.send_as_next(samples)
+                self.send(b"reset")?;
+                self.send_block(0, &samples)
             }
-        }
-    }
-
-    /// Sends a block and keeps account of whether it is taken.
-    fn send_known(&mut self, number: u16, samples: Vec<i16>) -> io::Result<()> {
-        let repeats = self.last.as_ref().is_some_and(|last| last.0 == number);
-        let fits = (1..=LONGEST_BLOCK).contains(&samples.len());
-        match number == self.next && !repeats && fits {
-            true => self.send_as_next(samples),
-            false => self.send_block(number, &samples),
         }
     }
 
@@ -215,10 +198,8 @@ impl<W: Write> Script<'_, W> {
         let decay = random.one_of(&[0, 0, 128, 255, some]);
         let some = random.whole(1, 1_000_000);
         let floor = random.one_of(&[1, 1, 10, 100, 10_000, some]);
-        if word == "start" {
-            self.new_take();
-        }
-        writeln!(self.to, "{word}\t{scale}\t{eps}\t{decay}\t{floor}")
+        let line = format!("{word}\t{scale}\t{eps}\t{decay}\t{floor}");
+        self.send(line.as_bytes())
     }
 
     /// Settings that can be read, one or more of them out of range.
@@ -234,19 +215,33 @@ impl<W: Write> Script<'_, W> {
             "4294967295\t4294967295\t4294967295\t4294967295",
             "0000000000000000000000000\t0\t0\t0",
         ]);
-        writeln!(self.to, "{word}\t{settings}")
+        self.send(format!("{word}\t{settings}").as_bytes())
     }
 
     fn send_block(&mut self, number: u16, samples: &[i16]) -> io::Result<()> {
-        write!(self.to, "block\t{number}")?;
+        let mut line = format!("block\t{number}").into_bytes();
         for sample in samples {
-            write!(self.to, "\t{sample}")?;
+            write!(line, "\t{sample}")?;
         }
-        writeln!(self.to)
+        self.send(&line)
     }
 
-    fn send_line(&mut self, line: &[u8]) -> io::Result<()> {
-        self.to.write_all(line)?;
+    /// Sends lines and keeps account of the last block that was taken.
+    fn send(&mut self, lines: &[u8]) -> io::Result<()> {
+        for line in lines.split(|&byte| byte == b'\n') {
+            match Record::on(line) {
+                Some(Record::Block(number, samples)) => {
+                    let fits = (1..=LONGEST_BLOCK).contains(&samples.len());
+                    if number == self.next() && fits {
+                        self.last = Some((number, samples));
+                    }
+                }
+                Some(Record::Start(settings)) if settings.in_range() => self.last = None,
+                Some(Record::Reset) => self.last = None,
+                _ => {}
+            }
+        }
+        self.to.write_all(lines)?;
         writeln!(self.to)
     }
 }

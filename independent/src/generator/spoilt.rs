@@ -4,7 +4,7 @@ use super::random::Random;
 use crate::lines::LONGEST_LINE;
 
 /// Lines that cannot be read, whatever the tuner holds.
-const SPOILT: &[&[u8]] = &[
+pub const SPOILT: &[&[u8]] = &[
     b"",
     b"\t",
     b"\r",

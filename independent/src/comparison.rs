@@ -1,0 +1,244 @@
+//! Another line program, held to this one: a script to both, and the first
+//! answer that differs.
+//!
+//! Threads of their own write the other's input and read its output, so that
+//! it never stands still for this program, nor this one for it.
+
+use crate::lines::Program;
+use std::fmt;
+use std::io::{self, Read, Write};
+use std::process::{ChildStdin, ChildStdout, Command, ExitStatus, Stdio};
+use std::sync::mpsc::{channel, sync_channel, Receiver, RecvTimeoutError, Sender};
+use std::sync::Arc;
+use std::thread;
+use std::time::Duration;
+
+/// So long is an answer awaited, in seconds.
+const PATIENCE: u64 = 10;
+/// So much of a line is shown, in bytes.
+const SHOWN: usize = 200;
+
+/// How lines are sent.
+#[derive(Clone, Copy, PartialEq, Eq)]
+pub enum Host {
+    /// As fast as they are taken.
+    Streaming,
+    /// Each after the answer to the one before.
+    Waiting,
+}
+
+/// What was equal.
+#[derive(Default)]
+pub struct Equal {
+    pub lines: u64,
+    pub samples: u64,
+}
+
+impl Equal {
+    pub fn add(&mut self, other: &Equal) {
+        self.lines += other.lines;
+        self.samples += other.samples;
+    }
+
+    /// Written, repeated and dropped come before a block's samples.
+    fn add_answer(&mut self, answer: &[u8]) {
+        let tabs = answer.iter().filter(|&&byte| byte == b'\t').count();
+        self.lines += 1;
+        self.samples += tabs.saturating_sub(3) as u64;
+    }
+}
+
+impl fmt::Display for Equal {
+    fn fmt(&self, to: &mut fmt::Formatter) -> fmt::Result {
+        write!(to, "{} lines, {} samples out", self.lines, self.samples)
+    }
+}
+
+/// Why two programs are not equal.
+pub enum Unequal {
+    /// An answer differs; it is empty where there is none.
+    Answer {
+        line: u64,
+        input: Vec<u8>,
+        expected: Vec<u8>,
+        got: Vec<u8>,
+    },
+    /// The answer to this line did not come in time.
+    Silence { line: u64, input: Vec<u8> },
+    /// All answers are equal, but the other program says that it failed.
+    Status(ExitStatus),
+    /// The other program cannot be run.
+    NotRun(io::Error),
+}
+
+impl fmt::Display for Unequal {
+    fn fmt(&self, to: &mut fmt::Formatter) -> fmt::Result {
+        match self {
+            Unequal::Answer {
+                line,
+                input,
+                expected,
+                got,
+            } => {
+                let pairs = expected.iter().zip(got);
+                let same = pairs.take_while(|(expected, got)| expected == got).count();
+                let from = same.saturating_sub(SHOWN / 2);
+                writeln!(to, "line {line}, from byte {} of its answer on", same + 1)?;
+                writeln!(to, "  input     {}", shown(input, 0))?;
+                writeln!(to, "  expected  {}", shown(expected, from))?;
+                write!(to, "  got       {}", shown(got, from))
+            }
+            Unequal::Silence { line, input } => {
+                writeln!(to, "line {line}: no answer within {PATIENCE} s")?;
+                write!(to, "  input     {}", shown(input, 0))
+            }
+            Unequal::Status(status) => write!(to, "all answers are equal, but then: {status}"),
+            Unequal::NotRun(error) => write!(to, "the program cannot be run: {error}"),
+        }
+    }
+}
+
+/// A part of a line in letters that can be seen, dots where it is cut.
+fn shown(line: &[u8], from: usize) -> String {
+    let rest = &line[from..];
+    let part = &rest[..rest.len().min(SHOWN)];
+    let before = if from > 0 { ".." } else { "" };
+    let after = if part.len() < rest.len() { ".." } else { "" };
+    match line {
+        [] => "nothing".to_string(),
+        _ => format!("{before}{}{after}", part.escape_ascii()),
+    }
+}
+
+/// Gives a script to both programs, the other being this command, and counts
+/// what is equal.
+pub fn compare(
+    script: Vec<u8>,
+    command: &[String],
+    host: Host,
+    equal: &mut Equal,
+) -> Result<(), Unequal> {
+    let mut child = Command::new(&command[0])
+        .args(&command[1..])
+        .stdin(Stdio::piped())
+        .stdout(Stdio::piped())
+        .spawn()
+        .map_err(Unequal::NotRun)?;
+    let script: Arc<[u8]> = script.into();
+    let input = child.stdin.take().expect("the input is a pipe");
+    let output = child.stdout.take().expect("the output is a pipe");
+    let go = writer(input, script.clone(), host);
+    let compared = hold(&script, go, Answers::of(output), equal);
+    if compared.is_err() {
+        // It may have ended by itself, and then cannot be stopped.
+        let _ = child.kill();
+    }
+    let status = child.wait().map_err(Unequal::NotRun)?;
+    if compared.is_ok() && !status.success() {
+        return Err(Unequal::Status(status));
+    }
+    compared
+}
+
+/// Writes the script once it is told to; for a host that waits, one line each
+/// time. A program that does not take it all is told by its answers.
+fn writer(mut input: ChildStdin, script: Arc<[u8]>, host: Host) -> Sender<()> {
+    let (go, told) = channel();
+    thread::spawn(move || {
+        let mut pieces = script.split_inclusive(|&byte| host == Host::Waiting && byte == b'\n');
+        pieces.all(|piece| told.recv().is_ok() && input.write_all(piece).is_ok())
+    });
+    go
+}
+
+/// Holds the answers to this program's.
+fn hold(
+    script: &[u8],
+    go: Sender<()>,
+    mut answers: Answers,
+    equal: &mut Equal,
+) -> Result<(), Unequal> {
+    let mut program = Program::default();
+    let mut line = 1;
+    for input in script.split_inclusive(|&byte| byte == b'\n') {
+        // A streaming writer is told once, and then no longer listens.
+        let _ = go.send(());
+        let mut expected = Vec::new();
+        program.read(input, &mut expected);
+        if !input.ends_with(b"\n") {
+            program.end(&mut expected);
+        }
+        answers.hold(line, input, &expected)?;
+        equal.add_answer(&expected);
+        line += 1;
+    }
+    answers.hold(line, b"", b"")
+}
+
+/// What the other program writes, as it comes.
+struct Answers {
+    pieces: Receiver<Vec<u8>>,
+    /// Come and not yet compared.
+    come: Vec<u8>,
+    compared: usize,
+}
+
+impl Answers {
+    fn of(mut output: ChildStdout) -> Answers {
+        // Few pieces, so that a program that never stops fills no memory.
+        let (to, pieces) = sync_channel(4);
+        thread::spawn(move || {
+            let mut piece = vec![0; 65_536];
+            while let Ok(length @ 1..) = output.read(&mut piece) {
+                if to.send(piece[..length].to_vec()).is_err() {
+                    break;
+                }
+            }
+        });
+        Answers {
+            pieces,
+            come: Vec::new(),
+            compared: 0,
+        }
+    }
+
+    /// Holds the next line to the one that is expected.
+    fn hold(&mut self, line: u64, input: &[u8], expected: &[u8]) -> Result<(), Unequal> {
+        let got = self.next(expected.len()).ok_or_else(|| Unequal::Silence {
+            line,
+            input: input.to_vec(),
+        })?;
+        if got == expected {
+            return Ok(());
+        }
+        Err(Unequal::Answer {
+            line,
+            input: input.to_vec(),
+            expected: expected.to_vec(),
+            got,
+        })
+    }
+
+    /// The next line with its end, or what there is of it, once that is longer
+    /// than `enough` or nothing follows. None if it does not come in time.
+    fn next(&mut self, enough: usize) -> Option<Vec<u8>> {
+        loop {
+            let rest = &self.come[self.compared..];
+            let end = rest.iter().position(|&byte| byte == b'\n');
+            let length = end.map_or(rest.len(), |end| end + 1);
+            if end.is_some() || length > enough {
+                self.compared += length;
+                return Some(rest[..length].to_vec());
+            }
+            match self.pieces.recv_timeout(Duration::from_secs(PATIENCE)) {
+                Ok(piece) => {
+                    self.come.drain(..self.compared);
+                    self.compared = 0;
+                    self.come.extend(piece);
+                }
+                Err(RecvTimeoutError::Disconnected) => return Some(rest.to_vec()),
+                Err(RecvTimeoutError::Timeout) => return None,
+            }
+        }
+    }
+}

@@ -1,0 +1,135 @@
+//! `compare` finds equal what is equal, and the first difference of what is
+//! not.
+
+use std::process::{Command, Output};
+
+const LINES: &str = env!("CARGO_BIN_EXE_lines");
+
+fn compare(arguments: &[&str]) -> Output {
+    Command::new(env!("CARGO_BIN_EXE_compare"))
+        .args(arguments)
+        .output()
+        .unwrap()
+}
+
+/// Compares with a program of the shell, in which `lines` is this project's.
+fn compare_with(shell: &str, switches: &[&str]) -> (Option<i32>, String) {
+    let shell = shell.replace("lines", &format!("'{LINES}'"));
+    let words = [switches, &["1", "1", "3000", "--", "sh", "-c", &shell]].concat();
+    let output = compare(&words);
+    let said = String::from_utf8(output.stdout).unwrap();
+    (output.status.code(), said)
+}
+
+fn assert_unequal(shell: &str, parts: &[&str]) {
+    let (status, said) = compare_with(shell, &[]);
+    assert_eq!(status, Some(1), "{shell}");
+    for part in parts {
+        assert!(said.contains(part), "{shell}: no {part:?} in\n{said}");
+    }
+}
+
+#[test]
+fn the_program_is_equal_to_itself() {
+    let output = compare(&["7", "2", "2000", "--", LINES]);
+    let said = String::from_utf8(output.stdout).unwrap();
+    assert!(output.status.success(), "{said}");
+    let said: Vec<&str> = said.lines().collect();
+    assert!(said[0].starts_with("seed 7: "));
+    assert!(said[1].starts_with("seed 8: "));
+    assert!(said[2].starts_with("equal: "));
+    assert!(said[2].contains("; 23 kinds, seeds 7 to 8, "));
+    assert_eq!(said.len(), 3);
+    let words: Vec<&str> = said[2].split(' ').collect();
+    let (lines, samples): (u64, u64) = (words[1].parse().unwrap(), words[3].parse().unwrap());
+    assert!(lines > 5_000, "{lines} lines");
+    assert!(samples > 2 * 23 * 2_000, "{samples} samples out");
+}
+
+/// A program that answers once its input has ended is equal, and nothing
+/// stands still; but a host that waits for each answer gets none.
+#[test]
+fn a_program_that_holds_its_answers_back() {
+    let late = "lines | tac | tac";
+    let (status, said) = compare_with(late, &[]);
+    assert_eq!(status, Some(0), "{said}");
+    let (status, said) = compare_with(late, &["--waiting"]);
+    assert_eq!(status, Some(1), "{said}");
+    assert!(said.contains("kind tones, seed 1, line 1: no answer within 10 s"));
+}
+
+#[test]
+fn a_waiting_host_gets_its_answers() {
+    let (status, said) = compare_with("exec lines", &["--waiting"]);
+    assert_eq!(status, Some(0), "{said}");
+    let lines = said.strip_prefix("seed 1: ").unwrap().split(' ').next();
+    assert!(lines.unwrap().parse::<u64>().unwrap() > 1_000, "{said}");
+}
+
+#[test]
+fn wrong_programs_are_found() {
+    // Another refusal.
+    assert_unequal(
+        "lines | sed 's/^5/6/'",
+        &[
+            "not equal: kind hostile, seed 1, line ",
+            "\n  input     block\\t",
+            "\n  expected  5\\t0\\t0\\t0\\n\n",
+            "\n  got       6\\t0\\t0\\t0\\n\n",
+            "\n  script    generate hostile 1 3000\n",
+            "\nequal before that: ",
+        ],
+    );
+    // The last sample of a long block.
+    assert_unequal(
+        "lines | sed '/^0\\t5../s/.$/x/'",
+        &["kind tones, seed 1, line ", "x\\n\n", "\n  expected  .."],
+    );
+    // A carriage return.
+    assert_unequal(
+        "lines | sed '1s/$/\\r/'",
+        &["line 1, from byte 2 ", "  got       0\\r\\n\n"],
+    );
+    // Fewer answers, and more.
+    assert_unequal(
+        "lines | head -n 3",
+        &["seed 1, line 4, ", "\n  got       nothing\n"],
+    );
+    assert_unequal(
+        "lines; echo 10",
+        &["\n  expected  nothing\n  got       10\\n\n"],
+    );
+    // The last line's end, which an answer has even if its line lacks it.
+    assert_unequal("lines | head -c -1", &["kind tones, seed 1, line "]);
+    assert_unequal("yes", &["line 1, from byte 1 ", "\n  got       y\\n\n"]);
+    assert_unequal(
+        "lines; exit 3",
+        &["all answers are equal, but then: exit status: 3"],
+    );
+}
+
+#[test]
+fn a_program_that_is_not_there_is_told() {
+    let output = compare(&["1", "1", "100", "--", "there/is/no/such/program"]);
+    assert_eq!(output.status.code(), Some(1));
+    let said = String::from_utf8(output.stdout).unwrap();
+    assert!(said.contains("the program cannot be run"), "{said}");
+}
+
+#[test]
+fn wrong_arguments_are_refused() {
+    let refused: &[&[&str]] = &[
+        &[],
+        &["1", "1", "100"],
+        &["1", "1", "100", "--"],
+        &["1", "0", "100", "--", LINES],
+        &["1", "1", "many", "--", LINES],
+        &["18446744073709551615", "2", "100", "--", LINES],
+        &["--hasty", "1", "1", "100", "--", LINES],
+    ];
+    for arguments in refused {
+        let output = compare(arguments);
+        assert_eq!(output.status.code(), Some(2), "{arguments:?}");
+        assert!(output.stdout.is_empty());
+    }
+}
