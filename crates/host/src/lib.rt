@@ -270,3 +270,64 @@ pub extern "C" fn daxfolin_cut(length: usize, k: usize) -> Stretch
         count: if rest < 512 { rest } else { 512 },
     }
 }
+
+// A fresh tuner with these settings, or the default tuner beside 8. What the record held is not read.
+#[no_mangle]
+pub extern "C" fn daxfolin_start(lent: &mut Record, settings: Settings) -> u32
+    ensures { λ n. ⌜ HostStarted settings (now (lent .exit)) n ⌝ }
+{
+    let d = started(settings);
+    *lent = d.left;
+    d.answer.number
+}
+
+// A fresh tuner with the default settings. What the record held is not read.
+#[no_mangle]
+pub extern "C" fn daxfolin_start_default(lent: &mut Record)
+    ensures { λ _. ⌜ now (lent .exit) ≡ recordOf (fresh defaults) ⌝ }
+{
+    *lent = started_default();
+}
+
+// The settings count from the next sample.
+#[no_mangle]
+pub extern "C" fn daxfolin_change(lent: &mut Record, settings: Settings) -> u32
+    ensures { λ n. ⌜ HostChanged (now (lent .entry)) settings (now (lent .exit)) n ⌝ }
+{
+    let d = changed(*lent, settings);
+    *lent = d.left;
+    d.answer.number
+}
+
+// Takes a block, gives the last one again or refuses, and writes the output.
+#[no_mangle]
+pub extern "C" fn daxfolin_block(
+    lent: &mut Record,
+    number: u16,
+    samples: &[i16],
+    out: &mut [i16],
+) -> Answer
+    ensures { λ r. ⌜ HostTook (now (lent .entry)) number (now (samples .entry)) (now (out .entry)) (now (lent .exit)) r (now (out .exit)) ⌝ }
+{
+    let d = taken(*lent, number, samples, out);
+    *lent = d.left;
+    d.answer
+}
+
+// Settings kept, everything else fresh.
+#[no_mangle]
+pub extern "C" fn daxfolin_reset(lent: &mut Record) -> u32
+    ensures { λ n. ⌜ HostReset (now (lent .entry)) (now (lent .exit)) n ⌝ }
+{
+    let d = begun_again(*lent);
+    *lent = d.left;
+    d.answer.number
+}
+
+// What the meter shows.
+#[no_mangle]
+pub extern "C" fn daxfolin_meter(lent: &Record) -> Shown
+    ensures { λ m. ⌜ HostMetered (now (lent .entry)) m ⌝ }
+{
+    metered(*lent)
+}
