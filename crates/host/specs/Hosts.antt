@@ -103,12 +103,16 @@ pub record HostStarted (s : Settings) (r′ : Record) (n : ℕ) : Type 0 where
 abbrev pub nought : Float
 nought = ofBits binary32 0
 
+-- a state that shows nothing
+abbrev pub bare : ℕ → Shown
+bare state = record { state = state; lag = nought; period = nought; wanted = nought; rate = nought }
+
 -- document 01's states as numbers, and 9 for a record that is refused; what is not shown is 0
 abbrev pub shownAs : Meter → Shown
-shownAs Searching = record { state = 0; lag = nought; period = nought; wanted = nought; rate = nought }
+shownAs Searching = bare 0
 shownAs (Locking lag) = record { state = 1; lag = lag; period = nought; wanted = nought; rate = nought }
 shownAs (Pitched f) = record { state = 2; lag = nought; period = f .period; wanted = f .wanted; rate = f .rate }
-shownAs Refused = record { state = 9; lag = nought; period = nought; wanted = nought; rate = nought }
+shownAs Refused = bare 9
 
 -- a read of the meter
 pub data HostMetered (r : Record) (m : Shown) : Type 0 where

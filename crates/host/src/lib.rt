@@ -7,10 +7,9 @@ use tuner::Taken;
 use tuner::Tuner;
 use voice::Voice;
 ghost use mathlib.Core.Path.{_≡_};
-ghost use Prim.Native.Nat.{ℕ, _-_, _*_};
 ghost use Rattle.rules.specs.Rules.{defaults};
 ghost use Rattle.tuner.specs.Tuners.{fresh, plain};
-ghost use Rattle.host.specs.Hosts.{tunerOf, recordOf, shownAs, HostStarted, HostChanged, HostTook, HostReset, HostMetered, HostCut};
+ghost use Rattle.host.specs.Hosts.{tunerOf, recordOf, bare, shownAs, HostStarted, HostChanged, HostTook, HostReset, HostMetered, HostCut};
 
 // A tuner as numbers alone, so that no bytes in it are undefined: `tracking` is 0 or 1, and then the record holds a tuner.
 // 6928 bytes, none of them padding.
@@ -205,18 +204,25 @@ fn begun_again(r: Record) -> Done
     finished(Tuner::reset(tuner_of(r)))
 }
 
+// A state that shows nothing.
+fn bare(state: u32) -> Shown
+    ensures { λ r. ⌜ r ≡ bare state ⌝ }
+{
+    Shown {
+        state: state,
+        lag: 0.0,
+        period: 0.0,
+        wanted: 0.0,
+        rate: 0.0,
+    }
+}
+
 // The meter in numbers.
 fn shown_as(m: Meter) -> Shown
     ensures { λ r. ⌜ r ≡ shownAs m ⌝ }
 {
     match m {
-        Meter::Searching => Shown {
-            state: 0,
-            lag: 0.0,
-            period: 0.0,
-            wanted: 0.0,
-            rate: 0.0,
-        },
+        Meter::Searching => bare(0),
         Meter::Locking(lag) => Shown {
             state: 1,
             lag: lag,
@@ -231,13 +237,7 @@ fn shown_as(m: Meter) -> Shown
             wanted: f.wanted,
             rate: f.rate,
         },
-        Meter::Refused => Shown {
-            state: 9,
-            lag: 0.0,
-            period: 0.0,
-            wanted: 0.0,
-            rate: 0.0,
-        },
+        Meter::Refused => bare(9),
     }
 }
 
