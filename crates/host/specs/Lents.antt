@@ -25,6 +25,11 @@ use Rattle.host.specs.Hosts.{tunerOf, recordOf, Lent, held, unheld, Host
 
 -- ---- a promise of the tuner's call, met over the record
 
+pub over-one : (n : ℕ) → (n ≤ 1 → ⊥) → 1 < n
+over-one zero not = absurd (not (omega arith))
+over-one (suc zero) not = absurd (not (omega arith))
+over-one (suc (suc n)) not = omega arith
+
 -- an answer that is a number alone
 pub number-alone : {a a′ : Answer} {v : ℕ} → a ≡ plain v → a′ ≡ a → a ≡ plain (a′ .number)
 number-alone e f = e ∙ ap (λ (x : Answer). plain (x .number)) (sym e ∙ sym f)

@@ -7,6 +7,8 @@ use tuner::Taken;
 use tuner::Tuner;
 use voice::Voice;
 ghost use mathlib.Core.Path.{_≡_};
+ghost use Prim.Native.Nat.{_≤_};
+ghost use Rattle.whole.specs.Tests.{Decides};
 ghost use Rattle.rules.specs.Rules.{defaults};
 ghost use Rattle.tuner.specs.Tuners.{fresh, plain};
 ghost use Rattle.host.specs.Hosts.{tunerOf, recordOf, bare, shownAs, HostStarted, HostChanged, HostTook, HostReset, HostMetered, HostCut};
@@ -58,6 +60,13 @@ pub struct Stretch {
 pub struct Done {
     pub left: Record,
     pub answer: Answer,
+}
+
+// A record whose `tracking` is 0 or 1 holds a tuner.
+fn holds(tracking: u32) -> bool
+    ensures { λ r. ⌜ Decides r (tracking ≤ 1) ⌝ }
+{
+    tracking <= 1
 }
 
 // The tuner that a record holds.
@@ -180,7 +189,7 @@ fn started_default() -> Record
 fn changed(r: Record, s: Settings) -> Done
     ensures { λ d. ⌜ HostChanged r s (d .left) (d .answer .number) ⌝ }
 {
-    if r.tracking > 1 {
+    if !holds(r.tracking) {
         return unheld(r);
     }
     finished(Tuner::change(tuner_of(r), s))
@@ -189,7 +198,7 @@ fn changed(r: Record, s: Settings) -> Done
 fn taken(r: Record, number: u16, samples: &[i16], out: &mut [i16]) -> Done
     ensures { λ d. ⌜ HostTook r number (now (samples .entry)) (now (out .entry)) (d .left) (d .answer) (now (out .exit)) ⌝ }
 {
-    if r.tracking > 1 {
+    if !holds(r.tracking) {
         return unheld(r);
     }
     finished(Tuner::block(tuner_of(r), number, samples, out))
@@ -198,7 +207,7 @@ fn taken(r: Record, number: u16, samples: &[i16], out: &mut [i16]) -> Done
 fn begun_again(r: Record) -> Done
     ensures { λ d. ⌜ HostReset r (d .left) (d .answer .number) ⌝ }
 {
-    if r.tracking > 1 {
+    if !holds(r.tracking) {
         return unheld(r);
     }
     finished(Tuner::reset(tuner_of(r)))
@@ -244,7 +253,7 @@ fn shown_as(m: Meter) -> Shown
 fn metered(r: Record) -> Shown
     ensures { λ m. ⌜ HostMetered r m ⌝ }
 {
-    if r.tracking > 1 {
+    if !holds(r.tracking) {
         return shown_as(Meter::Refused);
     }
     shown_as(Tuner::meter(tuner_of(r)))

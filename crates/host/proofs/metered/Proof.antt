@@ -2,17 +2,22 @@
 -- Assumes nothing.
 use mathlib.Core.Path.{subst}
 use borrow.Author.Needs.{needs}
+use Rattle.whole.specs.Tests.{passed, failed}
 use Rattle.tuner.specs.declared.Tuner.{Tuner}
 use Rattle.tuner.specs.Meters.{Metered}
 use Rattle.host.specs.Hosts.{held, unheld}
+use Rattle.host.specs.Lents.{over-one}
 use Rattle.host.proofs.metered.Statement.{statement}
 use Rattle.host.proofs.metered.Tie as tie
+
+holds-requires : tie.Need-holds-requires
+holds-requires c κs = search needs
 
 shown-as-requires : tie.Need-shown-as-requires
 shown-as-requires c κs = search needs
 
 returns : tie.Need-returns
-returns c = unheld (c .before .if1 .taken) (c .shown-as .ensures)
+returns c = unheld (over-one _ (failed (c .before .before .holds .ensures) (c .before .if1 .taken))) (c .shown-as .ensures)
 
 tuner-of-requires : tie.Need-tuner-of-requires
 tuner-of-requires c κs = search needs
@@ -25,12 +30,13 @@ shown-as-requires-2 c κs = search needs
 
 returns-2 : tie.Need-returns-2
 returns-2 c =
-    held (c .before .before .before .if1 .left) (subst (λ (t : Tuner). Metered t (c .before .meter .result)) (c .before .before .tuner-of .ensures) (c .before .meter .ensures)) (c .shown-as2 .ensures)
+    held (passed (c .before .before .before .before .holds .ensures) (c .before .before .before .if1 .left)) (subst (λ (t : Tuner). Metered t (c .before .meter .result)) (c .before .before .tuner-of .ensures) (c .before .meter .ensures)) (c .shown-as2 .ensures)
 
 pub metered-spec : {M : Type 1} → statement M
 metered-spec =
     tie.close
     (tie.spec
+    holds-requires
     shown-as-requires
     returns
     tuner-of-requires

@@ -2,16 +2,20 @@
 -- Assumes nothing.
 use mathlib.Core.Path.{refl, sym}
 use borrow.Author.Needs.{needs}
+use Rattle.whole.specs.Tests.{passed, failed}
 use Rattle.host.specs.Hosts.{unheld}
-use Rattle.host.specs.Lents.{held-by}
+use Rattle.host.specs.Lents.{over-one, held-by}
 use Rattle.host.proofs.taken.Statement.{statement}
 use Rattle.host.proofs.taken.Tie as tie
+
+holds-requires : tie.Need-holds-requires
+holds-requires c κs = search needs
 
 unheld-requires : tie.Need-unheld-requires
 unheld-requires c κs = search needs
 
 returns : tie.Need-returns
-returns c = unheld (c .before .if1 .taken) (c .unheld .ensures .1) (c .unheld .ensures .0) refl
+returns c = unheld (over-one _ (failed (c .before .before .holds .ensures) (c .before .if1 .taken))) (c .unheld .ensures .1) (c .unheld .ensures .0) refl
 
 tuner-of-requires : tie.Need-tuner-of-requires
 tuner-of-requires c κs = search needs
@@ -28,12 +32,13 @@ same-length c = search needs
 returns-2 : tie.Need-returns-2
 returns-2 c =
     let f = c .finished .ensures in
-    held-by _ (c .before .before .before .before .before .if1 .left) (c .before .before .before .before .tuner-of .ensures) (c .before .before .block .ensures) (f .0) (sym (f .1))
+    held-by _ (passed (c .before .before .before .before .before .before .holds .ensures) (c .before .before .before .before .before .if1 .left)) (c .before .before .before .before .tuner-of .ensures) (c .before .before .block .ensures) (f .0) (sym (f .1))
 
 pub taken-spec : {M : Type 1} → statement M
 taken-spec =
     tie.close
     (tie.spec
+    holds-requires
     unheld-requires
     returns
     tuner-of-requires
