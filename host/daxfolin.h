@@ -47,8 +47,8 @@ typedef struct daxfolin_settings {
     uint32_t floor; /* 1 to 1,000,000: a mean square */
 } daxfolin_settings;
 
-/* What daxfolin_start_default starts with. */
-#define DAXFOLIN_DEFAULTS ((daxfolin_settings){4095, 100, 0, 100})
+/* What daxfolin_start_default starts with: `daxfolin_settings settings = DAXFOLIN_DEFAULTS;`. */
+#define DAXFOLIN_DEFAULTS {4095, 100, 0, 100}
 
 /* A tuner, as numbers alone: any bytes are a record, and one that is not good is answered 9. It may be copied, stored and sent as
  * bytes (little-endian, no padding). A host has no need to look into it. */
