@@ -9,6 +9,7 @@ pub mod generator;
 pub mod history;
 pub mod lines;
 pub mod play;
+pub mod record;
 pub mod rules;
 pub mod settings;
 pub mod statistics;

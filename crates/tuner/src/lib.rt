@@ -36,6 +36,7 @@ pub struct Tuner {
 }
 
 // Document 01's number, and the samples written, cycles repeated and cycles dropped.
+#[repr(C)]
 pub struct Answer {
     pub number: u32,
     pub written: u16,

@@ -3,6 +3,7 @@
 //! Sound is made with +, -, x, / and floor of IEEE doubles alone, so a kind
 //! and a seed give the same bytes on every machine.
 
+pub mod cases;
 mod hostile;
 pub mod kinds;
 pub mod night;

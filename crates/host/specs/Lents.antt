@@ -1,0 +1,196 @@
+-- Laws of the host's promises: nothing is lost between a record and its tuner, a refusal changes nothing, and no second answer meets a promise.
+use mathlib.Core.Path.{_≡_, refl, sym, ap, _∙_, subst}
+use mathlib.Core.Bool.{Bool, true, false, cond}
+use mathlib.Core.List.{List}
+use mathlib.Core.Logic.{_⊎_, inl, inr, ⊎-elim}
+use Prim.Native.Nat.{ℕ, zero, suc, _-_, _*_, _≤_, _<_, min}
+use native.Mathlib.Nat.{min-eq-left, min-eq-right}
+use native.Mathlib.Omega.{arith}
+use borrow.Author.Tests.{leb-true, leb-false, ne-eqb}
+use lib.Dec.{eqb, leb}
+use lib.IntN.{ℤ}
+use lib.ListN.{length, take, drop, length-drop, drop-of-length-le}
+use lib.Seq.{take-all}
+use Rattle.whole.specs.Tests.{by, cond-no}
+use Rattle.rules.specs.declared.Settings.{Settings}
+use Rattle.tuner.specs.declared.Tuner.{Tuner}
+use Rattle.tuner.specs.declared.Answer.{Answer}
+use Rattle.tuner.specs.Tuners.{plain, answerBy, Took}
+use Rattle.tuner.specs.Meters.{one-meter, one-start}
+use Rattle.tuner.specs.Verdicts.{tuner-kept, by-refused, took-one, changed-one, reset-one}
+use Rattle.host.specs.declared.Record.{Record}
+use Rattle.host.specs.declared.Shown.{Shown}
+use Rattle.host.specs.declared.Stretch.{Stretch}
+use Rattle.host.specs.Hosts.{tunerOf, recordOf, Lent, held, unheld, HostTook, HostChanged, HostReset, HostStarted, shownAs, HostMetered, HostCut}
+
+-- ---- a promise of the tuner's call, met over the record
+
+pub over-one : (n : ℕ) → (n ≤ 1 → ⊥) → 1 < n
+over-one zero not = absurd (not (omega arith))
+over-one (suc zero) not = absurd (not (omega arith))
+over-one (suc (suc n)) not = omega arith
+
+-- an answer that is a number alone
+pub number-alone : {a a′ : Answer} {v : ℕ} → a ≡ plain v → a′ ≡ a → a ≡ plain (a′ .number)
+number-alone e f = e ∙ ap (λ (x : Answer). plain (x .number)) (sym e ∙ sym f)
+
+module _ {Call : Tuner → Tuner → Answer → Type 0} {untouched : Type 0} {r r′ : Record} where
+  pub held-by : {t : Tuner} (t′ : Tuner) {a a′ : Answer} → r .tracking ≤ 1 → t ≡ tunerOf r → Call t t′ a → r′ ≡ recordOf t′ → a ≡ a′ → Lent Call untouched r r′ a′
+  held-by {t} t′ {a′ = a′} h e p l f = held h (subst (λ (u : Tuner). Call u t′ a′) e (subst (Call t t′) f p)) l
+
+  pub unheld-by : {a : Answer} → 1 < r .tracking → a ≡ plain 9 → r′ ≡ r → untouched → Lent Call untouched r r′ (plain (a .number))
+  unheld-by h e l u = unheld h (ap (λ (x : Answer). plain (x .number)) e) l u
+
+-- ---- nothing is lost
+
+-- 0 and 1, as a truth and back
+zero-or-one : (n : ℕ) → n ≤ 1 → cond (eqb n 1) 1 0 ≡ n
+zero-or-one zero h = refl
+zero-or-one (suc zero) h = refl
+zero-or-one (suc (suc n)) h = absurd (omega arith)
+
+as-number : (b : Bool) → eqb (cond b 1 0) 1 ≡ b
+as-number true = refl
+as-number false = refl
+
+-- a record that holds a tuner is that tuner's
+pub record-same : (r : Record) → r .tracking ≤ 1 → recordOf (tunerOf r) ≡ r
+unfolding recordOf tunerOf
+record-same r h =
+    λ i. record {
+      settings = r .settings;
+      count = r .count;
+      behind = r .behind;
+      tracking = zero-or-one (r .tracking) h i;
+      period = r .period;
+      note = r .note;
+      rate = r .rate;
+      low = r .low;
+      last = r .last;
+      number = r .number;
+      length = r .length;
+      repeated = r .repeated;
+      dropped = r .dropped;
+      e = r .e;
+      h = r .h;
+      energies = r .energies;
+      correlations = r .correlations;
+      store = r .store;
+      eighths = r .eighths;
+      out = r .out;
+    }
+
+-- a tuner is held by its record, and is the one that it holds
+pub tuner-held : (t : Tuner) → recordOf t .tracking ≤ 1
+unfolding recordOf
+tuner-held t = truth (t .voice .tracking) where
+  truth : (b : Bool) → cond b 1 0 ≤ 1
+  truth true = omega arith
+  truth false = omega arith
+
+pub tuner-same : (t : Tuner) → tunerOf (recordOf t) ≡ t
+unfolding recordOf tunerOf
+tuner-same t = rw (as-number (t .voice .tracking))
+
+-- so a call over a tuner's record is the tuner's call
+pub tuner's-call : {Call : Tuner → Tuner → Answer → Type 0} {untouched : Type 0} (t : Tuner) {r′ : Record} {a : Answer} → Lent Call untouched (recordOf t) r′ a → (t′ : Tuner) × Call t t′ a × (r′ ≡ recordOf t′)
+tuner's-call {Call} t {a = a} (held h {t′} p e) = (t′, subst (λ (u : Tuner). Call u t′ a) (tuner-same t) p, e)
+tuner's-call t (unheld h e l u) = let k = tuner-held t in absurd (omega arith)
+
+-- ---- no second answer
+
+module _ {Call Call′ : Tuner → Tuner → Answer → Type 0} {untouched untouched′ Same : Type 0} {r r₁ r₂ : Record} {a₁ a₂ : Answer} where
+  lent-one : ((t₁ t₂ : Tuner) → Call (tunerOf r) t₁ a₁ → Call′ (tunerOf r) t₂ a₂ → (t₁ ≡ t₂) × (a₁ ≡ a₂) × Same) → (untouched → untouched′ → Same)
+      → Lent Call untouched r r₁ a₁ → Lent Call′ untouched′ r r₂ a₂ → (r₁ ≡ r₂) × (a₁ ≡ a₂) × Same
+  lent-one f g (held h {t′ = t₁} p e) (held h′ {t′ = t₂} p′ e′) = let (t, a, s) = f t₁ t₂ p p′ in (e ∙ ap recordOf t ∙ sym e′, a, s)
+  lent-one f g (held h p e) (unheld h′ a′ e′ u′) = absurd (omega arith)
+  lent-one f g (unheld h a e u) (held h′ p′ e′) = absurd (omega arith)
+  lent-one f g (unheld h a e u) (unheld h′ a′ e′ u′) = (e ∙ sym e′, a ∙ sym a′, g u u′)
+
+-- answers that are numbers alone
+numbers : {r₁ r₂ : Record} (n m : ℕ) → (r₁ ≡ r₂) × (plain n ≡ plain m) × Unit {0} → (r₁ ≡ r₂) × (n ≡ m)
+numbers n m (e, f, u) = (e, ap (λ (a : Answer). a .number) f)
+
+module _ {r r₁ r₂ : Record} where
+  pub host-took-one : {k : ℕ} {xs ys zs₁ zs₂ : List ℤ} {a₁ a₂ : Answer} → HostTook r k xs ys r₁ a₁ zs₁ → HostTook r k xs ys r₂ a₂ zs₂ → (r₁ ≡ r₂) × (a₁ ≡ a₂) × (zs₁ ≡ zs₂)
+  host-took-one = lent-one (λ t₁ t₂ p q. took-one p q) (λ e f. e ∙ sym f)
+
+  pub host-changed-one : {s : Settings} {n m : ℕ} → HostChanged r s r₁ n → HostChanged r s r₂ m → (r₁ ≡ r₂) × (n ≡ m)
+  host-changed-one {n = n} {m} p q = numbers n m (lent-one (λ t₁ t₂ p q. let (t, a) = changed-one p q in (t, a, tt)) (λ u v. tt) p q)
+
+  pub host-reset-one : {n m : ℕ} → HostReset r r₁ n → HostReset r r₂ m → (r₁ ≡ r₂) × (n ≡ m)
+  host-reset-one {n} {m} p q = numbers n m (lent-one (λ t₁ t₂ p q. let (t, a) = reset-one p q in (t, a, tt)) (λ u v. tt) p q)
+
+pub host-started-one : {s : Settings} {r₁ r₂ : Record} {n m : ℕ} → HostStarted s r₁ n → HostStarted s r₂ m → (r₁ ≡ r₂) × (n ≡ m)
+host-started-one {n = n} {m} p q = let (t, a) = one-start (p .started) (q .started) in numbers n m (p .left ∙ ap recordOf t ∙ sym (q .left), a, tt)
+
+pub host-metered-one : {r : Record} {m m′ : Shown} → HostMetered r m → HostMetered r m′ → m ≡ m′
+host-metered-one (held h p e) (held h′ p′ e′) = e ∙ ap shownAs (one-meter p p′) ∙ sym e′
+host-metered-one (held h p e) (unheld h′ e′) = absurd (omega arith)
+host-metered-one (unheld h e) (held h′ p′ e′) = absurd (omega arith)
+host-metered-one (unheld h e) (unheld h′ e′) = e ∙ sym e′
+
+-- ---- a refusal changes nothing
+
+-- what leaves the tuner leaves the record
+left-alone : {Call : Tuner → Tuner → Answer → Type 0} {untouched : Type 0} {r r′ : Record} {a : Answer} → ((t′ : Tuner) → Call (tunerOf r) t′ a → t′ ≡ tunerOf r) → Lent Call untouched r r′ a → r′ ≡ r
+left-alone {r = r} f (held h {t′} p e) = e ∙ ap recordOf (f t′ p) ∙ record-same r h
+left-alone f (unheld h a e u) = e
+
+block-number : (v : ℕ) (t : Tuner) (k : ℕ) (xs : List ℤ) → answerBy v t k xs .number ≡ v
+unfolding answerBy
+block-number zero t k xs = refl
+block-number (suc zero) t k xs = refl
+block-number (suc (suc v)) t k xs = refl
+
+module _ {k : ℕ} {xs ys ys′ : List ℤ} {a : Answer} where
+  took-number : {t t′ : Tuner} (p : Took t k xs ys t′ a ys′) → a .number ≡ p .number
+  took-number {t} p = ap (λ (a : Answer). a .number) (p .answer) ∙ block-number (p .number) t k xs
+
+  -- a block that is not taken leaves the record
+  pub untaken-unchanged : {r r′ : Record} → HostTook r k xs ys r′ a ys′ → (a .number ≡ 0 → ⊥) → r′ ≡ r
+  untaken-unchanged p n = left-alone (λ t′ p. p .tuner ∙ tuner-kept _ _ _ (λ e. n (took-number p ∙ e))) p
+
+  -- a block that is refused leaves the output too
+  pub refused-untouched : {r r′ : Record} → HostTook r k xs ys r′ a ys′ → 1 < a .number → ys′ ≡ ys
+  refused-untouched (held h p e) l = p .out ∙ by-refused _ _ _ _ _ (subst (λ (v : ℕ). 1 < v) (took-number p) l) .1
+  refused-untouched (unheld h b e u) l = u
+
+-- a change and a reset that are not answered 0 leave the record
+kept-unless : {n v : ℕ} (t t′ : Tuner) → (n ≡ 0 → ⊥) → plain n ≡ plain v → cond (eqb v 0) t′ t ≡ t
+kept-unless t t′ not e = cond-no _ _ (ne-eqb _ _ (λ z. not (ap (λ (a : Answer). a .number) e ∙ z)))
+
+module _ {r r′ : Record} {n : ℕ} where
+  pub unchanged-record : {s : Settings} → HostChanged r s r′ n → (n ≡ 0 → ⊥) → r′ ≡ r
+  unchanged-record p not = left-alone (λ t′ p. p .tuner ∙ kept-unless _ _ not (p .answer)) p
+
+  pub unreset-record : HostReset r r′ n → (n ≡ 0 → ⊥) → r′ ≡ r
+  unreset-record p not = left-alone (λ t′ p. p .tuner ∙ kept-unless _ _ not (p .answer)) p
+
+-- ---- cutting
+
+either : (a b : ℕ) → (a ≤ b) ⊎ (b ≤ a)
+either a b = by (leb a b) (λ e. inl (leb-true a b e)) (λ e. let h = leb-false a b e in inr (omega arith))
+
+-- the place and the length of the k-th stretch make its part
+module _ (n k : ℕ) (p : Stretch) (e : p .from ≡ min (512 * k) n) (f : p .count ≡ min 512 (n - p .from)) where
+  same-rest : (xs : List ℤ) → length xs ≡ n → drop (p .from) xs ≡ drop (512 * k) xs
+  same-rest xs l =
+      ⊎-elim
+      (λ h. ap (λ (m : ℕ). drop m xs) (e ∙ min-eq-left h))
+      (λ h. drop-of-length-le xs {i = p .from} (omega (arith, min-eq-right h)) ∙ sym (drop-of-length-le xs {i = 512 * k} (omega arith)))
+      (either (512 * k) n)
+
+  same-part : (xs : List ℤ) → length xs ≡ n → take (p .count) (drop (p .from) xs) ≡ take 512 (drop (p .from) xs)
+  same-part xs l =
+      let d = length-drop (p .from) xs in
+      ⊎-elim
+      (λ h. ap (λ (m : ℕ). take m (drop (p .from) xs)) (f ∙ min-eq-left h))
+      (λ h. take-all (p .count) (drop (p .from) xs) (omega (arith, min-eq-right h)) ∙ sym (take-all 512 (drop (p .from) xs) (omega arith)))
+      (either 512 (n - p .from))
+
+  left-over : n - p .from ≡ n - 512 * k
+  left-over = ⊎-elim (λ h. ap (λ (m : ℕ). n - m) (e ∙ min-eq-left h)) (λ h. omega (arith, min-eq-right h)) (either (512 * k) n)
+
+  pub cut-is : HostCut n k p
+  cut-is = record { from = e; count = f ∙ ap (min 512) left-over; part = λ xs l. same-part xs l ∙ ap (take 512) (same-rest xs l) }

@@ -1,0 +1,148 @@
+/* Daxfolin for C: a proved tuner for one sung voice, mono, 16-bit samples, 44,100 a second.
+ *
+ * Each function below is proved (crates/host): for any bytes in the record, any settings, any block and any lengths it comes to an end,
+ * does nothing undefined, and answers as said here. It takes no memory of its own but under 32 KB of stack, has no state outside the
+ * record, and calls nothing but memcpy and memset. The archive is for x86-64 Linux:
+ *
+ *     rt staticlib host                             makes target/staticlib/libhost.a
+ *     cc -std=c11 program.c target/staticlib/libhost.a
+ *
+ * What the proof takes for granted of the caller, as C cannot say it:
+ * - a record is lent at an address that is a multiple of 8, all its 6928 bytes readable and, but for daxfolin_meter, writable;
+ *   daxfolin_start and daxfolin_start_default write them all and read none, so there it may be fresh memory;
+ * - `samples` and `out` stand at even addresses, with as many samples behind them as the length beside them says; of a length of 0
+ *   nothing is read or written;
+ * - record, samples and out do not overlap, and during a call nobody else touches them. Calls on different records may run at once. */
+#ifndef DAXFOLIN_H
+#define DAXFOLIN_H
+
+#include <stddef.h>
+#include <stdint.h>
+
+#ifdef __cplusplus
+extern "C" {
+#endif
+
+#define DAXFOLIN_VERSION 1u       /* of these calls: what daxfolin_version() answers */
+#define DAXFOLIN_LONGEST_BLOCK 512u
+
+/* The answers. After 2 to 9 the record is as it was, and so is every sample of the output. */
+enum {
+    DAXFOLIN_TAKEN = 0,                /* taken: start, change, block or reset */
+    DAXFOLIN_GIVEN_AGAIN = 1,          /* the last block's number, length and samples: the same counts and output again, record unchanged */
+    DAXFOLIN_BLOCK_EMPTY = 2,
+    DAXFOLIN_BLOCK_OVER_512 = 3,
+    DAXFOLIN_OUTPUT_SHORT = 4,         /* shorter than the block */
+    DAXFOLIN_NUMBER_NEITHER = 5,       /* neither the next number nor the last taken */
+    DAXFOLIN_OTHER_SAMPLES = 6,        /* the last taken number, other length or samples */
+    DAXFOLIN_TAKE_FULL = 7,            /* the take would pass 1,000,000,000 samples */
+    DAXFOLIN_SETTING_OUT_OF_RANGE = 8, /* scale 0 is */
+    DAXFOLIN_RECORD_OUT_OF_RANGE = 9   /* a number of the record is out of its range (docs/RANGES.md), or `tracking` over 1 */
+};
+
+typedef struct daxfolin_settings {
+    uint32_t scale; /* 1 to 4095: a mask of 12 bits, bit = note number mod 12 */
+    uint32_t eps;   /* 0 to 409, in 1/1024 */
+    uint32_t decay; /* 0 to 255, in 1/256 */
+    uint32_t floor; /* 1 to 1,000,000: a mean square */
+} daxfolin_settings;
+
+/* What daxfolin_start_default starts with: `daxfolin_settings settings = DAXFOLIN_DEFAULTS;`. */
+#define DAXFOLIN_DEFAULTS {4095, 100, 0, 100}
+
+/* A tuner, as numbers alone: any bytes are a record, and one that is not good is answered 9. It may be copied, stored and sent as
+ * bytes (little-endian, no padding). A host has no need to look into it. */
+typedef struct daxfolin_record {
+    daxfolin_settings settings;
+    uint32_t count;             /* samples of the take */
+    uint32_t behind;            /* how far the read position lies behind the input, in 1/65536 sample */
+    uint32_t tracking;          /* 0 searching, 1 tracking */
+    uint32_t period;            /* in 1/256 sample; 0: no period */
+    uint32_t note;              /* the wanted note */
+    uint32_t rate;              /* in 1/65536 */
+    uint32_t low;               /* the lowest of the eight lags */
+    uint32_t last;              /* the last best lag */
+    uint16_t number;            /* the last block's number, length and counts */
+    uint16_t length;
+    uint16_t repeated;
+    uint16_t dropped;
+    uint64_t e[8];              /* energies and correlations of the eight lags */
+    int64_t h[8];
+    uint64_t energies[109];     /* and of the lags 2 to 110 at eighth rate */
+    int64_t correlations[109];
+    int16_t store[1764];        /* the newest samples, and the newest at eighth rate, oldest first */
+    int16_t eighths[224];
+    int16_t out[512];           /* the last block's output */
+} daxfolin_record;
+
+/* An answer's number and, of a block that is taken or given again, the samples written, cycles repeated and cycles dropped; else 0. */
+typedef struct daxfolin_answer {
+    uint32_t number;
+    uint16_t written;
+    uint16_t repeated;
+    uint16_t dropped;
+} daxfolin_answer;
+
+/* What the meter shows; a figure that is not of the state is 0. */
+enum { DAXFOLIN_SEARCHING = 0, DAXFOLIN_LOCKING = 1, DAXFOLIN_PITCHED = 2, DAXFOLIN_REFUSED = 9 };
+
+typedef struct daxfolin_shown {
+    uint32_t state;
+    float lag;    /* locking: the found lag, in samples */
+    float period; /* pitched: in samples */
+    float wanted; /* pitched: the wanted period, in samples */
+    float rate;   /* pitched: as a ratio */
+} daxfolin_shown;
+
+/* A stretch of a recording: the index of its first sample, and how many it has. */
+typedef struct daxfolin_stretch {
+    size_t from;
+    size_t count;
+} daxfolin_stretch;
+
+#ifdef __cplusplus
+#define DAXFOLIN_SAME(a, b) static_assert((a) == (b), "layout")
+#else
+#define DAXFOLIN_SAME(a, b) _Static_assert((a) == (b), "layout")
+#endif
+DAXFOLIN_SAME(sizeof(daxfolin_record), 6928);
+DAXFOLIN_SAME(offsetof(daxfolin_record, e), 56);
+DAXFOLIN_SAME(offsetof(daxfolin_record, store), 1928);
+DAXFOLIN_SAME(sizeof(daxfolin_settings), 16);
+DAXFOLIN_SAME(sizeof(daxfolin_answer), 12);
+DAXFOLIN_SAME(sizeof(daxfolin_shown), 20);
+DAXFOLIN_SAME(sizeof(size_t), 8);
+#undef DAXFOLIN_SAME
+
+/* The version of these calls: DAXFOLIN_VERSION. */
+uint32_t daxfolin_version(void);
+
+/* A fresh tuner. 0; or 8, and the record is the default tuner. */
+uint32_t daxfolin_start(daxfolin_record *record, daxfolin_settings settings);
+
+/* A fresh tuner with the default settings. */
+void daxfolin_start_default(daxfolin_record *record);
+
+/* New settings, which count from the next sample. 0; or 9, then 8, and the record is as it was. */
+uint32_t daxfolin_change(daxfolin_record *record, daxfolin_settings settings);
+
+/* Block `number` of the take (the first is 0, and 65535 is followed by 0): 1 to 512 samples in, as many out; samples of `out` past
+ * them are never touched. Answers 0, or 1, or a refusal: 9, 2, 3, 4, then 5 or 6 (or the repeat, 1), then 7. */
+daxfolin_answer daxfolin_block(daxfolin_record *record, uint16_t number, const int16_t *samples, size_t samples_length, int16_t *out,
+                               size_t out_length);
+
+/* Settings kept, everything else fresh. 0; or 9, and the record is as it was. */
+uint32_t daxfolin_reset(daxfolin_record *record);
+
+/* What the meter shows: searching; or locking; or pitched; or refused, of a record that the other calls answer 9. */
+daxfolin_shown daxfolin_meter(const daxfolin_record *record);
+
+/* Of a recording of `length` samples, where its k-th stretch of 512 lies, counted from 0: the last may be shorter, and past the end
+ * it is empty. The stretch is &recording[from], count. */
+daxfolin_stretch daxfolin_cut(size_t length, size_t k);
+
+#ifdef __cplusplus
+}
+#endif
+
+#endif

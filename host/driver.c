@@ -1,0 +1,91 @@
+/* Makes the calls that standard input asks for, one after the other, and writes what each left: for a program that compares, and
+ * cannot link the library itself. Every buffer stands between guards; a touched guard or sample in is an answer of its own.
+ *
+ * Asked:    call, number, two lengths, settings, two numbers for a cut (`asked`), then the record, the samples and the output as they are.
+ * Answered: number and counts, the meter, a stretch, whether something else was touched (`said`), then the record and the output. */
+#include "daxfolin.h"
+#include <stdio.h>
+#include <stdlib.h>
+#include <string.h>
+
+enum { START, START_DEFAULT, CHANGE, BLOCK, RESET, METER, CUT, VERSION };
+enum { GUARD = 64, MOST = 4096 };
+
+struct asked {
+    uint32_t call, number, samples_length, out_length;
+    daxfolin_settings settings;
+    uint64_t length, k;
+};
+
+struct said {
+    uint32_t number, written, repeated, dropped;
+    daxfolin_shown shown;
+    uint32_t touched;
+    uint64_t from, count;
+};
+
+/* The record and the two slices, each with guards before and behind. */
+static struct {
+    unsigned char before[GUARD];
+    daxfolin_record record;
+    unsigned char behind[GUARD];
+} lent;
+static int16_t in[GUARD + MOST + GUARD], in_was[GUARD + MOST + GUARD], out[GUARD + MOST + GUARD];
+
+static const unsigned char FILL = 0xA5;
+
+static void get(void *to, size_t size) {
+    if (size && fread(to, size, 1, stdin) != 1) exit(2);
+}
+
+static void put(const void *from, size_t size) {
+    if (size && fwrite(from, size, 1, stdout) != 1) exit(3);
+}
+
+static int differs(const void *at, size_t size) {
+    const unsigned char *bytes = at;
+    for (size_t i = 0; i < size; i++)
+        if (bytes[i] != FILL) return 1;
+    return 0;
+}
+
+static void answer(struct said *said, daxfolin_answer a) {
+    said->number = a.number, said->written = a.written, said->repeated = a.repeated, said->dropped = a.dropped;
+}
+
+int main(void) {
+    struct asked asked;
+    while (fread(&asked, sizeof asked, 1, stdin) == 1) {
+        struct said said = {0};
+        size_t samples_length = asked.samples_length, out_length = asked.out_length;
+        if (samples_length > MOST || out_length > MOST) return 2;
+        memset(&lent, FILL, sizeof lent);
+        memset(in, FILL, sizeof in);
+        memset(out, FILL, sizeof out);
+        get(&lent.record, sizeof lent.record);
+        get(in + GUARD, 2 * samples_length);
+        get(out + GUARD, 2 * out_length);
+        memcpy(in_was, in, sizeof in);
+        switch (asked.call) {
+        case START: said.number = daxfolin_start(&lent.record, asked.settings); break;
+        case START_DEFAULT: daxfolin_start_default(&lent.record); break;
+        case CHANGE: said.number = daxfolin_change(&lent.record, asked.settings); break;
+        case BLOCK: answer(&said, daxfolin_block(&lent.record, (uint16_t)asked.number, in + GUARD, samples_length, out + GUARD, out_length)); break;
+        case RESET: said.number = daxfolin_reset(&lent.record); break;
+        case METER: said.shown = daxfolin_meter(&lent.record); break;
+        case CUT: {
+            daxfolin_stretch stretch = daxfolin_cut(asked.length, asked.k);
+            said.from = stretch.from, said.count = stretch.count;
+            break;
+        }
+        case VERSION: said.number = daxfolin_version(); break;
+        default: return 2;
+        }
+        said.touched = differs(lent.before, GUARD) || differs(lent.behind, GUARD) || memcmp(in, in_was, sizeof in) || differs(out, 2 * GUARD) || differs(out + GUARD + out_length, 2 * (MOST + GUARD - out_length));
+        put(&said, sizeof said);
+        put(&lent.record, sizeof lent.record);
+        put(out + GUARD, 2 * out_length);
+        fflush(stdout);
+    }
+    return 0;
+}

@@ -1,0 +1,264 @@
+//! A proved tuner for one sung voice: mono, 16-bit samples, 44,100 a second.
+//!
+//! Every call is proved for any bytes in the record, any settings and any
+//! block (`crates/host` in the repository). What the proof takes for granted
+//! of a caller is what Rust's references say: a record and slices at aligned
+//! addresses, readable, and written by nobody else during the call. So every
+//! function here is safe, and nothing is left to test but that the archive is
+//! of this version.
+//!
+//! ```no_run
+//! let mut tuner = daxfolin::Record::default();
+//! let sung = [0i16; 1000];
+//! let mut tuned = [0i16; 512];
+//! for number in 0..2 {
+//!     let samples = daxfolin::cut(&sung, number);
+//!     let answer = tuner.block(number as u16, samples, &mut tuned);
+//!     assert_eq!(answer.number, daxfolin::TAKEN);
+//! }
+//! ```
+
+use std::fmt;
+
+/// The version of the calls.
+pub const VERSION: u32 = 1;
+/// The most samples of a block.
+pub const LONGEST_BLOCK: usize = 512;
+
+/// Taken: a start, a change, a block or a reset.
+pub const TAKEN: u32 = 0;
+/// The last block's number, length and samples: the same counts and output again, the record unchanged.
+pub const GIVEN_AGAIN: u32 = 1;
+/// From here to 9 a call is refused: the record and the output are as they were.
+pub const BLOCK_EMPTY: u32 = 2;
+pub const BLOCK_OVER_512: u32 = 3;
+/// The output is shorter than the block.
+pub const OUTPUT_SHORT: u32 = 4;
+/// The number is neither the next nor the last taken.
+pub const NUMBER_NEITHER: u32 = 5;
+/// The last taken number, with another length or other samples.
+pub const OTHER_SAMPLES: u32 = 6;
+/// The take would pass 1,000,000,000 samples.
+pub const TAKE_FULL: u32 = 7;
+/// A setting is out of its range; scale 0 is.
+pub const SETTING_OUT_OF_RANGE: u32 = 8;
+/// A number of the record is out of its range.
+pub const RECORD_OUT_OF_RANGE: u32 = 9;
+
+/// What the host may set.
+#[repr(C)]
+#[derive(Clone, Copy, Debug, PartialEq, Eq)]
+pub struct Settings {
+    /// 1 to 4095: a mask of 12 bits, bit = note number mod 12.
+    pub scale: u32,
+    /// 0 to 409, in 1/1024.
+    pub eps: u32,
+    /// 0 to 255, in 1/256.
+    pub decay: u32,
+    /// 1 to 1,000,000: a mean square.
+    pub floor: u32,
+}
+
+impl Default for Settings {
+    fn default() -> Settings {
+        Settings {
+            scale: 4095,
+            eps: 100,
+            decay: 0,
+            floor: 100,
+        }
+    }
+}
+
+/// The number of an answer and, of a block that is taken or given again, the counts; else 0.
+#[repr(C)]
+#[derive(Clone, Copy, Debug, PartialEq, Eq)]
+pub struct Answer {
+    pub number: u32,
+    /// Samples written.
+    pub written: u16,
+    /// Cycles repeated.
+    pub repeated: u16,
+    /// Cycles dropped.
+    pub dropped: u16,
+}
+
+/// What the meter shows, in samples; the rate is a ratio.
+#[derive(Clone, Copy, Debug, PartialEq)]
+pub enum Meter {
+    Searching,
+    /// With the found lag.
+    Locking(f32),
+    Pitched {
+        period: f32,
+        wanted: f32,
+        rate: f32,
+    },
+    /// The record is out of range.
+    Refused,
+}
+
+/// A tuner, as numbers alone: any bytes are a record, and one that is not good is answered 9.
+#[repr(C)]
+#[derive(Clone, PartialEq, Eq)]
+pub struct Record {
+    words: [u64; Record::SIZE / 8],
+}
+
+/// The calls of the archive. A record is `struct daxfolin_record` of `host/daxfolin.h`.
+mod archive {
+    use super::{Answer, Record, Settings};
+
+    #[repr(C)]
+    pub struct Shown {
+        pub state: u32,
+        pub lag: f32,
+        pub period: f32,
+        pub wanted: f32,
+        pub rate: f32,
+    }
+
+    #[repr(C)]
+    pub struct Stretch {
+        pub from: usize,
+        pub count: usize,
+    }
+
+    extern "C" {
+        pub fn daxfolin_version() -> u32;
+        pub fn daxfolin_start(record: *mut Record, settings: Settings) -> u32;
+        pub fn daxfolin_start_default(record: *mut Record);
+        pub fn daxfolin_change(record: *mut Record, settings: Settings) -> u32;
+        pub fn daxfolin_block(
+            record: *mut Record,
+            number: u16,
+            samples: *const i16,
+            samples_length: usize,
+            out: *mut i16,
+            out_length: usize,
+        ) -> Answer;
+        pub fn daxfolin_reset(record: *mut Record) -> u32;
+        pub fn daxfolin_meter(record: *const Record) -> Shown;
+        pub fn daxfolin_cut(length: usize, k: usize) -> Stretch;
+    }
+}
+
+const _: () = {
+    assert!(size_of::<Record>() == 6928 && align_of::<Record>() == 8);
+    assert!(size_of::<Settings>() == 16 && size_of::<Answer>() == 12);
+    assert!(size_of::<archive::Shown>() == 20 && size_of::<archive::Stretch>() == 16);
+};
+
+/// The version of the archive that is linked.
+pub fn version() -> u32 {
+    // SAFETY: it takes nothing and reads nothing.
+    unsafe { archive::daxfolin_version() }
+}
+
+/// The k-th stretch of 512 samples, counted from 0: the last may be shorter, and past the end it is empty.
+pub fn cut(recording: &[i16], k: usize) -> &[i16] {
+    // SAFETY: it takes two numbers.
+    let stretch = unsafe { archive::daxfolin_cut(recording.len(), k) };
+    &recording[stretch.from..][..stretch.count]
+}
+
+impl Record {
+    /// The bytes of a record.
+    pub const SIZE: usize = 6928;
+
+    fn blank() -> Record {
+        assert_eq!(
+            version(),
+            VERSION,
+            "an archive of another version is linked"
+        );
+        Record {
+            words: [0; Record::SIZE / 8],
+        }
+    }
+
+    /// A fresh tuner and 0, or the default tuner beside 8.
+    pub fn start(settings: Settings) -> (u32, Record) {
+        let mut record = Record::blank();
+        // SAFETY: the record is a reference's.
+        let number = unsafe { archive::daxfolin_start(&mut record, settings) };
+        (number, record)
+    }
+
+    /// New settings, which count from the next sample: 0; or 9, then 8, and the record is as it was.
+    pub fn change(&mut self, settings: Settings) -> u32 {
+        // SAFETY: the record is a reference's, and may hold any bytes.
+        unsafe { archive::daxfolin_change(self, settings) }
+    }
+
+    /// Block `number` of the take: 1 to 512 samples in, as many out; samples of `out` past them are never touched.
+    /// A refusal is 9, 2, 3, 4, then 5 or 6 (or the repeat, 1), then 7.
+    pub fn block(&mut self, number: u16, samples: &[i16], out: &mut [i16]) -> Answer {
+        // SAFETY: the record and the slices are references', so that they don't overlap, and the lengths are the slices' own.
+        unsafe {
+            archive::daxfolin_block(
+                self,
+                number,
+                samples.as_ptr(),
+                samples.len(),
+                out.as_mut_ptr(),
+                out.len(),
+            )
+        }
+    }
+
+    /// Settings kept, everything else fresh: 0; or 9, and the record is as it was.
+    pub fn reset(&mut self) -> u32 {
+        // SAFETY: the record is a reference's, and may hold any bytes.
+        unsafe { archive::daxfolin_reset(self) }
+    }
+
+    pub fn meter(&self) -> Meter {
+        // SAFETY: the record is a reference's, and may hold any bytes.
+        let shown = unsafe { archive::daxfolin_meter(self) };
+        match shown.state {
+            0 => Meter::Searching,
+            1 => Meter::Locking(shown.lag),
+            2 => Meter::Pitched {
+                period: shown.period,
+                wanted: shown.wanted,
+                rate: shown.rate,
+            },
+            _ => Meter::Refused,
+        }
+    }
+
+    /// The record as bytes, to be stored or sent: low byte first, the same on every machine.
+    pub fn to_bytes(&self) -> [u8; Record::SIZE] {
+        let mut bytes = [0; Record::SIZE];
+        for (part, word) in bytes.chunks_exact_mut(8).zip(self.words) {
+            part.copy_from_slice(&word.to_le_bytes());
+        }
+        bytes
+    }
+
+    /// The record with these bytes, whatever they are.
+    pub fn from_bytes(bytes: &[u8; Record::SIZE]) -> Record {
+        let mut record = Record::blank();
+        for (word, part) in record.words.iter_mut().zip(bytes.chunks_exact(8)) {
+            *word = u64::from_le_bytes(part.try_into().expect("eight bytes"));
+        }
+        record
+    }
+}
+
+/// A fresh tuner with the default settings.
+impl Default for Record {
+    fn default() -> Record {
+        let mut record = Record::blank();
+        // SAFETY: the record is a reference's.
+        unsafe { archive::daxfolin_start_default(&mut record) };
+        record
+    }
+}
+
+impl fmt::Debug for Record {
+    fn fmt(&self, to: &mut fmt::Formatter) -> fmt::Result {
+        to.debug_struct("Record").finish_non_exhaustive()
+    }
+}

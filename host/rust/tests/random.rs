@@ -1,0 +1,99 @@
+//! Calls over records, good, damaged and of any bytes, compared with the
+//! independent program: 9 and nothing changed, or the right answer; guards
+//! around every buffer stay as they were. DAXFOLIN_CASES says how many.
+#![cfg(target_arch = "x86_64")]
+
+use daxfolin::{cut, Answer, Meter, Record, Settings};
+use independent::generator::cases::Cases;
+use independent::record::{made, Call, Left};
+
+const GUARD: usize = 64;
+const FILL: i16 = -23_131;
+
+/// The samples between guards.
+fn guarded(samples: &[i16]) -> Vec<i16> {
+    [&[FILL; GUARD], samples, &[FILL; GUARD]].concat()
+}
+
+fn settings(of: &independent::settings::Settings) -> Settings {
+    Settings {
+        scale: of.scale,
+        eps: of.eps,
+        decay: of.decay,
+        floor: of.floor,
+    }
+}
+
+fn left_by(record: &mut Record, call: &Call) -> Left {
+    let mut left = Left::default();
+    match call {
+        Call::Start(with) => (left.number, *record) = Record::start(settings(with)),
+        Call::StartDefault => *record = Record::default(),
+        Call::Change(to) => left.number = record.change(settings(to)),
+        Call::Reset => left.number = record.reset(),
+        Call::Block {
+            number,
+            samples,
+            out,
+        } => {
+            let (sent, mut room) = (guarded(samples), guarded(out));
+            let part = &mut room[GUARD..GUARD + out.len()];
+            let Answer {
+                number,
+                written,
+                repeated,
+                dropped,
+            } = record.block(*number, &sent[GUARD..GUARD + samples.len()], part);
+            left.out = part.to_vec();
+            (left.number, left.counts) = (number, [written, repeated, dropped]);
+            assert_eq!(sent, guarded(samples), "the samples in were touched");
+            assert_eq!(
+                room,
+                guarded(&left.out),
+                "past the output something was touched"
+            );
+        }
+        Call::Meter => match record.meter() {
+            Meter::Searching => {}
+            Meter::Locking(lag) => (left.state, left.figures[0]) = (1, lag),
+            Meter::Pitched {
+                period,
+                wanted,
+                rate,
+            } => (left.state, left.figures) = (2, [0.0, period, wanted, rate]),
+            Meter::Refused => left.state = 9,
+        },
+        Call::Cut(..) => unreachable!("a recording has no such length"),
+    }
+    left.record = record.to_bytes().to_vec();
+    left
+}
+
+#[test]
+fn calls_over_any_record_are_the_independent_program_s() {
+    let cases = std::env::var("DAXFOLIN_CASES").map_or(1_000_000, |cases| cases.parse().unwrap());
+    let mut source = Cases::seeded(20_261_115);
+    for case in 0..cases {
+        let (bytes, call) = source.case();
+        if let Call::Cut(..) = call {
+            continue;
+        }
+        let right = made(&bytes, &call);
+        let left = left_by(&mut Record::from_bytes(&bytes), &call);
+        assert!(
+            left == right,
+            "case {case}: {call:?}\nleft {left:?}\nright {right:?}"
+        );
+    }
+}
+
+#[test]
+fn a_recording_is_cut_into_its_stretches() {
+    for length in [0, 1, 511, 512, 513, 1_024, 5_000] {
+        let recording: Vec<i16> = (0..length).collect();
+        let mut stretches = recording.chunks(512);
+        for k in (0..12).chain([usize::MAX / 512, usize::MAX]) {
+            assert_eq!(cut(&recording, k), stretches.next().unwrap_or(&[]));
+        }
+    }
+}

@@ -1,0 +1,144 @@
+//! Makes calls over records of any bytes through another program, and compares
+//! what each answers and leaves with this program's own account of it.
+//!
+//!     records CASES SEED PROGRAM WORDS..
+//!
+//! The other program reads calls and writes what they left, as `host/driver.c`
+//! does.
+
+use independent::generator::cases::Cases;
+use independent::record::{made, Call, Left, Record, SIZE};
+use std::collections::BTreeMap;
+use std::io::{Read, Write};
+use std::process::{Command, Stdio};
+
+fn asked(bytes: &[u8; SIZE], call: &Call) -> Vec<u8> {
+    let mut words = [0u32; 8];
+    let mut longs = [0u64; 2];
+    let (mut samples, mut out): (&[i16], &[i16]) = (&[], &[]);
+    match call {
+        Call::Start(settings) | Call::Change(settings) => {
+            words[0] = if matches!(call, Call::Start(_)) { 0 } else { 2 };
+            words[4..].copy_from_slice(&[
+                settings.scale,
+                settings.eps,
+                settings.decay,
+                settings.floor,
+            ]);
+        }
+        Call::StartDefault => words[0] = 1,
+        Call::Block {
+            number,
+            samples: sent,
+            out: room,
+        } => {
+            words[..4].copy_from_slice(&[
+                3,
+                u32::from(*number),
+                sent.len() as u32,
+                room.len() as u32,
+            ]);
+            (samples, out) = (sent, room);
+        }
+        Call::Reset => words[0] = 4,
+        Call::Meter => words[0] = 5,
+        Call::Cut(length, k) => (words[0], longs) = (6, [*length, *k]),
+    }
+    let mut asked = Vec::with_capacity(48 + SIZE + 4 * samples.len());
+    words
+        .iter()
+        .for_each(|word| asked.extend(word.to_le_bytes()));
+    longs
+        .iter()
+        .for_each(|long| asked.extend(long.to_le_bytes()));
+    asked.extend(bytes);
+    samples
+        .iter()
+        .chain(out)
+        .for_each(|sample| asked.extend(sample.to_le_bytes()));
+    asked
+}
+
+/// What the other program says that the call left, and whether it touched anything else.
+fn said(from: &mut impl Read, room: usize) -> std::io::Result<(Left, bool)> {
+    let mut bytes = vec![0; 56 + SIZE + 2 * room];
+    from.read_exact(&mut bytes)?;
+    let word = |at: usize| u32::from_le_bytes(bytes[at..at + 4].try_into().unwrap());
+    let long = |at: usize| u64::from_le_bytes(bytes[at..at + 8].try_into().unwrap());
+    let left = Left {
+        number: word(0),
+        counts: [4, 8, 12].map(|at| word(at) as u16),
+        state: word(16),
+        figures: [20, 24, 28, 32].map(|at| f32::from_bits(word(at))),
+        stretch: [long(40), long(48)],
+        record: bytes[56..56 + SIZE].to_vec(),
+        out: bytes[56 + SIZE..]
+            .chunks_exact(2)
+            .map(|sample| i16::from_le_bytes([sample[0], sample[1]]))
+            .collect(),
+    };
+    Ok((left, word(36) != 0))
+}
+
+fn name(call: &Call) -> &'static str {
+    match call {
+        Call::Start(_) => "start",
+        Call::StartDefault => "start_default",
+        Call::Change(_) => "change",
+        Call::Block { .. } => "block",
+        Call::Reset => "reset",
+        Call::Meter => "meter",
+        Call::Cut(..) => "cut",
+    }
+}
+
+fn main() {
+    let words: Vec<String> = std::env::args().skip(1).collect();
+    let usage = "usage: records CASES SEED PROGRAM WORDS..";
+    let [cases, seed, program, rest @ ..] = &words[..] else {
+        panic!("{usage}")
+    };
+    let cases: u64 = cases.parse().expect(usage);
+    let mut source = Cases::seeded(seed.parse().expect(usage));
+    let mut other = Command::new(program)
+        .args(rest)
+        .stdin(Stdio::piped())
+        .stdout(Stdio::piped())
+        .spawn()
+        .expect("the other program starts");
+    let mut to = other.stdin.take().expect("its standard input");
+    let mut from = other.stdout.take().expect("its standard output");
+    let mut seen: BTreeMap<(&str, u32), u64> = BTreeMap::new();
+    let mut good = 0;
+    for case in 0..cases {
+        let (bytes, call) = source.case();
+        let right = made(&bytes, &call);
+        to.write_all(&asked(&bytes, &call))
+            .expect("the call is sent");
+        to.flush().expect("the call is sent");
+        let (left, touched) = said(&mut from, right.out.len()).expect("the call is answered");
+        assert!(
+            !touched,
+            "case {case}: something else was touched by {call:?}"
+        );
+        if left != right {
+            panic!(
+                "case {case}: {call:?}\n{:?}\nleft {left:?}\nright {right:?}",
+                Record::of_bytes(&bytes)
+            );
+        }
+        let answer = if call == Call::Meter {
+            right.state
+        } else {
+            right.number
+        };
+        *seen.entry((name(&call), answer)).or_default() += 1;
+        good += u64::from(Record::of_bytes(&bytes).is_good());
+    }
+    drop(to);
+    assert!(other.wait().expect("the other program ends").success());
+    for ((call, answer), count) in seen {
+        println!("{call}\t{answer}\t{count}");
+    }
+    println!("{cases} calls compared, {good} of them over good records");
+}

@@ -1,0 +1,281 @@
+//! Calls over records, good, damaged and of any bytes, with blocks, numbers,
+//! lengths and buffers of every sort.
+
+use super::random::Random;
+use super::sound::{period_of_note, sing, Passage, Wave};
+use crate::record::{made, Call, Record, SIZE};
+use crate::rules::{LONGEST_BLOCK, TRACKED};
+use crate::settings::Settings;
+use crate::tuner::TAKE_LIMIT;
+
+/// Longer blocks and outputs are not lent.
+pub const MOST: usize = 1_024;
+
+pub struct Cases {
+    random: Random,
+    /// Records that calls from a start left.
+    reached: Vec<Record>,
+}
+
+impl Cases {
+    pub fn seeded(seed: u64) -> Cases {
+        let mut random = Random::seeded(seed);
+        let mut reached = vec![Record::fresh(Settings::DEFAULT)];
+        for _ in 0..40 {
+            reach(&mut random, &mut reached);
+        }
+        Cases { random, reached }
+    }
+
+    /// A record's bytes, and a call over it.
+    pub fn case(&mut self) -> ([u8; SIZE], Call) {
+        let record = self.record();
+        let random = &mut self.random;
+        let call = match random.whole(0, 99) {
+            0..=69 => block(random, &record),
+            70..=77 => Call::Change(settings(random)),
+            78..=84 => Call::Reset,
+            85..=93 => Call::Meter,
+            94..=96 => Call::Start(settings(random)),
+            97 => Call::StartDefault,
+            _ => Call::Cut(long(random), long(random) / 512),
+        };
+        let mut bytes: [u8; SIZE] = record.bytes().try_into().expect("a record's bytes");
+        match random.whole(0, 19) {
+            0 | 1 => {
+                let bit = random.whole(0, 8 * SIZE - 1);
+                bytes[bit / 8] ^= 1 << (bit % 8);
+            }
+            2 => any_bytes(random, &mut bytes, SIZE),
+            3 => any_bytes(random, &mut bytes, 64),
+            4 => {
+                let from = random.whole(0, SIZE);
+                bytes[from..].fill(0);
+            }
+            5 => {
+                let other = random.whole(0, self.reached.len() - 1);
+                let from = random.whole(0, SIZE);
+                bytes[from..].copy_from_slice(&self.reached[other].bytes()[from..]);
+            }
+            _ => {}
+        }
+        (bytes, call)
+    }
+
+    fn record(&mut self) -> Record {
+        let random = &mut self.random;
+        let mut record = self.reached[random.whole(0, self.reached.len() - 1)].clone();
+        if random.chance(150) && record.count >= 1_764 {
+            let near = TAKE_LIMIT - random.whole(0, 600);
+            record.count = (near - near % 40) as u32 + record.count % 40;
+        }
+        if random.chance(100) {
+            noise(random, &mut record.store);
+            noise(random, &mut record.eighths);
+            record.count = record.count.max(1_800);
+            record = record.with_right_sums();
+        }
+        if random.chance(500) {
+            for _ in 0..random.whole(1, 3) {
+                alter(random, &mut record);
+            }
+            if random.chance(500) {
+                record = record.with_right_sums();
+            }
+        }
+        record
+    }
+}
+
+/// A short take: tones that are flat and sharp, each swinging, silence between them.
+pub fn sung() -> Vec<i16> {
+    let (mut random, mut phase) = (Random::seeded(1), 0.0);
+    let mut take = Vec::new();
+    for (note, cents) in [
+        (57, -45.0),
+        (61, -40.0),
+        (64, 45.0),
+        (52, 30.0),
+        (69, -20.0),
+    ] {
+        take.extend([0; 700]);
+        let voice = Wave::Partials(vec![1.0, 0.6, 0.3, 0.1]);
+        let passage = Passage::of(voice, period_of_note(note, cents), 8_000)
+            .swinging(0.003, 8_000.0)
+            .loud(9_000.0)
+            .breathy(60.0);
+        take.extend(sing(&passage, &mut phase, &mut random));
+    }
+    take
+}
+
+/// Plays a take from a start and keeps records on the way.
+fn reach(random: &mut Random, reached: &mut Vec<Record>) {
+    let mut allowed = settings(random);
+    while !allowed.in_range() {
+        allowed = settings(random);
+    }
+    let mut record = Record::fresh(allowed);
+    let (mut phase, mut number) = (0.0, 0);
+    for _ in 0..random.whole(1, 8) {
+        let period = random.one_of(&[17.3, 50.0, 100.2, 187.0, 330.5, 601.0, 870.0]);
+        let wave = match random.whole(0, 2) {
+            0 => Wave::Square,
+            _ => Wave::Partials(vec![1.0, 0.5, 0.3]),
+        };
+        let length = random.whole(1, 3_000);
+        let loudness = random.one_of(&[0.0, 40.0, 3_000.0, 12_000.0, 32_000.0]);
+        let passage = Passage::of(wave, period, length)
+            .loud(loudness)
+            .gliding(period * random.real(0.97, 1.03));
+        let sung = sing(&passage, &mut phase, random);
+        for samples in sung.chunks(random.whole(1, LONGEST_BLOCK)) {
+            let call = Call::Block {
+                number,
+                samples: samples.to_vec(),
+                out: vec![0; samples.len()],
+            };
+            let bytes: [u8; SIZE] = record.bytes().try_into().expect("a record's bytes");
+            let left = made(&bytes, &call);
+            assert_eq!(left.number, 0, "a take that is played is taken");
+            record = Record::of_bytes(&left.record.try_into().expect("a record's bytes"));
+            number = number.wrapping_add(1);
+            if random.chance(150) {
+                reached.push(record.clone());
+            }
+        }
+        reached.push(record.clone());
+    }
+}
+
+/// Some settings, most of them in their ranges.
+fn settings(random: &mut Random) -> Settings {
+    let mut settings = Settings {
+        scale: random.whole(1, 4_095) as u32,
+        eps: random.whole(0, 409) as u32,
+        decay: random.whole(0, 255) as u32,
+        floor: random.one_of(&[1, 100, 1_000, 1_000_000]),
+    };
+    match random.whole(0, 19) {
+        0 => settings.scale = random.one_of(&[0, 1, 4_095, 4_096, u32::MAX]),
+        1 => settings.eps = random.one_of(&[0, 409, 410, u32::MAX]),
+        2 => settings.decay = random.one_of(&[0, 255, 256, u32::MAX]),
+        3 => settings.floor = random.one_of(&[0, 1, 1_000_000, 1_000_001, u32::MAX]),
+        4 => settings.eps = random.next() as u32,
+        5..=9 => settings = Settings::DEFAULT,
+        _ => {}
+    }
+    settings
+}
+
+/// One number of the record altered, most often to the edge of its range.
+fn alter(random: &mut Random, record: &mut Record) {
+    let place = random.whole(0, LONGEST_BLOCK - 1);
+    let few = random.whole(0, 2) as i64 - 1;
+    match random.whole(0, 24) {
+        0 => record.settings = settings(random),
+        1 => record.count = random.one_of(&[0, 1, 7, 8, 1_763, 1_764, 1_765, 1_791, 1_792]),
+        2 => record.count = random.one_of(&[999_999_999, 1_000_000_000, 1_000_000_001, u32::MAX]),
+        3 => record.behind = random.one_of(&[0, 1, 65_535_999, 65_536_000, 65_536_001, u32::MAX]),
+        4 => record.behind = random.whole(0, 70_000_000) as u32,
+        5 | 6 => record.tracking = random.one_of(&[0, 1, 2, 3, 255, 256, 1 << 31, u32::MAX]),
+        7 => record.period = random.one_of(&[0, 1, 4_095, 4_096, 225_280, 225_281, u32::MAX]),
+        8 => record.period = random.whole(4_096, 225_280) as u32,
+        9 => record.note = random.one_of(&[0, 31, 32, 69, 100, 101, u32::MAX]),
+        10 => record.rate = random.one_of(&[0, 32_767, 32_768, 65_536, 131_072, 131_073, u32::MAX]),
+        11 => record.rate = random.whole(32_768, 131_072) as u32,
+        12 => record.low = random.one_of(&[0, 15, 16, 17, 872, 873, 874, 881, u32::MAX]),
+        13 => {
+            record.low = random.whole(16, 873) as u32;
+            record.last = record.low + random.whole(0, 7) as u32;
+        }
+        14 => record.last = record.low.wrapping_add(random.one_of(&[u32::MAX, 0, 7, 8])),
+        15 => record.number = random.one_of(&[0, 1, 65_534, 65_535, place as u16]),
+        16 => record.length = random.one_of(&[0, 1, 511, 512, 513, u16::MAX]),
+        17 => {
+            record.length = (record.count.min(512) as u16).wrapping_add(random.whole(0, 1) as u16)
+        }
+        18 => (record.repeated, record.dropped) = (random.next() as u16, random.next() as u16),
+        19 => record.out[place] = random.next() as i16,
+        20 => record.store[random.whole(0, 1_763)] = random.next() as i16,
+        21 => record.eighths[random.whole(0, 223)] = random.next() as i16,
+        22 => {
+            let place = random.whole(0, TRACKED - 1);
+            record.e[place] = record.e[place].wrapping_add_signed(few);
+            record.h[place] = record.h[place].wrapping_add(few);
+        }
+        23 => (record.period, record.rate) = (0, 65_536),
+        _ => {
+            let place = random.whole(0, 108);
+            record.energies[place] = record.energies[place].wrapping_add_signed(few);
+            record.correlations[place] = record.correlations[place].wrapping_sub(few);
+        }
+    }
+}
+
+/// A block: the next, the last again, nearly the last again, or some other.
+fn block(random: &mut Random, record: &Record) -> Call {
+    let length = usize::from(record.length).min(LONGEST_BLOCK);
+    let last = &record.store[record.store.len() - length..];
+    let next = match length {
+        0 => 0,
+        _ => record.number.wrapping_add(1),
+    };
+    let number = match random.whole(0, 9) {
+        0..=5 => next,
+        6..=8 => record.number,
+        _ => random.next() as u16,
+    };
+    let mut samples = match random.whole(0, 19) {
+        0..=6 => last.to_vec(),
+        7 => vec![],
+        8 => vec![0; random.one_of(&[511, 512, 513, 1_024])],
+        9 => vec![i16::MIN; random.whole(1, 64)],
+        10 => vec![0; random.whole(100, 512)],
+        _ => vec![0; random.whole(1, 48)],
+    };
+    match random.whole(0, 9) {
+        0..=3 => {}
+        4 if !samples.is_empty() => {
+            let place = random.whole(0, samples.len() - 1);
+            samples[place] = samples[place].wrapping_add(1);
+        }
+        5 => drop(samples.pop()),
+        _ => noise(random, &mut samples),
+    }
+    let room = match random.whole(0, 9) {
+        0..=5 => samples.len(),
+        6 => samples.len().saturating_sub(1),
+        7 => random.whole(0, MOST),
+        8 => 0,
+        _ => (samples.len() + random.whole(1, 64)).min(MOST),
+    };
+    let mut out = vec![0; room];
+    noise(random, &mut out);
+    Call::Block {
+        number,
+        samples,
+        out,
+    }
+}
+
+/// Noise of some loudness.
+fn noise(random: &mut Random, samples: &mut [i16]) {
+    let shift = random.whole(0, 15);
+    for sample in samples {
+        *sample = (random.next() as i16) >> shift;
+    }
+}
+
+fn any_bytes(random: &mut Random, bytes: &mut [u8], most: usize) {
+    let from = random.whole(0, bytes.len() - 1);
+    let to = bytes.len().min(from + random.whole(1, most));
+    let all = most == bytes.len() && random.chance(500);
+    let part = if all { bytes } else { &mut bytes[from..to] };
+    part.iter_mut().for_each(|byte| *byte = random.next() as u8);
+}
+
+/// A number of any size.
+fn long(random: &mut Random) -> u64 {
+    random.next() >> random.whole(0, 63)
+}

@@ -1,0 +1,375 @@
+//! The record that hosts lend, as bytes, and what every call does to it.
+//!
+//! A record holds a tuner if it is good by document 01; then this program's own
+//! tuner is made of it, makes the call, and is turned into a record again.
+//! Every sum is reckoned directly.
+
+use crate::history::History;
+use crate::rules::*;
+use crate::settings::Settings;
+use crate::statistics::Statistics;
+use crate::table::{HIGHEST_NOTE, LOWEST_NOTE};
+use crate::tuner::*;
+
+pub const STORED: usize = 1_764;
+pub const EIGHTHS: usize = 224;
+pub const LAGS: usize = 109;
+/// The bytes of a record.
+pub const SIZE: usize = 6_928;
+
+#[derive(Clone, Debug, PartialEq, Eq)]
+pub struct Record {
+    pub settings: Settings,
+    pub count: u32,
+    pub behind: u32,
+    pub tracking: u32,
+    pub period: u32,
+    pub note: u32,
+    pub rate: u32,
+    pub low: u32,
+    pub last: u32,
+    pub number: u16,
+    pub length: u16,
+    pub repeated: u16,
+    pub dropped: u16,
+    pub e: [u64; TRACKED],
+    pub h: [i64; TRACKED],
+    pub energies: [u64; LAGS],
+    pub correlations: [i64; LAGS],
+    pub store: [i16; STORED],
+    pub eighths: [i16; EIGHTHS],
+    pub out: [i16; LONGEST_BLOCK],
+}
+
+/// A call, with what is lent beside the record.
+#[derive(Clone, Debug, PartialEq)]
+pub enum Call {
+    Start(Settings),
+    StartDefault,
+    Change(Settings),
+    Block {
+        number: u16,
+        samples: Vec<i16>,
+        out: Vec<i16>,
+    },
+    Reset,
+    Meter,
+    /// The length of a recording, and which stretch of it.
+    Cut(u64, u64),
+}
+
+/// What a call answers and leaves. What it has no word on is 0 and empty.
+#[derive(Clone, Debug, Default, PartialEq)]
+pub struct Left {
+    pub number: u32,
+    pub counts: [u16; 3],
+    /// The meter's state and its lag, period, wanted period and rate.
+    pub state: u32,
+    pub figures: [f32; 4],
+    /// The first sample of a stretch, and how many it has.
+    pub stretch: [u64; 2],
+    pub record: Vec<u8>,
+    pub out: Vec<i16>,
+}
+
+macro_rules! in_order {
+    ($record:ident, $number:ident) => {
+        $number!($record.settings.scale);
+        $number!($record.settings.eps);
+        $number!($record.settings.decay);
+        $number!($record.settings.floor);
+        $number!($record.count);
+        $number!($record.behind);
+        $number!($record.tracking);
+        $number!($record.period);
+        $number!($record.note);
+        $number!($record.rate);
+        $number!($record.low);
+        $number!($record.last);
+        $number!($record.number);
+        $number!($record.length);
+        $number!($record.repeated);
+        $number!($record.dropped);
+        $number!(each $record.e);
+        $number!(each $record.h);
+        $number!(each $record.energies);
+        $number!(each $record.correlations);
+        $number!(each $record.store);
+        $number!(each $record.eighths);
+        $number!(each $record.out);
+    };
+}
+
+impl Record {
+    /// The record with these bytes, low byte first; any are one.
+    pub fn of_bytes(bytes: &[u8; SIZE]) -> Record {
+        let mut record = Record::fresh(Settings::DEFAULT);
+        let mut at = 0;
+        macro_rules! read {
+            (each $numbers:expr) => {
+                $numbers.iter_mut().for_each(|number| read!(*number))
+            };
+            ($number:expr) => {{
+                let size = std::mem::size_of_val(&$number);
+                let mut wide = [0; 8];
+                wide[..size].copy_from_slice(&bytes[at..at + size]);
+                at += size;
+                $number = u64::from_le_bytes(wide) as _;
+            }};
+        }
+        in_order!(record, read);
+        assert_eq!(at, SIZE);
+        record
+    }
+
+    pub fn bytes(&self) -> Vec<u8> {
+        let mut bytes = Vec::with_capacity(SIZE);
+        macro_rules! write {
+            (each $numbers:expr) => {
+                $numbers.iter().for_each(|number| write!(*number))
+            };
+            ($number:expr) => {
+                bytes.extend($number.to_le_bytes())
+            };
+        }
+        in_order!(self, write);
+        assert_eq!(bytes.len(), SIZE);
+        bytes
+    }
+
+    pub fn fresh(settings: Settings) -> Record {
+        Record {
+            settings,
+            count: 0,
+            behind: 0,
+            tracking: 0,
+            period: 0,
+            note: 0,
+            rate: LEVEL_RATE as u32,
+            low: 0,
+            last: 0,
+            number: 0,
+            length: 0,
+            repeated: 0,
+            dropped: 0,
+            e: [0; TRACKED],
+            h: [0; TRACKED],
+            energies: [0; LAGS],
+            correlations: [0; LAGS],
+            store: [0; STORED],
+            eighths: [0; EIGHTHS],
+            out: [0; LONGEST_BLOCK],
+        }
+    }
+
+    /// Document 01's condition, in its order.
+    pub fn is_good(&self) -> bool {
+        let kept = History::of(&self.store);
+        let eighths = History::of(&self.eighths);
+        let before = |stored: &[i16], count: u32| {
+            let silent = stored.len().saturating_sub(count as usize);
+            stored[..silent].iter().all(|&sample| sample == 0)
+        };
+        let right = |history: &History, lowest: usize, e: &[u64], h: &[i64]| {
+            let mut lags = (lowest..).zip(e.iter().zip(h));
+            lags.all(|(lag, (&e, &h))| {
+                e == energy(history, lag) as u64 && h == correlation(history, lag)
+            })
+        };
+        let (low, last) = (self.low as usize, self.last as usize);
+        let lags_right = self.tracking == 0
+            || (LOWEST_LAG..=HIGHEST_LAG + 1 - TRACKED).contains(&low)
+                && (low..low + TRACKED).contains(&last)
+                && right(&kept, low, &self.e, &self.h);
+        let pitch_right = match self.period {
+            0 => i64::from(self.rate) == LEVEL_RATE,
+            period => {
+                self.tracking == 1
+                    && (4_096..=225_280).contains(&period)
+                    && (LOWEST_NOTE..=HIGHEST_NOTE).contains(&(self.note as usize))
+                    && (32_768..=131_072).contains(&self.rate)
+            }
+        };
+        self.tracking <= 1
+            && self.settings.in_range()
+            && self.count as usize <= TAKE_LIMIT
+            && usize::from(self.length) <= LONGEST_BLOCK.min(self.count as usize)
+            && before(&self.store, self.count)
+            && before(&self.eighths, self.count / 8)
+            && i64::from(self.behind) <= FARTHEST_BEHIND
+            && pitch_right
+            && right(&eighths, 2, &self.energies, &self.correlations)
+            && lags_right
+    }
+
+    /// Every kept sum taken anew.
+    pub fn with_right_sums(mut self) -> Record {
+        let (kept, eighths) = (History::of(&self.store), History::of(&self.eighths));
+        for place in 0..LAGS {
+            self.energies[place] = energy(&eighths, 2 + place) as u64;
+            self.correlations[place] = correlation(&eighths, 2 + place);
+        }
+        if self.tracking == 1 && (1..=HIGHEST_LAG as u32 + 1).contains(&self.low) {
+            for place in 0..TRACKED {
+                let lag = (self.low as usize + place).min(HIGHEST_LAG);
+                self.e[place] = energy(&kept, lag) as u64;
+                self.h[place] = correlation(&kept, lag);
+            }
+        }
+        self
+    }
+
+    /// A count with both phases of the record's, the same if the take is short: what is older than the kept samples is never heard.
+    fn short_count(&self) -> usize {
+        match self.count as usize {
+            count if count < 4_000 => count,
+            count => 2_000 + (count - 2_000) % 40,
+        }
+    }
+
+    /// This program's own tuner, of a good record.
+    fn tuner(&self) -> Tuner {
+        let count = self.short_count();
+        let history = |stored: &[i16], count: usize| {
+            let kept = count.min(stored.len());
+            let mut samples = vec![0; count - kept];
+            samples.extend(&stored[stored.len() - kept..]);
+            History::of(&samples)
+        };
+        let pitch = (self.period > 0).then_some(Pitch {
+            period: i64::from(self.period),
+            wanted_note: self.note as usize,
+        });
+        let length = usize::from(self.length);
+        Tuner {
+            settings: self.settings,
+            limit: count + TAKE_LIMIT - self.count as usize,
+            take: history(&self.store, count),
+            eighths: history(&self.eighths, count / 8),
+            mode: match self.tracking {
+                0 => Mode::Searching,
+                _ => Mode::Tracking(Tracking {
+                    lowest: self.low as usize,
+                    last_best: self.last as usize,
+                    pitch,
+                }),
+            },
+            rate: i64::from(self.rate),
+            position: input_position(count) - i64::from(self.behind),
+            last: (length > 0).then(|| LastBlock {
+                number: self.number,
+                samples: self.store[STORED - length..].to_vec(),
+                output: self.out[..length].to_vec(),
+                counts: Counts {
+                    written: length,
+                    repeated: usize::from(self.repeated),
+                    dropped: usize::from(self.dropped),
+                },
+            }),
+        }
+    }
+
+    /// The record after the tuner made of it took a block.
+    fn after(&self, tuner: &Tuner, seen: &Statistics) -> Record {
+        let mut record = Record::fresh(tuner.settings);
+        let last = tuner.last.as_ref().expect("a block was taken");
+        record.count = self.count + last.samples.len() as u32;
+        record.behind = (input_position(tuner.take.count()) - tuner.position) as u32;
+        record.rate = tuner.rate as u32;
+        // Without a period there is no wanted note; a record may hold some number there, and it stays until a lag is found or lost.
+        let found = seen.finds_by_long_low + seen.finds_by_first_low + seen.finds_by_second_low;
+        let lost = seen.losses_by_eps + seen.losses_by_floor + seen.losses_by_jump;
+        if found + seen.finds_tied + lost + seen.steps == 0 {
+            record.note = self.note;
+        }
+        if let Mode::Tracking(tracking) = tuner.mode {
+            record.tracking = 1;
+            record.low = tracking.lowest as u32;
+            record.last = tracking.last_best as u32;
+            if let Some(pitch) = tracking.pitch {
+                record.period = pitch.period as u32;
+                record.note = pitch.wanted_note as u32;
+            }
+        }
+        record.number = last.number;
+        record.length = last.samples.len() as u16;
+        record.repeated = last.counts.repeated as u16;
+        record.dropped = last.counts.dropped as u16;
+        record.out[..last.output.len()].copy_from_slice(&last.output);
+        keep(&tuner.take, &mut record.store);
+        keep(&tuner.eighths, &mut record.eighths);
+        record.with_right_sums()
+    }
+}
+
+/// The newest samples of a history, silence before it.
+fn keep(history: &History, to: &mut [i16]) {
+    let count = history.count() as i64;
+    let oldest = count - to.len() as i64;
+    for (place, kept) in to.iter_mut().enumerate() {
+        *kept = history.at(oldest + place as i64);
+    }
+}
+
+/// What a call over these bytes answers and leaves.
+pub fn made(bytes: &[u8; SIZE], call: &Call) -> Left {
+    let record = Record::of_bytes(bytes);
+    let mut left = Left {
+        record: bytes.to_vec(),
+        ..Left::default()
+    };
+    match call {
+        Call::Start(settings) => {
+            let (answer, tuner) = Tuner::start(*settings);
+            left.number = answer.number() as u32;
+            left.record = Record::fresh(tuner.settings).bytes();
+        }
+        Call::StartDefault => left.record = Record::fresh(Settings::DEFAULT).bytes(),
+        Call::Cut(length, k) => {
+            // Past the end in whole numbers, whatever k is.
+            let from = (u128::from(*k) * LONGEST_BLOCK as u128).min(u128::from(*length)) as u64;
+            left.stretch = [from, (length - from).min(LONGEST_BLOCK as u64)];
+        }
+        Call::Change(settings) if record.is_good() => {
+            let mut tuner = record.tuner();
+            left.number = tuner.change(*settings).number() as u32;
+            let settings = tuner.settings;
+            left.record = Record { settings, ..record }.bytes();
+        }
+        Call::Reset if record.is_good() => {
+            let mut tuner = record.tuner();
+            left.number = tuner.reset().number() as u32;
+            left.record = Record::fresh(tuner.settings).bytes();
+        }
+        Call::Block {
+            number,
+            samples,
+            out,
+        } if record.is_good() => {
+            let (mut tuner, mut seen) = (record.tuner(), Statistics::default());
+            left.out.clone_from(out);
+            let (answer, counts) = tuner.block(*number, samples, &mut left.out, &mut seen);
+            left.number = answer.number() as u32;
+            left.counts = [counts.written, counts.repeated, counts.dropped].map(|n| n as u16);
+            if answer == Answer::Taken {
+                left.record = record.after(&tuner, &seen).bytes();
+            }
+        }
+        Call::Meter if record.is_good() => match record.tuner().meter() {
+            Meter::Searching => {}
+            Meter::Locking(lag) => (left.state, left.figures[0]) = (1, lag),
+            Meter::Pitched(figures) => {
+                left.state = 2;
+                left.figures = [0.0, figures.period, figures.wanted_period, figures.rate];
+            }
+            Meter::Refused => unreachable!("a good record's meter is read"),
+        },
+        Call::Meter => left.state = 9,
+        Call::Block { out, .. } => {
+            left.number = 9;
+            left.out.clone_from(out);
+        }
+        Call::Change(_) | Call::Reset => left.number = 9,
+    }
+    left
+}
