@@ -2,12 +2,14 @@
 
 use rules::Settings;
 ghost use mathlib.Core.Path.{_≡_};
+ghost use mathlib.Core.Bool.{true};
 ghost use mathlib.Core.Option.{some};
 ghost use Prim.Native.Nat.{ℕ, _^_, _≤_, _<_};
 ghost use lib.ListN.{length};
 ghost use Rattle.rules.specs.Rules.{Sound, E, D, passes, isLow, choice, foundBy, found};
 ghost use Rattle.ages.specs.Ages.{ago};
 ghost use Rattle.sums.specs.Kept.{RightAt, Right, Room, Kept};
+ghost use Rattle.finding.specs.Quiet.{Quiet};
 ghost use Rattle.finding.specs.Finding.{lagOf, Modest, Long, One, Distances, Measured, Small, LowAbove};
 
 pub enum Found {
@@ -123,11 +125,23 @@ fn found_by(d: &[u64; 109], e: &[u64; 109], g: Settings, s: &[i16], m: usize, l1
     }
 }
 
+// Too quiet for any lag to pass: E at lag 110 is below what the floor asks at lag 3.
+fn quiet(e: &[u64; 109], g: Settings) -> bool
+    requires { ⌜ Modest g ⌝ }
+    ensures { λ r. ⌜ (r ≡ true → Quiet g (now (e .entry))) ⌝ }
+{
+    let f = g.floor as u64;
+    e[108] < f * 6
+}
+
 // The lag found, from the eighth-rate sums and the first m samples of a store.
 pub fn find(e: &[u64; 109], h: &[i64; 109], g: Settings, s: &[i16], m: usize) -> Found
     requires { ⌜ Kept 109 (now e) (now h) × Modest g × Long (now s) m ⌝ }
     ensures { λ r. ⌜ ((y : Sound) → Right y 2 109 (now (e .entry)) (now (h .entry)) → lagOf r ≡ found g (ago (now (s .entry)) m) y) ⌝ }
 {
+    if quiet(e, g) {
+        return Found::Nothing;
+    }
     let mut d = [0u64; 109];
     distances(&mut d, e, h);
     let first = low_above(&d, e, g, 2);

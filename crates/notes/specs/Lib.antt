@@ -1,2 +1,2 @@
-pub mod SoFar
+pub mod Around
 pub mod Tuned

@@ -2,12 +2,12 @@
 use rules::Settings;
 ghost use mathlib.Core.Path.{_≡_};
 ghost use mathlib.Core.Option.{some};
-ghost use Prim.Native.Nat.{_+_, _≤_, _<_};
-ghost use Rattle.rules.specs.Rules.{notePeriod, ofScale, away, wanted, rawRate, smooth};
-ghost use Rattle.notes.specs.SoFar.{SoFar};
+ghost use Prim.Native.Nat.{ℕ, _+_, _-_, _%_, _≤_, _<_};
+ghost use Rattle.rules.specs.Rules.{table, notePeriod, ofScale, wanted, rawRate, smooth};
+ghost use Rattle.notes.specs.Around.{Halving, Longer, LastOfScale, FirstOfScale};
 ghost use Rattle.notes.specs.Tuned.{Tuned};
 
-// Places 0 to 68 are the notes 32 to 100.
+// Places 0 to 68 are the notes 32 to 100. Each use lays the array out anew: once a search.
 const PERIODS: [u32; 69] = [
     217471,
     205265,
@@ -80,12 +80,6 @@ const PERIODS: [u32; 69] = [
     4281,
 ];
 
-// The note wanted so far, 0 while there is none, and its distance.
-struct Best {
-    note: u32,
-    least: u32,
-}
-
 // The wanted note of a period, and the new rate.
 pub struct Tone {
     pub note: u32,
@@ -99,39 +93,120 @@ pub fn note_period(note: u32) -> u32
     PERIODS[(note - 32) as usize]
 }
 
-fn of_scale(scale: u32, note: u32) -> bool
-    ensures { λ r. ⌜ r ≡ ofScale scale note ⌝ }
+// A note whose number mod 12 is c is of the scale.
+fn of_scale(scale: u32, c: u32) -> bool
+    requires { ⌜ c < 12 ⌝ }
+    ensures { λ r. ⌜ ((n : ℕ) → n % 12 ≡ c → r ≡ ofScale scale n) ⌝ }
 {
-    let c = note % 12;
     (scale >> c) % 2 == 1
 }
 
-fn distance(a: u32, b: u32) -> u32
-    ensures { λ r. ⌜ r ≡ away a b ⌝ }
+// The same of the note below, and of the note above. (A remainder at each note would be vectorised, at the price of sixteen notes.)
+fn below(c: u32) -> u32
+    requires { ⌜ c < 12 ⌝ }
+    ensures { λ r. ⌜ (r < 12) × ((r + 1) % 12 ≡ c) ⌝ }
 {
-    if a < b { b - a } else { a - b }
+    if c == 0 { 11 } else { c - 1 }
 }
 
-// The note at place k is looked at, after those below it.
-fn closer(scale: u32, period: u32, k: u32, b: Best) -> Best
-    requires { ⌜ (k < 69) × SoFar scale period k b ⌝ }
-    ensures { λ r. ⌜ SoFar scale period (k + 1) r ⌝ }
+fn above(c: u32) -> u32
+    requires { ⌜ c < 12 ⌝ }
+    ensures { λ r. ⌜ r ≡ (c + 1) % 12 ⌝ }
 {
-    let note = 32 + k;
-    if of_scale(scale, note) {
-        let p = note_period(note);
-        let d = distance(period, p);
-        let least = b.least;
-        if d <= least {
-            Best {
-                note: note,
-                least: d,
-            }
-        } else {
-            b
+    if c == 11 { 0 } else { c + 1 }
+}
+
+// Places of the table: from low to below high.
+struct Span {
+    low: u32,
+    high: u32,
+}
+
+// The half in which the notes with a longer period end.
+fn halved(periods: &[u32; 69], period: u32, s: Span) -> Span
+    requires { ⌜ (now periods ≡ table) × (s .low < s .high) × Halving period (s .low) (s .high) ⌝ }
+    ensures { λ r. ⌜ Halving period (r .low) (r .high) × (r .high - r .low < s .high - s .low) ⌝ }
+{
+    let mid = (s.low + s.high) / 2;
+    if periods[mid as usize] <= period {
+        Span {
+            low: s.low,
+            high: mid,
         }
     } else {
-        b
+        Span {
+            low: mid + 1,
+            high: s.high,
+        }
+    }
+}
+
+// How many notes have a longer period: they are the first of the table.
+fn longer(periods: &[u32; 69], period: u32) -> u32
+    requires { ⌜ now periods ≡ table ⌝ }
+    ensures { λ r. ⌜ Longer period r ⌝ }
+{
+    let mut s = Span { low: 0, high: 69 };
+    while s.low < s.high {
+        s = halved(periods, period, s);
+    }
+    s.low
+}
+
+// The last note of the scale among the first k of the table: it is number 31 + r, and r is 0 where there is none.
+fn last_of_scale(scale: u32, k: u32) -> u32
+    requires { ⌜ k ≤ 69 ⌝ }
+    ensures { λ r. ⌜ LastOfScale scale k r ⌝ }
+{
+    let mut j = k;
+    let mut c = (31 + k) % 12;
+    while 0 < j {
+        if of_scale(scale, c) {
+            return j;
+        }
+        c = below(c);
+        j -= 1;
+    }
+    j
+}
+
+// The place of the first note of the scale after the first k of the table, and 69 where there is none.
+fn first_of_scale(scale: u32, k: u32) -> u32
+    requires { ⌜ k ≤ 69 ⌝ }
+    ensures { λ r. ⌜ FirstOfScale scale k r ⌝ }
+{
+    let mut j = k;
+    let mut c = (32 + k) % 12;
+    while j < 69 {
+        if of_scale(scale, c) {
+            return j;
+        }
+        c = above(c);
+        j += 1;
+    }
+    j
+}
+
+// The place of the wanted note.
+fn nearest(periods: &[u32; 69], scale: u32, period: u32) -> u32
+    requires { ⌜ (now periods ≡ table) × (1 ≤ scale) × (scale ≤ 4095) ⌝ }
+    ensures { λ r. ⌜ (r < 69) × (wanted scale period ≡ some (32 + r)) ⌝ }
+{
+    let k = longer(periods, period);
+    let low = last_of_scale(scale, k);
+    let high = first_of_scale(scale, k);
+    if low == 0 {
+        return high;
+    }
+    if high == 69 {
+        return low - 1;
+    }
+    let a = periods[(low - 1) as usize];
+    let b = periods[high as usize];
+    if period - b <= a - period {
+        high
+    } else {
+        low - 1
     }
 }
 
@@ -140,16 +215,8 @@ pub fn wanted_note(scale: u32, period: u32) -> u32
     requires { ⌜ (1 ≤ scale) × (scale ≤ 4095) ⌝ }
     ensures { λ r. ⌜ wanted scale period ≡ some r ⌝ }
 {
-    let mut b = Best {
-        note: 0,
-        least: 4294967295,
-    };
-    let mut k: u32 = 0;
-    while k < 69 {
-        b = closer(scale, period, k, b);
-        k += 1;
-    }
-    b.note
+    let periods = PERIODS;
+    32 + nearest(&periods, scale, period)
 }
 
 // period x 65536 / wanted, nearest, halves up.
@@ -178,10 +245,11 @@ pub fn tune(settings: Settings, rate: u32, period: u32) -> Tone
 {
     let scale = settings.scale;
     let decay = settings.decay;
-    let note = wanted_note(scale, period);
-    let raw = raw_rate(period, note_period(note));
+    let periods = PERIODS;
+    let k = nearest(&periods, scale, period);
+    let raw = raw_rate(period, periods[k as usize]);
     Tone {
-        note: note,
+        note: 32 + k,
         rate: smooth(decay, rate, raw),
     }
 }

@@ -8,7 +8,7 @@ use native.Mathlib.Omega.{arith}
 use lib.IntN.{ℤ, pos, natAbs, _+ℤ_, _-ℤ_, _*ℤ_}
 use mir.Syntax.{w16}
 use mir.Val.{SFits}
-use Rattle.whole.specs.Bounds.{square-pos, natAbs-mul, natAbs-zero, w-sub, w-mul}
+use Rattle.whole.specs.Bounds.{square-pos, square-zero, w-sub, w-mul}
 use Rattle.whole.specs.Words.{held}
 use Rattle.whole.specs.Ring.{Expr, var, con, _⊕_, _⊖_, _⊗_, solve}
 use Rattle.whole.specs.Sums.{fold, sum, total, adds, addsℤ, fold-split, fold-below, pos-total, total-zero, total-term, total-within}
@@ -60,12 +60,8 @@ module _ (x : Sound) (L : ℕ) where
   same-there : (k : ℕ) → sq (x k -ℤ x (k + L)) ≡ 0 → x k ≡ x (k + L)
   same-there k e =
       solve (x k ∷ x (k + L) ∷ []) (var 0) (var 1 ⊕ (var 0 ⊖ var 1)) refl
-      ∙ ap (λ (z : ℤ). x (k + L) +ℤ z) (natAbs-zero (x k -ℤ x (k + L)) (root (natAbs (x k -ℤ x (k + L))) (sym (natAbs-mul (x k -ℤ x (k + L)) (x k -ℤ x (k + L))) ∙ e)))
+      ∙ ap (λ (z : ℤ). x (k + L) +ℤ z) (square-zero (x k -ℤ x (k + L)) e)
       ∙ solve (x (k + L) ∷ []) (var 0 ⊕ con (pos 0)) (var 0) refl
-    where
-      root : (n : ℕ) → n * n ≡ 0 → n ≡ 0
-      root zero e = refl
-      root (suc n) e = absurd (omega arith)
 
   -- D is 0 exactly when the two newest cycles are equal
   pub D-zero : D x L ≡ 0 → (k : ℕ) → k < L → x k ≡ x (k + L)

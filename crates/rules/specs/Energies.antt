@@ -7,9 +7,9 @@ use native.Mathlib.Omega.{arith}
 use lib.IntN.{ℤ, pos, natAbs, _+ℤ_, _-ℤ_, _*ℤ_}
 use mir.Syntax.{w16}
 use mir.Val.{SFits}
-use Rattle.whole.specs.Bounds.{Within, w-mul}
+use Rattle.whole.specs.Bounds.{Within, square-zero, w-mul}
 use Rattle.whole.specs.Words.{held}
-use Rattle.whole.specs.Sums.{sum, total, adds, addsℤ, slide, fold-step, fold-below, sum-slide, sum-within, total-within}
+use Rattle.whole.specs.Sums.{sum, total, adds, addsℤ, slide, fold-step, fold-below, sum-slide, sum-within, total-within, total-term, total-grows}
 use Rattle.rules.specs.Rules.{Sound, older, heard, sq, E, H}
 
 -- (4): from E before the newest sample x 0
@@ -45,6 +45,16 @@ module _ (x : Sound) (L : ℕ) where
       ap (total (λ (k : ℕ). sq (x k))) d
       ∙ fold-step adds (λ (k : ℕ). sq (x k)) (2 * L + 1)
       ∙ ap (λ (n : ℕ). n + sq (x (2 * L + 1))) (fold-step adds (λ (k : ℕ). sq (x k)) (2 * L))
+
+-- E does not fall with the lag
+pub E-grows : (x : Sound) {L M : ℕ} → L ≤ M → E x L ≤ E x M
+unfolding E
+E-grows x h = total-grows (λ (k : ℕ). sq (x k)) (omega arith)
+
+-- without energy every sample is 0
+pub no-energy : (x : Sound) (L : ℕ) → E x L ≡ 0 → (k : ℕ) → k < 2 * L → x k ≡ pos 0
+unfolding E
+no-energy x L e k h = square-zero (x k) (omega (arith, total-term (λ (j : ℕ). sq (x j)) (2 * L) k h))
 
 -- before a sample is heard, and after
 pub older-heard : (new : ℤ) (x : Sound) → older (heard new x) ≡ x

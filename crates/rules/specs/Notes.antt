@@ -11,6 +11,8 @@ use native.Mathlib.Nat.{
   div-lt-iff-lt-mul,
   mul-comm,
   add-mul,
+  add-zero,
+  add-suc,
   add-sub-of-le,
   mul-le-mul-left,
   pow-succ',
@@ -190,6 +192,19 @@ an-octave-is-half n m e lo hi =
           (rw (lt-leb 89 n h) at
           (at-each-note (λ i w. leb 89 i || leb w (2 * notePeriod (i + 12) + 1)) (unfold table notePeriod in refl) n lo (omega arith))),
     )
+
+next-is-shorter : (n : ℕ) → firstNote ≤ n → n < firstNote + notes → notePeriod (suc n) < notePeriod n
+next-is-shorter n lo hi = ltb-true _ _ (at-each-note (λ m w. ltb (notePeriod (suc m)) w) (unfold table notePeriod in refl) n lo hi)
+
+falls-by : (m d : ℕ) → firstNote ≤ m → m + d < firstNote + notes → notePeriod (m + d) + d ≤ notePeriod m
+falls-by m zero lo hi = rw (add-zero m) (omega arith)
+falls-by m (suc d) lo hi =
+    rw (add-suc m d) (omega (arith, falls-by m d lo (omega arith), next-is-shorter (m + d) (omega arith) (omega arith)))
+
+-- the table falls: a higher note is shorter by one for each note between, at least
+pub table-falls : (m n : ℕ) → firstNote ≤ m → m ≤ n → n < firstNote + notes → notePeriod n + (n - m) ≤ notePeriod m
+table-falls m n lo h hi =
+    subst (λ (k : ℕ). notePeriod k + (n - m) ≤ notePeriod m) (add-sub-of-le h) (falls-by m (n - m) lo (omega arith))
 
 -- ---- The raw rate
 

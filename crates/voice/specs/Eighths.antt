@@ -4,13 +4,14 @@ use mathlib.Core.List.{List}
 use Prim.Native.Nat.{ℕ, _+_, _*_, _/_, _%_, _≤_, _<_}
 use native.Mathlib.Omega.{arith}
 use borrow.Author.Tests.{ne-eqb}
-use lib.IntN.{ℤ}
-use lib.ListN.{length, set, length-set}
+use lib.IntN.{ℤ, pos}
+use lib.ListN.{length, getD, set, length-set}
 use mir.Syntax.{w16}
 use mir.Val.{SFits}
-use Rattle.rules.specs.Rules.{Sound, older, eighthSample, eighthDue, eighthsAfter}
+use Rattle.rules.specs.Rules.{Sound, heard, older, eighthSample, eighthDue, eighthsAfter}
 use Rattle.ages.specs.Ages.{ago, Samples, ago-older, ago-put, ago-before, samples-put}
 use Rattle.sums.specs.Kept.{Right, Room}
+use Rattle.voice.specs.Silent.{still-right}
 
 -- 288 places hold the eighth-rate samples of a take, as far as `places`, and e and h are the sums over them
 pub record Eighths (y : List ℤ) (places : ℕ) (e : List ℕ) (h : List ℤ) : Type 0 where
@@ -62,3 +63,9 @@ module _ (y : List ℤ) (p : ℕ) (v : ℤ) where
 
     pub put-eighths : {e′ : List ℕ} {h′ : List ℤ} → Right (ago (set y p v) (p + 1)) 2 109 e′ h′ → Eighths (set y p v) (p + 1) e′ h′
     put-eighths q = record { long = put-long; samples = put-samples; sums = q }
+
+    -- silence that goes on leaves the sums as they are
+    pub put-silence : v ≡ pos 0 → getD e 108 0 ≡ 0 → Eighths (set y p v) (p + 1) e h
+    put-silence z none =
+        put-eighths
+        (subst (λ (x : Sound). Right x 2 109 e h) (ap (λ (w : ℤ). heard w (ago y p)) (sym z) ∙ sym (ago-put y p (omega (arith, r .long)) v)) (still-right (r .sums) none))

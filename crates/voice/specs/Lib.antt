@@ -1,3 +1,4 @@
+pub mod Silent
 pub mod Eighths
 pub mod Voices
 pub mod Listening

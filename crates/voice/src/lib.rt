@@ -5,7 +5,8 @@ use tracking::Tracker;
 ghost use mathlib.Core.Path.{_≡_};
 ghost use mathlib.Core.Bool.{true, false};
 ghost use Prim.Native.Nat.{ℕ, _+_, _-_, _%_, _≤_, _<_};
-ghost use lib.ListN.{length, set, take, drop};
+ghost use lib.IntN.{pos};
+ghost use lib.ListN.{length, getD, set, take, drop};
 ghost use Rattle.rules.specs.Rules.{Sound, eighthSample, older, unpitched, tracked};
 ghost use Rattle.rules.specs.Rules as rules;
 ghost use Rattle.rules.specs.Ranges.{InRange};
@@ -35,6 +36,13 @@ pub struct Progress {
     pub voice: Voice,
 }
 
+// Silence goes on: the sample is 0, and so are those that the sums look at.
+fn still_silent(x: i16, e: &[u64; 109]) -> bool
+    ensures { λ r. ⌜ (r ≡ true → (x ≡ pos 0) × (getD (now (e .entry)) 108 0 ≡ 0)) ⌝ }
+{
+    if x == 0 { e[108] == 0 } else { false }
+}
+
 // The eighth-rate sample is made and stored, and the sums at eighth rate are brought up to it.
 fn eighth(
     y: &mut [i16; 288],
@@ -49,6 +57,9 @@ fn eighth(
 {
     let x = ages::eighth_sample(s, m);
     y[places] = x;
+    if still_silent(x, e) {
+        return;
+    }
     sums::next_all(e, h, 2, y, places + 1);
 }
 

@@ -62,6 +62,11 @@ pub natAbs-zero : (z : ℤ) → natAbs z ≡ 0 → z ≡ pos 0
 natAbs-zero (pos n) e = ap pos e
 natAbs-zero (negsuc n) e = absurd (omega arith)
 
+pub square-zero : (z : ℤ) → natAbs (z *ℤ z) ≡ 0 → z ≡ pos 0
+square-zero (pos zero) e = refl
+square-zero (pos (suc n)) e = absurd (omega arith)
+square-zero (negsuc n) e = absurd (omega arith)
+
 module _ {A B : ℕ} {a b : ℤ} (p : Within A a) (q : Within B b) where
   pub w-add : Within (A + B) (a +ℤ b)
   w-add = record { within = omega (arith, natAbs-add a b, p .within, q .within) }

@@ -2,7 +2,7 @@
 -- the two that are used are `total`, of natural numbers, and `sum`, of signed ones.
 use mathlib.Core.Path.{_≡_, refl, sym, ap, _∙_}
 use Prim.Native.Nat.{ℕ, zero, suc, _+_, _*_, _-_, _≤_, _<_}
-use native.Mathlib.Nat.{add-assoc, add-comm, zero-add, add-zero, add-suc, mul-suc}
+use native.Mathlib.Nat.{add-assoc, add-comm, zero-add, add-zero, add-suc, add-sub-of-le, mul-suc}
 use native.Mathlib.Omega.{arith}
 use native.Mathlib.Numerals.{add-one}
 use borrow.Author.Tests.{ltb-true, ltb-false}
@@ -133,3 +133,7 @@ total-term f (suc n) k h =
     by (ltb k n)
     (λ t. omega (arith, total-term f n k (ltb-true k n t)))
     (λ t. let e : n ≡ k = omega (arith, ltb-false k n t) in let g : f n ≡ f k = ap f e in omega arith)
+
+-- more terms, no less
+pub total-grows : (f : ℕ → ℕ) {m n : ℕ} → m ≤ n → total f m ≤ total f n
+total-grows f {m} {n} h = omega (arith, ap (total f) (add-sub-of-le h), fold-split adds f m (n - m))

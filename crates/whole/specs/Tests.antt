@@ -35,6 +35,10 @@ and-right true b e = e
 and-right false true e = refl
 and-right false false e = e
 
+pub and-no : (a : Bool) {b : Bool} → b ≡ false → a && b ≡ false
+and-no true e = e
+and-no false e = refl
+
 pub T-true : {b : Bool} → T b → b ≡ true
 T-true {b = true} t = refl
 T-true {b = false} t = absurd t

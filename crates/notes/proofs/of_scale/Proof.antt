@@ -10,7 +10,7 @@ shr-result c = search needs
 
 returns : tie.Need-returns
 unfolding ofScale
-returns c = search needs
+returns c n e = rw e
 
 pub of-scale-spec : {M : Type 1} → statement M
 of-scale-spec = tie.close (tie.spec shr-result returns)

@@ -1,4 +1,5 @@
--- `voice::eighth` meets its contract: a sample put at the next place is heard, and the sums before it are those that the update asks for.
+-- `voice::eighth` meets its contract: a sample put at the next place is heard, and the sums before it are those that the update asks for, or, where
+-- silence goes on, those after it too.
 -- Assumes nothing.
 use mathlib.Core.Path.{_≡_, refl, sym, ap, _∙_, subst}
 use Prim.Native.Nat.{ℕ, _+_}
@@ -12,7 +13,7 @@ use Rattle.rules.specs.Rules.{eighthSample}
 use Rattle.rules.specs.Hearing.{eighth-fits}
 use Rattle.ages.specs.Ages.{ago, ago-fits}
 use Rattle.sums.specs.Kept.{Room}
-use Rattle.voice.specs.Eighths.{Eighths, put-room, put-older, put-eighths, as-many}
+use Rattle.voice.specs.Eighths.{Eighths, put-room, put-older, put-eighths, put-silence, as-many}
 use Rattle.voice.proofs.eighth.Statement.{statement}
 use Rattle.voice.proofs.eighth.Tie as tie
 use Rattle.voice.proofs.eighth.Reads as reads
@@ -29,9 +30,6 @@ mul-x c = search needs
 element-set-from-x : tie.Need-element-set-from-x
 element-set-from-x c = search needs
 
-add-next-all : tie.Need-add-next-all
-add-next-all c = search needs
-
 -- the sample as it is stored
 stored : (c : tie.After-eighth-sample) → toZ w16 (ofZ w16 (c .eighth-sample .result)) ≡ eighthSample (ago (c .before .args .s .now) (c .before .args .m))
 stored c = toZ-ofZ {w = w16} {z = c .eighth-sample .result} (sfits-of (c .eighth-sample .ok)) ∙ c .eighth-sample .ensures
@@ -41,9 +39,26 @@ fits c =
     let a = c .before .args in
     subst (λ (z : ℤ). SFits w16 z) (sym (stored c)) (eighth-fits (ago (a .s .now) (a .m)) (ago-fits (c .before .pre .2) (a .m)))
 
+silent-requires : tie.Need-still-silent-requires
+silent-requires c κs = search needs
+
+returns : tie.Need-returns
+returns c =
+    let k = c .before .before .before in
+    let a = k .before .args in
+    let p = k .before .pre in
+    let v = toZ w16 (ofZ w16 (k .eighth-sample .result)) in
+    let q = c .before .still-silent .ensures (c .if1 .taken) in (
+      ap (set (a .y .now) (a .places)) (stored k),
+      put-silence (a .y .now) (a .places) v (p .5) (fits k) (p .3) (p .4) (q .0) (q .1),
+    )
+
+add-next-all : tie.Need-add-next-all
+add-next-all c = search needs
+
 next-all-requires : tie.Need-next-all-requires
 next-all-requires c κs =
-    let k = c .before .before .before .before in
+    let k = c .before .before .before .before .before .before .before in
     let a = k .before .args in
     let p = k .before .pre in
     let v = toZ w16 (ofZ w16 (k .eighth-sample .result)) in
@@ -52,9 +67,9 @@ next-all-requires c κs =
       as-many n (put-older (a .y .now) (a .places) v (p .5) (fits k) (p .3) (p .4)),
     )
 
-returns : tie.Need-returns
-returns c =
-    let k = c .before .before .before .before .before in
+returns-2 : tie.Need-returns-2
+returns-2 c =
+    let k = c .before .before .before .before .before .before .before .before in
     let a = k .before .args in
     let p = k .before .pre in
     let v = toZ w16 (ofZ w16 (k .eighth-sample .result)) in (
@@ -70,6 +85,8 @@ eighth-spec =
     eighth-sample-requires
     mul-x
     element-set-from-x
+    silent-requires
+    returns
     add-next-all
     next-all-requires
-    returns)
+    returns-2)

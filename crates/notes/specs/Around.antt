@@ -1,0 +1,158 @@
+-- The search of the wanted note. The table falls, so the notes with a longer period than the sung one are its first. Of those of the scale
+-- among them the last is the nearest, of the others the first; the wanted note is one of these two.
+use mathlib.Core.Path.{_≡_, ap, _∙_}
+use mathlib.Core.Bool.{true, false}
+use mathlib.Core.List.{List}
+use mathlib.Core.Option.{some}
+use Prim.Native.Nat.{ℕ, _+_, _-_, _≤_, _<_}
+use native.Mathlib.Omega.{arith}
+use borrow.Author.Tests.{ltb-true, ltb-false}
+use lib.Dec.{ltb}
+use lib.ListN.{getD}
+use Rattle.whole.specs.Tests.{by, yes-and-no}
+use Rattle.rules.specs.Rules.{table, firstNote, notes, notePeriod, ofScale, away, wanted}
+use Rattle.rules.specs.Notes.{IsWanted, wanted-some, is-wanted, table-falls}
+
+-- what stands at the place of a note
+pub at-place : {t : List ℕ} → t ≡ table → (k n : ℕ) → firstNote + k ≡ n → getD t k 0 ≡ notePeriod n
+unfolding notePeriod
+at-place e k n h = let same : k ≡ n - firstNote = omega arith in λ i. getD (e i) (same i) 0
+
+-- the notes below place low have a longer period than p, those from place high on have not
+pub record Halving (p low high : ℕ) : Type 0 where
+  pub order : low ≤ high
+  pub upto : high ≤ notes
+  pub longer : (m : ℕ) → firstNote ≤ m → m < firstNote + low → p < notePeriod m
+  pub shorter : (m : ℕ) → firstNote + high ≤ m → m < firstNote + notes → notePeriod m ≤ p
+
+-- the first k notes are those with a longer period than p
+abbrev pub Longer : ℕ → ℕ → Type 0
+Longer p k = Halving p k k
+
+-- no note from number a to below b is of the scale
+pub record NoneOfScale (scale a b : ℕ) : Type 0 where
+  pub none : (m : ℕ) → a ≤ m → m < b → ofScale scale m ≡ false
+
+-- the notes of the scale among the first k: the last of them is note number 31 + j, and j is 0 where there is none
+pub record LastOfScale (scale k j : ℕ) : Type 0 where
+  pub upto : j ≤ k
+  pub last : 0 < j → ofScale scale (31 + j) ≡ true
+  pub none-after : NoneOfScale scale (firstNote + j) (firstNote + k)
+
+-- the notes of the scale after the first k: the first of them stands at place j, and j is past the table where there is none
+pub record FirstOfScale (scale k j : ℕ) : Type 0 where
+  pub from : k ≤ j
+  pub upto : j ≤ notes
+  pub first : j < notes → ofScale scale (firstNote + j) ≡ true
+  pub none-before : NoneOfScale scale (firstNote + k) (firstNote + j)
+
+-- ---- halving
+pub whole-table : (p : ℕ) → Halving p 0 notes
+whole-table p = record { order = omega arith; upto = omega arith; longer = λ m lo hi. absurd (omega arith); shorter = λ m lo hi. absurd (omega arith) }
+
+module _ {p low high mid : ℕ} (h : Halving p low high) (from : low ≤ mid) (to : mid < high) where
+  pub lower-half : notePeriod (firstNote + mid) ≤ p → Halving p low mid
+  lower-half l =
+      record {
+        order = from;
+        upto = omega (arith, h .upto);
+        longer = h .longer;
+        shorter = λ m lo hi. omega (arith, table-falls (firstNote + mid) m (omega arith) lo hi);
+      }
+
+  pub upper-half : p < notePeriod (firstNote + mid) → Halving p (mid + 1) high
+  upper-half l =
+      record {
+        order = omega arith;
+        upto = h .upto;
+        longer = λ m lo hi. omega (arith, table-falls m (firstNote + mid) lo (omega arith) (omega (arith, h .upto)));
+        shorter = h .shorter;
+      }
+
+-- ---- none so far, and one note more that is not of the scale: above, and below
+pub none-yet : {scale a : ℕ} → NoneOfScale scale a a
+none-yet = record { none = λ m lo hi. absurd (omega arith) }
+
+pub none-above : {scale a b : ℕ} → NoneOfScale scale a b → ofScale scale b ≡ false → NoneOfScale scale a (b + 1)
+none-above {b = b} r off =
+    record {
+      none = λ m lo hi.
+          by (ltb m b)
+          (λ t. r .none m lo (ltb-true m b t))
+          (λ t. let e : b ≡ m = omega (arith, ltb-false m b t) in rw (← e) off);
+    }
+
+pub none-below : {scale a b : ℕ} → NoneOfScale scale (a + 1) b → ofScale scale a ≡ false → NoneOfScale scale a b
+none-below {a = a} r off =
+    record {
+      none = λ m lo hi.
+          by (ltb a m)
+          (λ t. r .none m (omega (arith, ltb-true a m t)) hi)
+          (λ t. let e : a ≡ m = omega (arith, ltb-false a m t) in rw (← e) off);
+    }
+
+-- ---- the wanted note
+module _ {scale p k low high : ℕ} (l : Longer p k) (a : LastOfScale scale k low) (b : FirstOfScale scale k high) where
+  -- a note of the scale with a longer period is not nearer than the last of them
+  below : (m : ℕ) → firstNote ≤ m → m < firstNote + k → ofScale scale m ≡ true
+      → (0 < low) × (m ≤ 31 + low) × (p < notePeriod (31 + low)) × (notePeriod (31 + low) ≤ notePeriod m)
+  below m lo hi on =
+      by (ltb m (firstNote + low))
+      (λ t. let h = ltb-true m (firstNote + low) t in
+      let in-table : 31 + low < firstNote + notes = omega (arith, a .upto, l .upto) in
+      (omega arith, omega arith, l .longer (31 + low) (omega arith) (omega (arith, a .upto)), omega (arith, table-falls m (31 + low) lo (omega arith) in-table)))
+      (λ t. absurd (yes-and-no on (a .none-after .none m (ltb-false m (firstNote + low) t) hi)))
+
+  -- one without is not nearer than the first of them, and if it is higher it is farther
+  above : (m : ℕ) → firstNote + k ≤ m → m < firstNote + notes → ofScale scale m ≡ true
+      → (high < notes) × (firstNote + high ≤ m) × (notePeriod (firstNote + high) ≤ p) × (notePeriod m + (m - (firstNote + high)) ≤ notePeriod (firstNote + high))
+  above m lo hi on =
+      by (ltb m (firstNote + high))
+      (λ t. absurd (yes-and-no on (b .none-before .none m lo (ltb-true m (firstNote + high) t))))
+      (λ t. let h = ltb-false m (firstNote + high) t in
+      (omega arith, h, l .shorter (firstNote + high) (omega (arith, b .from)) (omega arith), table-falls (firstNote + high) m (omega arith) h hi))
+
+  -- by whether a note of the scale has a longer period
+  each-of-scale : {P : Type 0} (m : ℕ) → firstNote ≤ m → m < firstNote + notes → ofScale scale m ≡ true
+      → ((0 < low) × (m ≤ 31 + low) × (p < notePeriod (31 + low)) × (notePeriod (31 + low) ≤ notePeriod m) → P)
+      → ((high < notes) × (firstNote + high ≤ m) × (notePeriod (firstNote + high) ≤ p) × (notePeriod m + (m - (firstNote + high)) ≤ notePeriod (firstNote + high)) → P) → P
+  each-of-scale m lo hi on f g =
+      by (ltb m (firstNote + k))
+      (λ t. f (below m lo (ltb-true m (firstNote + k) t) on))
+      (λ t. g (above m (ltb-false m (firstNote + k) t) hi on))
+
+  module _ (from : 1 ≤ scale) (to : scale ≤ 4095) where
+    -- the first note without a longer period is wanted, unless the last with one is nearer
+    pub higher-wanted : high < notes → (0 < low → p - notePeriod (firstNote + high) ≤ notePeriod (31 + low) - p) → wanted scale p ≡ some (firstNote + high)
+    higher-wanted h near =
+        is-wanted from to
+        (record {
+          inTable = omega arith;
+          inScale = b .first h;
+          least = λ m lo hi on. each-of-scale m lo hi on (λ w. omega (arith, near (w .0), short)) (λ w. omega arith);
+          higher = λ m lo hi on e. each-of-scale m lo hi on (λ w. omega (arith, a .upto, b .from)) (λ w. omega arith);
+        })
+      where
+        short : notePeriod (firstNote + high) ≤ p
+        short = l .shorter (firstNote + high) (omega (arith, b .from)) (omega arith)
+
+    -- the last note with a longer period is wanted where it is nearer than the first without
+    pub lower-wanted : 0 < low → (high < notes → notePeriod (31 + low) - p < p - notePeriod (firstNote + high)) → wanted scale p ≡ some (31 + low)
+    lower-wanted h near =
+        is-wanted from to
+        (record {
+          inTable = omega (arith, a .upto, l .upto);
+          inScale = a .last h;
+          least = λ m lo hi on. each-of-scale m lo hi on (λ w. omega arith) (λ w. omega (arith, near (w .0), long));
+          higher = λ m lo hi on e. each-of-scale m lo hi on (λ w. omega arith) (λ w. absurd (omega (arith, near (w .0), long)));
+        })
+      where
+        long : p < notePeriod (31 + low)
+        long = l .longer (31 + low) (omega arith) (omega (arith, a .upto))
+
+    -- some note is of the scale
+    pub some-higher : low ≡ 0 → high < notes
+    some-higher e =
+        let (n, f) = wanted-some scale p from to in
+        let w = f .1 in
+        each-of-scale n (w .inTable .0) (w .inTable .1) (w .inScale) (λ v. absurd (omega arith)) (λ v. v .0)
