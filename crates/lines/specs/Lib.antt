@@ -1,5 +1,6 @@
 pub mod Batch
 pub mod Laws
 pub mod Lines
+pub mod Ones
 pub mod Saying
 pub mod Steps
