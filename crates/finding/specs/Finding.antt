@@ -9,7 +9,7 @@ use lib.ListN.{length, getD}
 use mir.Syntax.{w16}
 use mir.Val.{SFits}
 use Rattle.rules.specs.declared.Settings.{Settings}
-use Rattle.rules.specs.Rules.{Sound, E, D, lowAbove}
+use Rattle.rules.specs.Rules.{Sound, E, D}
 use Rattle.rules.specs.Distance.{D-within}
 use Rattle.ages.specs.Ages.{at, Samples}
 use Rattle.sums.specs.Kept.{RightAt, Kept}
@@ -21,11 +21,6 @@ use Rattle.finding.specs.declared.Found.the-variants.{At, Nothing}
 abbrev pub lagOf : Found → Option ℕ
 lagOf (At L) = some L
 lagOf Nothing = none
-
--- an answer that names a lag names one above `above`, and at most 109
-abbrev pub Over : ℕ → Found → Type 0
-Over above (At L) = (above < L) × (L ≤ 109)
-Over above Nothing = Unit
 
 -- settings small enough to multiply with
 pub record Modest (g : Settings) : Type 0 where
@@ -59,11 +54,6 @@ pub record Measured (y : Sound) (d e : List ℕ) : Type 0 where
 -- n numbers small enough to multiply with
 pub record Small (n : ℕ) (xs : List ℕ) : Type 0 where
   pub small : (j : ℕ) → j < n → getD xs j 0 ≤ 2 ^ 42
-
--- the least low above a lag
-pub record LowAbove (g : Settings) (d e : List ℕ) (above : ℕ) (r : Found) : Type 0 where
-  pub range : Over above r
-  pub least : (y : Sound) → Measured y d e → lagOf r ≡ lowAbove g y above
 
 -- ---- what is kept is small
 module _ {n : ℕ} {e : List ℕ} {h : List ℤ} (k : Kept n e h) where

@@ -4,13 +4,14 @@ use rules::Settings;
 ghost use mathlib.Core.Path.{_≡_};
 ghost use mathlib.Core.Bool.{true};
 ghost use mathlib.Core.Option.{some};
-ghost use Prim.Native.Nat.{ℕ, _^_, _≤_, _<_};
-ghost use lib.ListN.{length};
-ghost use Rattle.rules.specs.Rules.{Sound, E, D, passes, isLow, choice, foundBy, found};
+ghost use Prim.Native.Nat.{ℕ, _-_, _*_, _/_, _^_, _≤_, _<_};
+ghost use lib.ListN.{length, getD};
+ghost use Rattle.rules.specs.Rules.{Sound, E, D, passes, isLow, choice, found};
 ghost use Rattle.ages.specs.Ages.{ago};
 ghost use Rattle.sums.specs.Kept.{RightAt, Right, Room, Kept};
 ghost use Rattle.finding.specs.Quiet.{Quiet};
-ghost use Rattle.finding.specs.Finding.{lagOf, Modest, Long, One, Distances, Measured, Small, LowAbove};
+ghost use Rattle.finding.specs.Finding.{lagOf, Modest, Long, One, Distances, Measured, Small};
+ghost use Rattle.finding.specs.Scan.{InOrder, Leasts, Passed};
 
 pub enum Found {
     At(usize),
@@ -76,19 +77,67 @@ fn low_at(d: &[u64; 109], e: &[u64; 109], g: Settings, l: usize) -> bool
     }
 }
 
-// The least low above a lag.
-fn low_above(d: &[u64; 109], e: &[u64; 109], g: Settings, above: usize) -> Found
-    requires { ⌜ (2 ≤ above) × (above ≤ 109) × Modest g × Small 109 (now d) × Small 109 (now e) ⌝ }
-    ensures { λ r. ⌜ LowAbove g (now (d .entry)) (now (e .entry)) above r ⌝ }
+// The two least lows, each 0 where there is none.
+struct Lows {
+    first: usize,
+    second: usize,
+}
+
+// The greatest D with which a lag can pass: 1/1024 of eps x E at lag 110, the greatest E.
+fn greatest(e: &[u64; 109], g: Settings) -> u64
+    requires { ⌜ Modest g × Small 109 (now e) ⌝ }
+    ensures { λ r. ⌜ r ≡ g .eps * getD (now (e .entry)) 108 0 / 1024 ⌝ }
 {
-    let mut l = above + 1;
-    while l <= 109 {
-        if low_at(d, e, g, l) {
-            return Found::At(l);
+    let p = g.eps as u64;
+    p * e[108] / 1024
+}
+
+// The next lag, from l down, whose D is not too great, and 2 where there is none. (Apart from the scan below, since it takes 3 instructions a lag so.)
+fn next_down(d: &[u64; 109], most: u64, l: usize) -> usize
+    requires { ⌜ (2 ≤ l) × (l ≤ 109) ⌝ }
+    ensures { λ r. ⌜ Passed (now (d .entry)) most r l ⌝ }
+{
+    let mut k = l;
+    while 2 < k {
+        if d[k - 2] <= most {
+            return k;
         }
-        l += 1;
+        k -= 1;
     }
-    Found::Nothing
+    k
+}
+
+// The lag l is looked at, after those above it.
+fn with_lag(d: &[u64; 109], e: &[u64; 109], g: Settings, l: usize, t: Lows) -> Lows
+    requires { ⌜ (3 ≤ l) × (l ≤ 109) × Modest g × Small 109 (now d) × Small 109 (now e) × InOrder l t ⌝ }
+    ensures { λ r. ⌜ InOrder (l - 1) r × ((y : Sound) → Measured y (now (d .entry)) (now (e .entry)) → Leasts g y l t → Leasts g y (l - 1) r) ⌝ }
+{
+    if low_at(d, e, g, l) {
+        Lows {
+            first: l,
+            second: t.first,
+        }
+    } else {
+        t
+    }
+}
+
+// The two least lows.
+fn two_least(d: &[u64; 109], e: &[u64; 109], g: Settings) -> Lows
+    requires { ⌜ Modest g × Small 109 (now d) × Small 109 (now e) ⌝ }
+    ensures { λ r. ⌜ InOrder 2 r × ((y : Sound) → Measured y (now (d .entry)) (now (e .entry)) → Leasts g y 2 r) ⌝ }
+{
+    let most = greatest(e, g);
+    let mut t = Lows {
+        first: 0,
+        second: 0,
+    };
+    let mut l = next_down(d, most, 109);
+    while 2 < l {
+        t = with_lag(d, e, g, l, t);
+        l = next_down(d, most, l - 1);
+    }
+    t
 }
 
 // D at full rate, at one lag.
@@ -110,19 +159,23 @@ fn choice(s: &[i16], m: usize, l1: usize, l2: usize) -> usize
     if b < a { 8 * l2 } else { 8 * l1 }
 }
 
-// The lag found, by the least low L1.
-fn found_by(d: &[u64; 109], e: &[u64; 109], g: Settings, s: &[i16], m: usize, l1: usize) -> Found
-    requires { ⌜ (2 ≤ l1) × (l1 ≤ 109) × Modest g × Small 109 (now d) × Small 109 (now e) × Long (now s) m ⌝ }
-    ensures { λ r. ⌜ ((y : Sound) → Measured y (now (d .entry)) (now (e .entry)) → lagOf r ≡ foundBy g (ago (now (s .entry)) m) y (some l1)) ⌝ }
+// The lag found, by the least lows.
+fn found_by(s: &[i16], m: usize, t: Lows) -> Found
+    requires { ⌜ InOrder 2 t × Long (now s) m ⌝ }
+    ensures { λ r. ⌜ ((g : Settings) (y : Sound) → Leasts g y 2 t → lagOf r ≡ found g (ago (now (s .entry)) m) y) ⌝ }
 {
+    let l1 = t.first;
+    let l2 = t.second;
+    if l1 == 0 {
+        return Found::Nothing;
+    }
     if 55 <= l1 {
         return Found::At(8 * l1);
     }
-    let second = low_above(d, e, g, l1);
-    match second {
-        Found::Nothing => Found::Nothing,
-        Found::At(l2) => Found::At(choice(s, m, l1, l2)),
+    if l2 == 0 {
+        return Found::Nothing;
     }
+    Found::At(choice(s, m, l1, l2))
 }
 
 // Too quiet for any lag to pass: E at lag 110 is below what the floor asks at lag 3.
@@ -144,9 +197,6 @@ pub fn find(e: &[u64; 109], h: &[i64; 109], g: Settings, s: &[i16], m: usize) ->
     }
     let mut d = [0u64; 109];
     distances(&mut d, e, h);
-    let first = low_above(&d, e, g, 2);
-    match first {
-        Found::Nothing => Found::Nothing,
-        Found::At(l1) => found_by(&d, e, g, s, m, l1),
-    }
+    let t = two_least(&d, e, g);
+    found_by(s, m, t)
 }

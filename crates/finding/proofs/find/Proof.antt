@@ -1,19 +1,17 @@
 -- `finding::find` meets its contract: too quiet, and no lag passes (`nothing-found`); otherwise d holds D of every sound whose sums e and h are,
--- so that `low_above` and `found_by` answer by the rule.
+-- so that the two least lows, and what is found by them, are the rule's.
 -- Assumes nothing.
-use mathlib.Core.Path.{sym, subst}
+use mathlib.Core.Path.{sym}
 use native.Mathlib.Omega.{arith}
 use borrow.Author.Needs.{needs}
-use Rattle.rules.specs.Rules.{Sound, foundBy, found}
 use Rattle.ages.specs.Ages.{ago}
-use Rattle.sums.specs.Kept.{Right}
-use Rattle.finding.specs.Finding.{Over, Measured, Small, small-energies, small-distances}
+use Rattle.finding.specs.Finding.{small-energies, small-distances}
 use Rattle.finding.specs.Quiet.{nothing-found}
 use Rattle.finding.proofs.find.Statement.{statement}
 use Rattle.finding.proofs.find.Tie as tie
 
 quiet-requires : tie.Need-quiet-requires
-quiet-requires c κs = c .pre .1
+quiet-requires c κs = search needs
 
 returns : tie.Need-returns
 returns c y r =
@@ -27,51 +25,20 @@ slice-aggregate-distances c = search needs
 distances-requires : tie.Need-distances-requires
 distances-requires c κs = search needs
 
--- where the distances are taken, the function's start
-abbrev start : tie.After-distances → tie.Start
-start c = c .before .before .before .before .before .before
-
-small : (c : tie.After-distances) → Small 109 (c .distances .last .0)
-small c = let k = start c .pre .0 in small-distances k (c .distances .ensures (k .sound) (k .low) (k .right))
-
-measured : (c : tie.After-distances) (y : Sound)
-    → Right y 2 109 (start c .args .e .now) (start c .args .h .now)
-    → Measured y (c .distances .last .0) (start c .args .e .now)
-measured c y r = record { distances = c .distances .ensures y 2 r; energy = r .energy }
-
-low-above-requires : tie.Need-low-above-requires
-low-above-requires c κs =
+two-least-requires : tie.Need-two-least-requires
+two-least-requires c κs =
     let d = c .before .before in
-    let s = start d in
-    (omega arith, omega arith, s .pre .1, small d, small-energies (s .pre .0))
-
-enum-told : tie.Need-enum-told
-enum-told c = search needs
-
-enum-known-first : tie.Need-enum-known-first
-enum-known-first c = search needs
+    let p = d .before .before .before .before .before .before .pre in
+    let k = p .0 in
+    (p .1, small-distances k (d .distances .ensures (k .sound) (k .low) (k .right)), small-energies k)
 
 found-by-requires : tie.Need-found-by-requires
-found-by-requires c κs =
-    let f = c .before .before in
-    let d = f .before .before .before .before .before in
-    let s = start d in
-    let r = subst (Over 2) (f .first .given .1) (f .before .before .low-above .ensures .range) in
-    (omega (arith, r .0), r .1, s .pre .1, small d, small-energies (s .pre .0), s .pre .2)
+found-by-requires c κs = search needs
 
 returns-2 : tie.Need-returns-2
-unfolding found foundBy
 returns-2 c y r =
-    let l = c .before .before in
-    rw (← l .low-above .ensures .least y (measured (l .before .before .before) y r), c .enum-told .given .1)
-
-returns-3 : tie.Need-returns-3
-unfolding found
-returns-3 c y r =
-    let f = c .before .before .before in
-    let l = f .before .before in
-    let m = measured (l .before .before .before) y r in
-    rw (← l .low-above .ensures .least y m, f .first .given .1) (c .found-by .ensures y m)
+    let t = c .before in
+    c .found-by .ensures _ y (t .two-least .ensures .1 y (record { distances = t .before .before .before .distances .ensures y 2 r; energy = r .energy }))
 
 pub find-spec : {M : Type 1} → statement M
 find-spec =
@@ -81,9 +48,6 @@ find-spec =
     returns
     slice-aggregate-distances
     distances-requires
-    low-above-requires
-    enum-told
-    enum-known-first
+    two-least-requires
     found-by-requires
-    returns-2
-    returns-3)
+    returns-2)

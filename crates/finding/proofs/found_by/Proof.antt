@@ -1,57 +1,31 @@
--- `finding::found_by` meets its contract: what `low_above` and `choice` answer are the least low above L1 and the rule's choice.
+-- `finding::found_by` meets its contract: the rule goes by the least low L1, and where it is below 55 by L2, the least above it.
 -- Assumes nothing.
-use mathlib.Core.Path.{subst}
+use mathlib.Core.Path.{sym, _∙_}
 use native.Mathlib.Omega.{arith}
-use borrow.Author.Tests.{le-leb, lt-leb}
-use borrow.Author.Needs.{needs}
-use Rattle.rules.specs.Rules.{choice, foundBy}
-use Rattle.finding.specs.Finding.{Over}
+use Rattle.finding.specs.Scan.{found-none, found-long, found-no-second, found-choice}
 use Rattle.finding.proofs.found_by.Statement.{statement}
 use Rattle.finding.proofs.found_by.Tie as tie
 
-mul-t10 : tie.Need-mul-t10
-mul-t10 c = search needs
-
 returns : tie.Need-returns
-unfolding foundBy
-returns c y m = rw (le-leb _ _ (c .if1 .taken))
+returns c g y r = sym (found-none _ r (c .if1 .taken))
 
-low-above-requires : tie.Need-low-above-requires
-low-above-requires c κs = search needs
+mul-t7 : tie.Need-mul-t7
+mul-t7 c = omega (arith, c .before .before .pre .0 .first (omega arith))
 
-enum-told : tie.Need-enum-told
-enum-told c = search needs
+returns-2 : tie.Need-returns-2
+returns-2 c g y r = sym (found-long _ r (c .if2 .taken))
 
-enum-known-second : tie.Need-enum-known-second
-enum-known-second c = search needs
+returns-3 : tie.Need-returns-3
+returns-3 c g y r = sym (found-no-second _ r (omega arith) (c .before .if2 .left) (c .if3 .taken))
 
 choice-requires : tie.Need-choice-requires
 choice-requires c κs =
-    let s = c .before .before .before .before .before in
-    let r = subst (Over (s .args .l1)) (c .before .second .given .1) (c .before .before .before .low-above .ensures .range) in
-    (s .pre .5, omega arith, r .0, r .1)
+    let p = c .before .before .before .pre in
+    let two = p .0 .second (omega arith) in
+    (p .1, omega arith, two .0, two .1)
 
-returns-2 : tie.Need-returns-2
-unfolding foundBy choice
-returns-2 c y m =
-    let l = c .before .before in
-    rw (lt-leb _ _ (l .before .if1 .left), ← l .low-above .ensures .least y m, c .enum-told .given .1)
-
-returns-3 : tie.Need-returns-3
-unfolding foundBy
-returns-3 c y m =
-    let l = c .before .before .before .before in
-    rw (lt-leb _ _ (l .before .if1 .left), ← l .low-above .ensures .least y m, c .before .before .second .given .1) (c .choice .ensures)
+returns-4 : tie.Need-returns-4
+returns-4 c g y r = c .choice .ensures ∙ sym (found-choice _ r (omega arith) (c .before .before .if2 .left) (omega arith))
 
 pub found-by-spec : {M : Type 1} → statement M
-found-by-spec =
-    tie.close
-    (tie.spec
-    mul-t10
-    returns
-    low-above-requires
-    enum-told
-    enum-known-second
-    choice-requires
-    returns-2
-    returns-3)
+found-by-spec = tie.close (tie.spec returns mul-t7 returns-2 returns-3 choice-requires returns-4)
