@@ -1,7 +1,7 @@
 /* The proved library, as the benchmark calls it: the only place that knows its names and its record.
 
-   Until the crate `host` and its header host/daxfolin.h are there, the library is the crate `tuner` with #[repr(C)] on its structs and
-   `block_in_place` exported (benchmark/scratch-library makes it). */
+   With DAXFOLIN_HEADER it is the crate `host`, by its own header. Until that crate is there, it is the crate `tuner` in a copy, with C's layout
+   for its structs and `block_in_place` exported (./bench makes the copy). */
 #ifndef BENCHMARK_LIBRARY_H
 #define BENCHMARK_LIBRARY_H
 #include <stddef.h>
@@ -9,7 +9,7 @@
 
 #ifdef DAXFOLIN_HEADER
 #include DAXFOLIN_HEADER
-#define LIBRARY_TRACKING(t) (0)
+typedef daxfolin_record daxfolin_tuner;
 #else
 typedef struct {
     uint32_t scale, eps, decay, floor;
