@@ -7,7 +7,6 @@
                                             eleventh block is given again, and a refused one is sent before it
      bench sizes                            bytes of each program's record, and of the stack below a call
      bench tracked SOUND                    how much of the sound is tracked, in tenths of a per cent
-     bench samples SOUND                    the sound's samples, 16 bits each
 
    Of two runs with different COUNT the counts of executed instructions differ by the calls alone: the sound is always made whole, and the sum
    always taken over a minute. */
@@ -18,7 +17,6 @@
 int printf(const char *, ...);
 int strcmp(const char *, const char *);
 long strtol(const char *, char **, int);
-long write(int, const void *, size_t);
 int getrusage(int, void *);
 
 enum { MINUTE = 60 * 44100 };
@@ -198,24 +196,12 @@ static int tracked(char which)
     return 0;
 }
 
-static int samples_of(char which)
-{
-    sound(which, in, MINUTE);
-    for (size_t i = 0; i < MINUTE;) {
-        long n = write(1, in + i, 2 * (MINUTE - i));
-        if (n <= 0) return 1;
-        i += (size_t)n / 2;
-    }
-    return 0;
-}
-
 static size_t whole(const char *word) { return (size_t)strtol(word, 0, 10); }
 
 int main(int argc, char **argv)
 {
     if (argc == 2 && !strcmp(argv[1], "sizes")) return sizes();
     if (argc == 3 && !strcmp(argv[1], "tracked")) return tracked(argv[2][0]);
-    if (argc == 3 && !strcmp(argv[1], "samples")) return samples_of(argv[2][0]);
     if (argc == 6 && !strcmp(argv[1], "compare")) {
         sound(argv[2][0], in, MINUTE);
         return compare(whole(argv[3]), whole(argv[4]), whole(argv[5]));
