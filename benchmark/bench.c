@@ -1,0 +1,216 @@
+/* The harness.
+
+     bench run WHO SOUND BLOCK WARM COUNT   takes WARM samples of a sound in blocks of 512, then COUNT samples in blocks of BLOCK; prints a sum
+                                            over the whole output, the cycles repeated and dropped, and the user time of the COUNT samples in
+                                            microseconds. WHO: library, plain
+     bench compare SOUND BLOCK WARM COUNT   takes the same by both programs and holds every answer and sample of the one to the other's; each
+                                            eleventh block is given again, and a refused one is sent before it
+     bench sizes                            bytes of each program's record, and of the stack below a call
+     bench tracked SOUND                    how much of the sound is tracked, in tenths of a per cent
+
+   Of two runs with different COUNT the counts of executed instructions differ by the calls alone: the sound is always made whole, and the sum
+   always taken over a minute. */
+#include "library.h"
+#include "plain.h"
+#include "sounds.h"
+
+int printf(const char *, ...);
+int strcmp(const char *, const char *);
+long strtol(const char *, char **, int);
+int getrusage(int, void *);
+
+enum { MINUTE = 60 * 44100 };
+static int16_t in[MINUTE], out[MINUTE];
+
+static daxfolin_tuner tuner;
+static plain_tuner plain;
+
+/* An answer, as both programs give it. */
+typedef plain_answer answer;
+
+typedef struct {
+    const char *name;
+    size_t record;
+    void (*start)(void);
+    answer (*block)(uint16_t, const int16_t *, size_t, int16_t *, size_t);
+} program;
+
+static void library_start(void) { daxfolin_start_default(&tuner); }
+
+static answer library_block(uint16_t number, const int16_t *samples, size_t n, int16_t *to, size_t room)
+{
+    daxfolin_answer a = daxfolin_block(&tuner, number, samples, n, to, room);
+    return (answer){a.number, a.written, a.repeated, a.dropped};
+}
+
+static void plain_start(void) { plain_start_default(&plain); }
+
+static answer plain_take(uint16_t number, const int16_t *samples, size_t n, int16_t *to, size_t room)
+{
+    return plain_block(&plain, number, samples, n, to, room);
+}
+
+static const program programs[2] = {
+    {"library", sizeof(daxfolin_tuner), library_start, library_block},
+    {"plain", sizeof(plain_tuner), plain_start, plain_take},
+};
+
+static uint16_t number;
+static uint64_t repeated, dropped, failures, checked;
+
+static void take(const program *p, size_t from, size_t to, size_t block)
+{
+    while (from < to) {
+        size_t n = to - from < block ? to - from : block;
+        answer a = p->block(number++, in + from, n, out + from, n);
+        failures += a.number != 0;
+        repeated += a.repeated;
+        dropped += a.dropped;
+        from += n;
+    }
+}
+
+static long user_microseconds(void)
+{
+    long usage[18] = {0};
+    getrusage(0, usage);
+    return usage[0] * 1000000 + usage[1];
+}
+
+static int run(const program *p, size_t block, size_t warm, size_t count)
+{
+    p->start();
+    take(p, 0, warm, 512);
+    long began = user_microseconds();
+    take(p, warm, warm + count, block);
+    long took = user_microseconds() - began;
+    uint64_t sum = 0;
+    for (size_t i = 0; i < MINUTE; i++) sum = sum * 31 + (uint16_t)out[i];
+    printf("sum %016lx repeated %lu dropped %lu user %ld\n", sum, repeated, dropped, took);
+    return failures != 0;
+}
+
+/* Sends the same to both, and holds answers and outputs to each other; the output has one sample more room, which stays as it is. */
+static void both(uint16_t n, const int16_t *samples, size_t length, size_t at, uint32_t expected)
+{
+    int16_t a[LONGEST_BLOCK + 1], b[LONGEST_BLOCK + 1];
+    for (size_t i = 0; i <= LONGEST_BLOCK; i++) a[i] = b[i] = (int16_t)(i * 77 + 5);
+    answer x = programs[0].block(n, samples, length, a, length + 1);
+    answer y = programs[1].block(n, samples, length, b, length + 1);
+    bool same = x.number == expected && x.number == y.number && x.written == y.written && x.repeated == y.repeated && x.dropped == y.dropped;
+    for (size_t i = 0; i <= LONGEST_BLOCK; i++) same &= a[i] == b[i];
+    if (expected == 0)
+        for (size_t i = 0; i < length; i++) out[at + i] = a[i];
+    if (expected == 1)
+        for (size_t i = 0; i < length; i++) same &= a[i] == out[at + i];
+    checked += expected == 0 ? length : 0;
+    if (!same && failures++ < 5)
+        printf("DIFFER at sample %lu, block of %lu: %u %u %u %u against %u %u %u %u\n", at, length, x.number, x.written, x.repeated, x.dropped,
+            y.number, y.written, y.repeated, y.dropped);
+}
+
+static void both_take(size_t from, size_t to, size_t block)
+{
+    while (from < to) {
+        size_t n = to - from < block ? to - from : block;
+        if (number % 11 == 10) both((uint16_t)(number + 7), in + from, n, from, 5);
+        both(number, in + from, n, from, 0);
+        if (number % 11 == 10) both(number, in + from, n, from, 1);
+        number++;
+        from += n;
+    }
+}
+
+static int compare(size_t block, size_t warm, size_t count)
+{
+    programs[0].start();
+    programs[1].start();
+    both_take(0, warm, 512);
+    both_take(warm, warm + count, block);
+    printf("%lu samples compared, %lu blocks differ\n", checked, failures);
+    return failures != 0;
+}
+
+/* The stack: it is painted below this frame, the call is made, and the lowest byte that changed is looked for. */
+enum { PAINTED = 1 << 18, PAINT = 0xa5 };
+static uintptr_t bottom;
+
+static __attribute__((noinline)) void paint(void)
+{
+    volatile uint8_t room[PAINTED];
+    for (size_t i = 0; i < PAINTED; i++) room[i] = PAINT;
+    bottom = (uintptr_t)room;
+}
+
+static __attribute__((noinline)) uintptr_t lowest_changed(void)
+{
+    const volatile uint8_t *p = (const volatile uint8_t *)bottom;
+    while (*p == PAINT) p++;
+    return (uintptr_t)p;
+}
+
+static __attribute__((noinline)) answer nothing(uint16_t n, const int16_t *samples, size_t length, int16_t *to, size_t room)
+{
+    __asm__ volatile("" ::"r"(samples), "r"(to), "r"(length), "r"(room) : "memory");
+    return (answer){n, 0, 0, 0};
+}
+
+typedef answer call(uint16_t, const int16_t *, size_t, int16_t *, size_t);
+
+static __attribute__((noinline)) uintptr_t below(call *f, uint16_t n, size_t at)
+{
+    paint();
+    f(n, in + at, 512, out + at, 512);
+    return lowest_changed();
+}
+
+/* The greatest depth over a stretch of singing, the first search and tracking among it, below that of a call which does nothing. */
+static uintptr_t stack_of(const program *p)
+{
+    uintptr_t top = below(nothing, 0, 0), lowest = top;
+    p->start();
+    for (uint16_t n = 0; n < 200; n++) {
+        uintptr_t deep = below(p->block, n, 512 * (size_t)n);
+        if (deep < lowest) lowest = deep;
+    }
+    return top - lowest;
+}
+
+static int sizes(void)
+{
+    sound('a', in, MINUTE);
+    for (int i = 0; i < 2; i++) printf("%s record %lu stack %lu\n", programs[i].name, programs[i].record, stack_of(&programs[i]));
+    return 0;
+}
+
+static int tracked(char which)
+{
+    sound(which, in, MINUTE);
+    plain_start();
+    uint64_t yes = 0, all = 0;
+    for (size_t from = 0; from + 64 <= MINUTE; from += 64, all++) {
+        plain_take(number++, in + from, 64, out, 64);
+        yes += plain.tracking;
+    }
+    printf("%lu\n", yes * 1000 / all);
+    return 0;
+}
+
+static size_t whole(const char *word) { return (size_t)strtol(word, 0, 10); }
+
+int main(int argc, char **argv)
+{
+    if (argc == 2 && !strcmp(argv[1], "sizes")) return sizes();
+    if (argc == 3 && !strcmp(argv[1], "tracked")) return tracked(argv[2][0]);
+    if (argc == 6 && !strcmp(argv[1], "compare")) {
+        sound(argv[2][0], in, MINUTE);
+        return compare(whole(argv[3]), whole(argv[4]), whole(argv[5]));
+    }
+    if (argc == 7 && !strcmp(argv[1], "run")) {
+        sound(argv[3][0], in, MINUTE);
+        for (int i = 0; i < 2; i++)
+            if (!strcmp(argv[2], programs[i].name)) return run(&programs[i], whole(argv[4]), whole(argv[5]), whole(argv[6]));
+    }
+    printf("see bench.c for the words\n");
+    return 2;
+}
