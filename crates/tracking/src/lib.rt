@@ -121,6 +121,17 @@ pub struct Tracked {
     pub tracker: Tracker,
 }
 
+// The sums of the eight lags from another lowest on; where it is the same, they stay.
+fn moved_sums(e: &mut [u64; 8], h: &mut [i64; 8], from: u32, to: u32, s: &[i16], m: usize)
+    requires { ⌜ (16 ≤ to) × (to ≤ 873) × Long (now s) m × Right (ago (now s) m) from 8 (now e) (now h) ⌝ }
+    ensures { λ r. ⌜ Right (ago (now (s .entry)) m) to 8 (now (e .exit)) (now (h .exit)) ⌝ }
+{
+    if from == to {
+        return;
+    }
+    sums::direct_all(e, h, to as usize, s, m);
+}
+
 impl Tracker {
     // Tracks the eight lags from low on, with a last best lag, their sums right at once.
     pub fn at(low: u32, last: u32, s: &[i16], m: usize) -> Tracker
@@ -155,31 +166,13 @@ impl Tracker {
         }
     }
 
-    // The eight lags from another lowest on, with a new last best lag.
-    fn moved(self, low: u32, last: u32, s: &[i16], m: usize) -> Tracker
-        requires { ⌜ (16 ≤ low) × (low ≤ 873) × Long (now s) m × Right (ago (now s) m) (self .low) 8 (self .e) (self .h) ⌝ }
-        ensures { λ r. ⌜ Tracks (ago (now (s .entry)) m) low last r ⌝ }
-    {
-        if low == self.low {
-            let e = self.e;
-            let h = self.h;
-            return Tracker {
-                low: low,
-                last: last,
-                e: e,
-                h: h,
-            };
-        }
-        Tracker::at(low, last, s, m)
-    }
-
     // A tracking step.
     pub fn step(self, g: Settings, s: &[i16], m: usize) -> Tracked
         requires { ⌜ (16 ≤ self .low) × (self .low ≤ 873) × (self .last ≤ 880) × Modest g × Long (now s) m × Right (ago (now s) m) (self .low) 8 (self .e) (self .h) ⌝ }
         ensures { λ r. ⌜ Stepped g (ago (now (s .entry)) m) self r ⌝ }
     {
-        let e = self.e;
-        let h = self.h;
+        let mut e = self.e;
+        let mut h = self.h;
         let mut d = [0u64; 8];
         finding::distances(&mut d, &e, &h);
         let at = least(&d);
@@ -190,16 +183,26 @@ impl Tracker {
             return Tracked {
                 kept: false,
                 period: 0,
-                tracker: self,
+                tracker: Tracker {
+                    low: low,
+                    last: last,
+                    e: e,
+                    h: h,
+                },
             };
         }
         let p = period(&d, low, at);
         let next = moved_low(low, at);
-        let t = self.moved(next, lag, s, m);
+        moved_sums(&mut e, &mut h, low, next, s, m);
         Tracked {
             kept: true,
             period: p,
-            tracker: t,
+            tracker: Tracker {
+                low: next,
+                last: lag,
+                e: e,
+                h: h,
+            },
         }
     }
 }

@@ -181,6 +181,21 @@ fn listen(
     v
 }
 
+// The same voice, field by field. A voice that is handed on whole takes the unused bytes between its fields along, and LLVM then keeps it in memory
+// and stores all of it at each sample.
+fn rebuilt(v: Voice) -> Voice
+    ensures { λ r. ⌜ r ≡ v ⌝ }
+{
+    let t = v.tracker;
+    Voice {
+        tracking: v.tracking,
+        period: v.period,
+        note: v.note,
+        rate: v.rate,
+        tracker: t,
+    }
+}
+
 // One sample, which stands after the first m; the output goes to place i.
 fn step(
     p: Progress,
@@ -199,7 +214,8 @@ fn step(
     let n = p.count + 1;
     let heard = m + 1;
     let places = hear(y, p.places, e, h, n, s, heard);
-    let v = listen(p.voice, g, n, e, h, s, heard);
+    let old = rebuilt(p.voice);
+    let v = listen(old, g, n, e, h, s, heard);
     let r = reading::grow(p.behind, v.rate, v.period);
     let o = reading::read(s, heard, r.behind);
     out[i] = o;

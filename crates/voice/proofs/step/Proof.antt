@@ -30,21 +30,24 @@ add-heard c = search needs
 hear-requires : tie.Need-hear-requires
 hear-requires c κs = search needs
 
+rebuilt-requires : tie.Need-rebuilt-requires
+rebuilt-requires c κs = search needs
+
 listen-requires : tie.Need-listen-requires
 listen-requires c κs =
-    let s = c .before .before .before .before .before .before .before in
-    let p = s .pre in (
-      subst (λ (x : Sound). Voiced x (s .args .p .voice)) (sym (ago-older (s .args .s .now) (s .args .m) (p .2))) (p .4 .voiced),
-      p .0,
-      eighth-of (c .before .before .hear .ensures .eighths),
-      longer (p .1) (p .2),
-    )
+    let b = c .before .before in
+    let s = b .before .before .before .before .before .before in
+    let p = s .pre in
+    let older = subst (λ (x : Sound). Voiced x (s .args .p .voice)) (sym (ago-older (s .args .s .now) (s .args .m) (p .2))) (p .4 .voiced) in
+    (rw (b .rebuilt .ensures) older, p .0, eighth-of (b .before .hear .ensures .eighths), longer (p .1) (p .2))
 
 grow-requires : tie.Need-grow-requires
 grow-requires c κs = search needs
 
 read-requires : tie.Need-read-requires
-read-requires c κs = search needs
+read-requires c κs =
+    let s = c .before .before .before .before .before .before .before .before .before .before in
+    (omega (arith, s .pre .2), omega (arith, s .pre .1 .enough), c .grow .ensures .near)
 
 mul-o : tie.Need-mul-o
 mul-o c = search needs
@@ -54,23 +57,25 @@ element-set-from-o c = search needs
 
 add-repeated : tie.Need-add-repeated
 add-repeated c =
-    let s = c .before .before .before .before .before .before .before .before .before .before .before .before in
+    let s = c .before .before .before .before .before .before .before .before .before .before .before .before .before in
     omega (arith, s .pre .5 .repeated, c .before .before .before .grow .ensures .repeated-one)
 
 add-dropped : tie.Need-add-dropped
 add-dropped c =
-    let s = c .before .before .before .before .before .before .before .before .before .before .before .before .before .before in
+    let s = c .before .before .before .before .before .before .before .before .before .before .before .before .before .before .before in
     omega (arith, s .pre .5 .dropped, c .before .before .before .before .before .grow .ensures .dropped-one)
 
 returns : tie.Need-returns
 returns c =
     let d = c .before .before .before .before .before in
     let l = d .before in
-    let h = l .before .before .before in
+    let b = l .before .before .before in
+    let h = b .before in
     let s = h .before .before .before .before .before in
-    let a = s .args in (
-      ready-next (a .g) (a .s .now) (a .m) (a .y .now) (a .p) (l .listen .result) (d .grow .result) (s .pre .2) (h .hear .ensures) (l .listen .ensures) (d .grow .ensures) (s .pre .4 .placed),
-      did (a .g) (a .s .now) (a .m) (a .y .now) (a .p) (l .listen .result) (d .grow .result) (s .pre .2) (h .hear .ensures) (l .listen .ensures) (d .grow .ensures) (a .out .now) (a .i) (λ n. toZ-ofZ {w = w16} (sfits-of (c .before .before .before .before .read .ok)) ∙ c .before .before .before .before .read .ensures n),
+    let a = s .args in
+    let heard = rw (b .rebuilt .ensures) at (l .listen .ensures) in (
+      ready-next (a .g) (a .s .now) (a .m) (a .y .now) (a .p) (l .listen .result) (d .grow .result) (s .pre .2) (h .hear .ensures) heard (d .grow .ensures) (s .pre .4 .placed),
+      did (a .g) (a .s .now) (a .m) (a .y .now) (a .p) (l .listen .result) (d .grow .result) (s .pre .2) (h .hear .ensures) heard (d .grow .ensures) (a .out .now) (a .i) (λ n. toZ-ofZ {w = w16} (sfits-of (c .before .before .before .before .read .ok)) ∙ c .before .before .before .before .read .ensures n),
     )
 
 pub step-spec : {M : Type 1} → statement M
@@ -80,6 +85,7 @@ step-spec =
     add-n
     add-heard
     hear-requires
+    rebuilt-requires
     listen-requires
     grow-requires
     read-requires

@@ -121,35 +121,36 @@ period-requires c κs =
 moved-low-requires : tie.Need-moved-low-requires
 moved-low-requires c κs = search needs
 
-moved-requires : tie.Need-moved-requires
-moved-requires c κs =
-    let l = c .before .before .before .before .before in
+moved-sums-requires : tie.Need-moved-sums-requires
+moved-sums-requires c κs =
+    let n = c .before .before in
+    let l = n .before .before .before .before .before in
     let p = s l .pre in
     let r = moved-range (low l) (l .least .result) (p .0) (p .1) in
-    (omega (arith, r .0, c .moved-low .ensures), omega (arith, r .1, c .moved-low .ensures), p .4, p .5)
+    (omega (arith, r .0, n .moved-low .ensures), omega (arith, r .1, n .moved-low .ensures), p .4, p .5)
 
 returns-2 : tie.Need-returns-2
 returns-2 c =
-    let o = c .before .before .before .before .before in
+    let n = c .before .before .before in
+    let o = n .before .before .before .before in
     let l = o .before in
     let at = l .least .result in
-    let p = c .before .before .period .ensures (x l) (measured l) in
-    let t = c .moved .ensures in
-    let m = t .low ∙ c .before .moved-low .ensures in
+    let p = n .before .period .ensures (x l) (measured l) in
+    let m = n .moved-low .ensures in
     let r = moved-range (low l) at (s l .pre .0) (s l .pre .1) in
     let b = moved-best (low l) at (l .least .ensures .inside) in
     record {
-      kept = ap not (sym (c .before .before .before .before .if1 .left) ∙ judged o);
+      kept = ap not (sym (n .before .before .before .if1 .left) ∙ judged o);
       period = λ k. p .is ∙ ap (rules.period (x l) (low l)) (at-best l);
       from = λ k. p .from;
       upto = λ k. p .upto;
       low = λ k. m ∙ ap (moved (low l)) (at-best l);
       low-from = λ k. omega (arith, r .0, m);
       low-upto = λ k. omega (arith, r .1, m);
-      last = λ k. t .last ∙ ap (λ (n : ℕ). low l + n) (at-best l);
-      last-from = λ k. omega (arith, b .0, m, t .last);
-      last-upto = λ k. omega (arith, b .1, m, t .last);
-      sums = λ k. rw (t .low) (t .sums);
+      last = λ k. ap (λ (n : ℕ). low l + n) (at-best l);
+      last-from = λ k. omega (arith, b .0, m);
+      last-upto = λ k. omega (arith, b .1, m);
+      sums = λ k. c .moved-sums .ensures;
     }
 
 pub step-spec : {M : Type 1} → statement M
@@ -171,5 +172,5 @@ step-spec =
     returns
     period-requires
     moved-low-requires
-    moved-requires
+    moved-sums-requires
     returns-2)
