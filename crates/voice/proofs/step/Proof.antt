@@ -47,7 +47,7 @@ grow-requires c κs = search needs
 read-requires : tie.Need-read-requires
 read-requires c κs =
     let s = c .before .before .before .before .before .before .before .before .before .before in
-    (omega (arith, s .pre .2), omega (arith, s .pre .1 .enough), c .grow .ensures .near)
+    (omega (arith, s .pre .2), omega (arith, s .pre .1 .enough), omega (arith, s .pre .4 .near, c .grow .ensures .near))
 
 mul-o : tie.Need-mul-o
 mul-o c = search needs
