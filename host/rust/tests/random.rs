@@ -1,6 +1,7 @@
 //! Calls over records, good, damaged and of any bytes, compared with the
 //! independent program: 9 and nothing changed, or the right answer; guards
-//! around every buffer stay as they were. DAXFOLIN_CASES says how many.
+//! around every buffer stay as they were. DAXFOLIN_CASES says how many calls,
+//! DAXFOLIN_SEED which.
 #![cfg(target_arch = "x86_64")]
 
 use daxfolin::{cut, Answer, Meter, Record, Settings};
@@ -71,8 +72,9 @@ fn left_by(record: &mut Record, call: &Call) -> Left {
 
 #[test]
 fn calls_over_any_record_are_the_independent_program_s() {
-    let cases = std::env::var("DAXFOLIN_CASES").map_or(1_000_000, |cases| cases.parse().unwrap());
-    let mut source = Cases::seeded(20_261_115);
+    let told = |name, unless| std::env::var(name).map_or(unless, |n| n.parse().unwrap());
+    let cases = told("DAXFOLIN_CASES", 1_000_000);
+    let mut source = Cases::seeded(told("DAXFOLIN_SEED", 20_261_115));
     for case in 0..cases {
         let (bytes, call) = source.case();
         if let Call::Cut(..) = call {
