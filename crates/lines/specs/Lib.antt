@@ -4,3 +4,4 @@ pub mod Lines
 pub mod Ones
 pub mod Saying
 pub mod Steps
+pub mod Serving
