@@ -185,11 +185,11 @@ chosen-other (suc (suc (suc (suc zero)))) fs a b c d = absurd (d refl)
 chosen-other (suc (suc (suc (suc (suc n))))) fs a b c d = refl
 
 -- ---- a line is answered
-read-long : (line : List ℕ) → 8192 < length line → read line ≡ unreadable
+pub read-long : (line : List ℕ) → 8192 < length line → read line ≡ unreadable
 unfolding read
 read-long line h = rw (lt-leb (length line) 8192 h)
 
-read-short : (line : List ℕ) → length line ≤ 8192 → read line ≡ recordIn (fields line)
+pub read-short : (line : List ℕ) → length line ≤ 8192 → read line ≡ recordIn (fields line)
 unfolding read
 read-short line h = rw (le-leb (length line) 8192 h)
 

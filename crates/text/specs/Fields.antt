@@ -56,7 +56,7 @@ later-field a at r h f =
     cond-yes (fields (drop (suc at) a)) [] (lt-ltb at (length a) h) ∙ ap (λ (n : ℕ). fields (drop n a)) (sym (add-one at)) ∙ field-at f
 
 -- before the end there is a field
-fields-some : (xs : List ℕ) → 0 < length (fields xs)
+pub fields-some : (xs : List ℕ) → 0 < length (fields xs)
 unfolding fields onto
 fields-some [] = omega arith
 fields-some (b ∷ bs) = cond-case (eqb b 9) ([] ∷ fields bs) (onto b (fields bs)) (λ (l : List (List ℕ)). 0 < length l) (λ e. omega arith) (λ e. grown (fields bs))

@@ -1,15 +1,15 @@
 -- What is printed is read back as itself: reading appends the digits that printing takes off the end, one by one,
 -- and `places` are enough of them for every number below 100,000.
 use mathlib.Core.Path.{_≡_, refl, sym, ap, _∙_}
-use mathlib.Core.Bool.{true, cond}
-use mathlib.Core.List.{List, [], _∷_, _++_, map}
+use mathlib.Core.Bool.{Bool, true, false, cond}
+use mathlib.Core.List.{List, [], _∷_, _++_, map, append-nil}
 use mathlib.Core.Option.{Option, some, Option·map, bind}
 use Prim.Native.Nat.{ℕ, zero, suc, _+_, _-_, _*_, _/_, _%_, _^_, _≤_, _<_}
 use native.Mathlib.Nat.{pow-suc}
 use native.Mathlib.Decide.{decLt}
 use native.Mathlib.Omega.{arith}
 use borrow.Author.Tests.{ne-eqb, ltb-true}
-use lib.Dec.{ltb}
+use lib.Dec.{ltb, eqb}
 use lib.IntN.{ℤ, pos, negsuc, negℤ}
 use lib.ListN.{length, getD, List·getD-append}
 use lib.Seq.{getD-at}
@@ -17,6 +17,7 @@ use mir.Syntax.{w16}
 use mir.Val.{SFits}
 use Rattle.whole.specs.Tests.{cond-case}
 use Rattle.text.specs.Text.{onto, fields, moreDigits, number, sample, digits, places, decimal, signed, sampleFields}
+use Rattle.text.specs.Fields.{fields-some}
 use Rattle.text.specs.Reading.{one-digit, number-digits, plain-sample}
 use Rattle.text.specs.Spelling.{digits-length, decimal-length}
 
@@ -100,14 +101,27 @@ signed-no-tab (pos n) k h e = decimal-no-tab n k h e
 signed-no-tab (negsuc n) zero h e = absurd (omega arith)
 signed-no-tab (negsuc n) (suc k) h e = decimal-no-tab (suc n) k (omega arith) e
 
--- a field stands before what begins with a tab, or before the end
-pub field-then : (f rest : List ℕ) {more : List (List ℕ)} → NoTab f → fields rest ≡ [] ∷ more → fields (f ++ rest) ≡ f ∷ more
+-- without a tab there is one field
+pub one-field : (f : List ℕ) → NoTab f → fields f ≡ f ∷ []
 unfolding fields onto
-field-then [] rest n e = e
-field-then (b ∷ f) rest n e = rw (ne-eqb b 9 (n 0 (omega arith))) (ap (onto b) (field-then f rest (λ k h. n (suc k) (omega arith)) e))
+one-field [] n = refl
+one-field (b ∷ f) n = rw (ne-eqb b 9 (n 0 (omega arith)), one-field f (λ k h. n (suc k) (omega arith)))
 
--- printed samples are fields again, after the field before them
-pub samples-parted : (f : List ℕ) → NoTab f → (xs : List ℤ) → fields (f ++ sampleFields xs) ≡ f ∷ map signed xs
-unfolding fields sampleFields
-samples-parted f n [] = field-then f [] n refl
-samples-parted f n (x ∷ xs) = field-then f (sampleFields (x ∷ xs)) n (ap (λ (fs : List (List ℕ)). [] ∷ fs) (samples-parted (signed x) (signed-no-tab x) xs))
+-- at a tab the fields before it end and those after it begin
+pub parted : (bs cs : List ℕ) → fields (bs ++ (9 ∷ cs)) ≡ fields bs ++ fields cs
+unfolding fields onto
+parted [] cs = refl
+parted (b ∷ bs) cs = by-byte (eqb b 9) (fields bs) (fields-some bs) (parted bs cs)
+  where
+    by-byte : (tab : Bool) (fs : List (List ℕ)) {all : List (List ℕ)} → 0 < length fs → all ≡ fs ++ fields cs → cond tab ([] ∷ all) (onto b all) ≡ cond tab ([] ∷ fs) (onto b fs) ++ fields cs
+    by-byte true fs h e = ap (λ (l : List (List ℕ)). [] ∷ l) e
+    by-byte false [] h e = absurd (omega arith)
+    by-byte false (f ∷ fs) h e = ap (onto b) e
+
+-- printed samples are fields again
+pub samples-parted : (bs : List ℕ) (xs : List ℤ) → fields (bs ++ sampleFields xs) ≡ fields bs ++ map signed xs
+unfolding sampleFields
+samples-parted bs [] = ap fields (append-nil bs) ∙ sym (append-nil (fields bs))
+samples-parted bs (x ∷ xs) =
+    parted bs (signed x ++ sampleFields xs)
+    ∙ ap (λ (fs : List (List ℕ)). fields bs ++ fs) (samples-parted (signed x) xs ∙ ap (λ (fs : List (List ℕ)). fs ++ map signed xs) (one-field (signed x) (signed-no-tab x)))
