@@ -1,4 +1,5 @@
 pub mod Batch
+pub mod Cutting
 pub mod Laws
 pub mod Lines
 pub mod Ones

@@ -1,4 +1,4 @@
--- Input that comes in reads, as the line program gets it: what is answered, what is held for the next read, and what the end of the input answers. Definitions only.
+-- Input that comes in reads, as the line program gets it: what is answered, what is held for the next read, and what the end of the input answers. Definitions only, and one statement (`Cutting`), whose proof is `cutting` in Cutting.antt.
 use mathlib.Core.Path.{_≡_}
 use mathlib.Core.List.{List, [], _∷_, _++_}
 use Prim.Native.Nat.{ℕ, _≤_}
@@ -26,3 +26,15 @@ pub data Reads (t : Tuner) : List (List ℕ) → Tuner → List ℕ → List ℕ
 pub data Ended (t : Tuner) : List ℕ → Tuner → List ℕ → Type 0 where
   nothing-held : Ended t [] t []
   last-line : {b : ℕ} {more : List ℕ} {t′ : Tuner} {text : List ℕ} → Said t (read (b ∷ more)) t′ text → Ended t (b ∷ more) t′ text
+
+-- the reads, one after the other
+abbrev pub joined : List (List ℕ) → List ℕ
+joined [] = []
+joined (new ∷ more) = new ++ joined more
+
+-- whichever way the same input is cut into reads, the same tuner is left and the answers, one after the other, are the same bytes
+abbrev pub Cutting : Type 0
+Cutting =
+    (t u u′ v v′ : Tuner) (reads reads′ : List (List ℕ)) (held held′ text text′ last last′ : List ℕ)
+    → joined reads ≡ joined reads′ → Reads t reads u held text → Ended u held v last → Reads t reads′ u′ held′ text′ → Ended u′ held′ v′ last′
+    → (v ≡ v′) × (text ++ last ≡ text′ ++ last′)
