@@ -1,13 +1,14 @@
 -- The rule of the table: entry p of note n is the whole number nearest to 44100 x 256 / (440 x 2^((n-69)/12)).
 -- It is said over whole numbers, by comparing twelfth powers of 2p-1 and 2p+1 with 2^69 multiplied in, and computed once over the table.
 use mathlib.Core.Path.{_≡_, refl, subst}
-use mathlib.Core.Bool.{Bool, true}
+use mathlib.Core.Bool.{Bool, true, _&&_}
 use Prim.Native.Nat.{ℕ, _+_, _-_, _*_, _^_, _≤_, _<_}
 use native.Mathlib.Nat.{add-sub-of-le, lt-irrefl, lt-of-le-of-lt, lt-of-lt-of-le, le-of-lt, mul-le-mul-right, pow-le-pow-left}
 use native.Mathlib.Omega.{arith}
 use borrow.Author.Tests.{ltb-true}
 use lib.Dec.{ltb}
 use lib.ListN.{length}
+use Rattle.whole.specs.Tests.{and-left, and-right}
 use Rattle.rules.specs.Every.{every, at-each-place}
 use Rattle.rules.specs.Rules.{table, firstNote, notes, notePeriod}
 
@@ -36,12 +37,18 @@ at-each-note test e n lo hi =
     subst (λ (m : ℕ). test m (notePeriod n) ≡ true) (add-sub-of-le lo)
     (at-each-place test table 0 firstNote e (n - firstNote) (omega (arith, table-length)))
 
+-- the one computed test on twelfth powers, over the whole table
+abbrev isNearest : ℕ → ℕ → Bool
+isNearest n p = ltb (times n (2 * p - 1)) second && ltb second (times n (2 * p + 1))
+
+all-nearest : every isNearest firstNote table ≡ true
+unfolding table
+all-nearest = refl
+
 pub table-nearest : (n : ℕ) → firstNote ≤ n → n < firstNote + notes → Nearest n (notePeriod n)
 table-nearest n lo hi =
-    record {
-      below = ltb-true _ _ (at-each-note (λ m p. ltb (times m (2 * p - 1)) second) (unfold table in refl) n lo hi);
-      above = ltb-true _ _ (at-each-note (λ m p. ltb second (times m (2 * p + 1))) (unfold table in refl) n lo hi);
-    }
+    let both = at-each-note isNearest all-nearest n lo hi in
+    record { below = ltb-true _ _ (and-left _ _ both); above = ltb-true _ _ (and-right (ltb (times n (2 * notePeriod n - 1)) second) _ both) }
 
 -- ---- it is the only such number
 times-grows : (n : ℕ) {x y : ℕ} → x ≤ y → times n x ≤ times n y
