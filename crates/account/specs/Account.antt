@@ -21,9 +21,8 @@ use Rattle.tuner.specs.Meters.{Metered}
 
 -- ---- the history
 
--- a call and what it answered; a block also with its output before and after
+-- a call and what it answered; a block also with its output before and after. The start with the defaults is a start like any other, with `defaults`
 pub data Call : Type 0 where
-  startDefault : Call
   start : Settings → Answer → Call
   change : Settings → Answer → Call
   block : ℕ → List ℤ → List ℤ → Answer → List ℤ → Call
@@ -32,7 +31,6 @@ pub data Call : Type 0 where
 
 -- the call to the tuner t keeps its promise and leaves t′; a start asks nothing of t, and the meter leaves it
 pub data Leaves (t : Tuner) : Call → Tuner → Type 0 where
-  by-default : Leaves t startDefault (tuners.fresh defaults)
   by-start : {s : Settings} {a : Answer} {t′ : Tuner} → Started s t′ a → Leaves t (start s a) t′
   by-change : {s : Settings} {a : Answer} {t′ : Tuner} → Changed t s t′ a → Leaves t (change s a) t′
   by-block : {k : ℕ} {xs ys ys′ : List ℤ} {a : Answer} {t′ : Tuner} → Took t k xs ys t′ a ys′ → Leaves t (block k xs ys a ys′) t′
@@ -77,7 +75,6 @@ plusChange r s a =
 
 -- what one call adds; a start or a reset begins the account again
 unfoldable pub plus : Call → Received → Received
-plus startDefault r = begun defaults
 plus (start s a) r = begun (cond (eqb (a .number) 0) s defaults)
 plus (change s a) r = plusChange r s a
 plus (block k xs ys a ys′) r = plusBlock r xs a ys′
@@ -131,11 +128,12 @@ Theorem = (cs : List Call) (t : Tuner) → Series cs t → Accounted (received c
 
 -- ---- a block sent again
 
--- calls that take no block: settings changed or refused, blocks refused or given again
+-- calls that take no block: settings changed or refused, blocks refused or given again, the meter read
 pub data Meanwhile (u : Tuner) : Tuner → Type 0 where
   nothing : Meanwhile u u
   a-change : {w w′ : Tuner} {s : Settings} {a : Answer} → Meanwhile u w → Changed w s w′ a → Meanwhile u w′
   a-block : {w w′ : Tuner} {k : ℕ} {xs ys ys′ : List ℤ} {a : Answer} → Meanwhile u w → Took w k xs ys w′ a ys′ → 0 < a .number → Meanwhile u w′
+  a-reading : {w : Tuner} {r : Meter} → Meanwhile u w → Metered w r → Meanwhile u w
 
 -- a block of n samples answered a was given again: 1, the tuner as it was, the same counts, and the same samples out
 pub record GivenAgain (n : ℕ) (w w′ : Tuner) (a b : Answer) (zs zs₂ : List ℤ) : Type 0 where

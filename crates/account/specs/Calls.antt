@@ -26,11 +26,13 @@ use Rattle.voice.specs.declared.Voice.{Voice}
 use Rattle.voice.specs.Voices.{Lags, Voiced, pitchOf}
 use Rattle.tuner.specs.declared.Tuner.{Tuner}
 use Rattle.tuner.specs.declared.Answer.{Answer}
+use Rattle.tuner.specs.declared.Meter.{Meter}
 use Rattle.tuner.specs.Tuners.{soundOf, takeOf, PitchRight, pitched, unpitched, Good, fresh, keeping, made, energiesOf, correlationsOf, trackerOf, isTracking, afterBlock, lastSamples, Fits, Verdict, record-out-of-range, given-again, tunerBy, plain, answerBy, Took, Started, withSettings, ChangeVerdict, setting-out-of-range, changed, Changed, ResetVerdict, Reset}
+use Rattle.tuner.specs.Meters.{Exact, Metered, record-out-of-range, read}
 use Rattle.tuner.specs.Taking.{made-length}
 use Rattle.tuner.specs.Afters.{good-voiced}
 use Rattle.tuner.specs.Verdicts.{verdict-one, verdict-fits, verdict-zero, tuner-taken, tuner-kept, by-refused, by-given, counted, overlaid, out-length}
-use Rattle.account.specs.Account.{Meanwhile, nothing, a-change, a-block, GivenAgain}
+use Rattle.account.specs.Account.{Meanwhile, nothing, a-change, a-block, a-reading, GivenAgain}
 
 -- how long a tuner's arrays are
 pub record Lengths (t : Tuner) : Type 0 where
@@ -40,11 +42,12 @@ pub record Lengths (t : Tuner) : Type 0 where
   pub correlations : length (t .correlations) ≡ 109
   pub out : length (t .out) ≡ 512
 
--- no call on the tuner is answered 9
+-- no call on the tuner is answered 9, and its meter is never refused
 pub record NeverNine (t : Tuner) : Type 0 where
   pub block : {k : ℕ} {xs ys ys′ : List ℤ} {t′ : Tuner} {a : Answer} → Took t k xs ys t′ a ys′ → a .number ≡ 9 → ⊥
   pub change : {s : Settings} {t′ : Tuner} {a : Answer} → Changed t s t′ a → a .number ≡ 9 → ⊥
   pub reset : {t′ : Tuner} {a : Answer} → Reset t t′ a → a .number ≡ 9 → ⊥
+  pub meter : {r : Meter} → Metered t r → r ≡ Meter.Refused → ⊥
 
 -- the same last block: its samples, number, length, counts and output
 pub record SameLast (u w : Tuner) : Type 0 where
@@ -258,12 +261,16 @@ plain-number e = sym (ap (λ (b : Answer). b .number) e)
 
 -- ---- never 9
 
+refused-inexact : {v : Voice} → Exact v Meter.Refused → ⊥
+refused-inexact = elim [ ]
+
 pub good-never-nine : {t : Tuner} → Good t → NeverNine t
 good-never-nine {t} g =
     record {
       block = λ {k} {xs} {ys} p e. block-nine (subst (Verdict t k xs (length ys)) (took-number p ∙ e) (p .verdict));
       change = λ {s} p e. change-nine (subst (ChangeVerdict t s) (plain-number (p .answer) ∙ e) (p .verdict));
       reset = λ p e. reset-nine (subst (ResetVerdict t) (plain-number (p .answer) ∙ e) (p .verdict));
+      meter = meter-refused;
     }
   where
     block-nine : {k room : ℕ} {xs : List ℤ} → Verdict t k xs room 9 → ⊥
@@ -274,6 +281,11 @@ good-never-nine {t} g =
 
     reset-nine : ResetVerdict t 9 → ⊥
     reset-nine (record-out-of-range n) = n g
+
+    -- what is shown exactly is never a refusal
+    meter-refused : {r : Meter} → Metered t r → r ≡ Meter.Refused → ⊥
+    meter-refused (record-out-of-range n x) e = n g
+    meter-refused (read h x shown) e = refused-inexact (subst (Exact (t .voice)) e shown)
 
 -- ---- a refusal changes nothing
 
@@ -315,11 +327,13 @@ pub meanwhile-good : {u w : Tuner} → Good u → Lengths u → Meanwhile u w �
 meanwhile-good g l nothing = (g, l)
 meanwhile-good g l (a-change m p) = let h = meanwhile-good g l m in changed-good (h .0) (h .1) p
 meanwhile-good g l (a-block m p n) = let h = meanwhile-good g l m in took-good (h .0) (h .1) p
+meanwhile-good g l (a-reading m p) = meanwhile-good g l m
 
 pub meanwhile-same : {u w : Tuner} → Meanwhile u w → SameLast u w
 meanwhile-same nothing = same-last-self
 meanwhile-same (a-change m p) = same-last-changed (meanwhile-same m) p
 meanwhile-same (a-block m p n) = same-last-refused (meanwhile-same m) p n
+meanwhile-same (a-reading m p) = meanwhile-same m
 
 -- what is written first is what is read first
 pub overlaid-starts : (u : Tuner) (xs ys : List ℤ) → length xs ≤ length (u .out) → take (length xs) (overlaid u xs ys) ≡ take (length xs) (u .out)

@@ -27,7 +27,7 @@ use Rattle.tuner.specs.Tuners as tuners
 use Rattle.tuner.specs.Taking.{kept-age, right-alike, made-append, after-eighths}
 use Rattle.tuner.specs.Verdicts.{tuner-taken, verdict-fits}
 use Rattle.account.specs.Calls.{Lengths, still-silent, good-fresh, fresh-lengths, good-sane, keeping-length, took-good, changed-good, took-number, took-keeps, untaken-unchanged, overlaid-starts, again-after, NeverNine, good-never-nine}
-use Rattle.account.specs.Account.{Call, reset, Leaves, by-default, by-start, by-change, by-block, by-reset, by-meter, Series, fresh-start, and-then, Received, begun, plusBlock, plusChange, plus, received, givenOf, heardOf, eighthsOf, Accounted, Theorem, SentAgain}
+use Rattle.account.specs.Account.{Call, reset, Leaves, by-start, by-change, by-block, by-reset, by-meter, Series, fresh-start, and-then, Received, begun, plusBlock, plusChange, plus, received, givenOf, heardOf, eighthsOf, Accounted, Theorem, SentAgain}
 
 -- ---- what each call keeps
 record Keeps (r : Received) (t : Tuner) : Type 0 where
@@ -193,7 +193,6 @@ module _ {r : Received} {t : Tuner} (k : Keeps r t) where
 
   call-keeps : {c : Call} {t′ : Tuner} → Leaves t c t′ → Keeps (plus c r) t′
   unfolding plus
-  call-keeps by-default = begun-keeps defaults defaults-in-range
   call-keeps (by-start p) = start-keeps p
   call-keeps (by-change p) = change-keeps p
   call-keeps (by-block p) = block-keeps p
