@@ -128,17 +128,23 @@ Theorem = (cs : List Call) (t : Tuner) → Series cs t → Accounted (received c
 
 -- ---- a block sent again
 
--- calls that take no block: settings changed or refused, blocks refused or given again, the meter read
+-- a call that neither takes a block nor begins anew: settings changed or refused, a block refused or given again, a reset refused, the meter read
+unfoldable pub TakesNone : Call → Type 0
+TakesNone (start s a) = ⊥
+TakesNone (change s a) = Unit
+TakesNone (block k xs ys a ys′) = 0 < a .number
+TakesNone (reset a) = 0 < a .number
+TakesNone (meter m) = Unit
+
+-- any such calls one after the other
 pub data Meanwhile (u : Tuner) : Tuner → Type 0 where
   nothing : Meanwhile u u
-  a-change : {w w′ : Tuner} {s : Settings} {a : Answer} → Meanwhile u w → Changed w s w′ a → Meanwhile u w′
-  a-block : {w w′ : Tuner} {k : ℕ} {xs ys ys′ : List ℤ} {a : Answer} → Meanwhile u w → Took w k xs ys w′ a ys′ → 0 < a .number → Meanwhile u w′
-  a-reading : {w : Tuner} {r : Meter} → Meanwhile u w → Metered w r → Meanwhile u w
+  and-meanwhile : {c : Call} {w w′ : Tuner} → Meanwhile u w → Leaves w c w′ → TakesNone c → Meanwhile u w′
 
--- a block of n samples answered a was given again: 1, the tuner as it was, the same counts, and the same samples out
-pub record GivenAgain (n : ℕ) (w w′ : Tuner) (a b : Answer) (zs zs₂ : List ℤ) : Type 0 where
+-- a block of n samples answered a was given again: 1, all as it was (w before, w′ after), the same counts, and the same samples out
+pub record GivenAgain {A : Type 0} (n : ℕ) (w w′ : A) (a b : Answer) (zs zs₂ : List ℤ) : Type 0 where
   pub number : b .number ≡ 1
-  pub tuner : w′ ≡ w
+  pub unchanged : w′ ≡ w
   pub written : b .written ≡ a .written
   pub repeated : b .repeated ≡ a .repeated
   pub dropped : b .dropped ≡ a .dropped

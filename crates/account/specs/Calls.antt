@@ -32,7 +32,7 @@ use Rattle.tuner.specs.Meters.{Exact, Metered, record-out-of-range, read}
 use Rattle.tuner.specs.Taking.{made-length}
 use Rattle.tuner.specs.Afters.{good-voiced}
 use Rattle.tuner.specs.Verdicts.{verdict-one, verdict-fits, verdict-zero, tuner-taken, tuner-kept, by-refused, by-given, counted, overlaid, out-length}
-use Rattle.account.specs.Account.{Meanwhile, nothing, a-change, a-block, a-reading, GivenAgain}
+use Rattle.account.specs.Account.{Call, Leaves, by-start, by-change, by-block, by-reset, by-meter, TakesNone, Meanwhile, nothing, and-meanwhile, GivenAgain}
 
 -- how long a tuner's arrays are
 pub record Lengths (t : Tuner) : Type 0 where
@@ -236,6 +236,13 @@ started-good {s} p =
     (λ e. (good-fresh s e, fresh-lengths s))
     (λ e. (good-fresh defaults defaults-in-range, fresh-lengths defaults)))
 
+call-good : {t t′ : Tuner} {c : Call} → Good t → Lengths t → Leaves t c t′ → Good t′ × Lengths t′
+call-good g l (by-start p) = started-good p
+call-good g l (by-change p) = changed-good g l p
+call-good g l (by-block p) = took-good g l p
+call-good g l (by-reset p) = reset-good g l p
+call-good g l (by-meter p) = (g, l)
+
 -- ---- the answer's number is the verdict's
 
 number-by : (v : ℕ) (t : Tuner) (k : ℕ) (xs : List ℤ) → answerBy v t k xs .number ≡ v
@@ -312,28 +319,29 @@ refused-reset-unchanged {t} p h = kept-unless-zero (fresh (t .settings)) (p .tun
 pub same-last-self : {u : Tuner} → SameLast u u
 same-last-self = record { store = refl; number = refl; length = refl; repeated = refl; dropped = refl; out = refl }
 
-module _ {u w w′ : Tuner} {a : Answer} (same : SameLast u w) where
-  pub same-last-changed : {s : Settings} → Changed w s w′ a → SameLast u w′
+module _ {u w w′ : Tuner} (same : SameLast u w) where
+  pub same-last-changed : {s : Settings} {a : Answer} → Changed w s w′ a → SameLast u w′
   same-last-changed {s} p =
       rw (p .tuner)
       (cond-case (eqb (p .number) 0) (withSettings w s) w (SameLast u)
       (λ e. record { store = same .store; number = same .number; length = same .length; repeated = same .repeated; dropped = same .dropped; out = same .out })
       (λ e. same))
 
-  pub same-last-refused : {k : ℕ} {xs ys ys′ : List ℤ} → Took w k xs ys w′ a ys′ → 0 < a .number → SameLast u w′
-  same-last-refused p h = subst (SameLast u) (sym (untaken-unchanged p h)) same
+  pub same-last-kept : w′ ≡ w → SameLast u w′
+  same-last-kept e = subst (SameLast u) (sym e) same
 
 pub meanwhile-good : {u w : Tuner} → Good u → Lengths u → Meanwhile u w → Good w × Lengths w
 meanwhile-good g l nothing = (g, l)
-meanwhile-good g l (a-change m p) = let h = meanwhile-good g l m in changed-good (h .0) (h .1) p
-meanwhile-good g l (a-block m p n) = let h = meanwhile-good g l m in took-good (h .0) (h .1) p
-meanwhile-good g l (a-reading m p) = meanwhile-good g l m
+meanwhile-good g l (and-meanwhile m p n) = let h = meanwhile-good g l m in call-good (h .0) (h .1) p
 
 pub meanwhile-same : {u w : Tuner} → Meanwhile u w → SameLast u w
+unfolding TakesNone
 meanwhile-same nothing = same-last-self
-meanwhile-same (a-change m p) = same-last-changed (meanwhile-same m) p
-meanwhile-same (a-block m p n) = same-last-refused (meanwhile-same m) p n
-meanwhile-same (a-reading m p) = meanwhile-same m
+meanwhile-same (and-meanwhile m (by-start p) n) = absurd n
+meanwhile-same (and-meanwhile m (by-change p) n) = same-last-changed (meanwhile-same m) p
+meanwhile-same (and-meanwhile m (by-block p) n) = same-last-kept (meanwhile-same m) (untaken-unchanged p n)
+meanwhile-same (and-meanwhile m (by-reset p) n) = same-last-kept (meanwhile-same m) (refused-reset-unchanged p n)
+meanwhile-same (and-meanwhile m (by-meter p) n) = meanwhile-same m
 
 -- what is written first is what is read first
 pub overlaid-starts : (u : Tuner) (xs ys : List ℤ) → length xs ≤ length (u .out) → take (length xs) (overlaid u xs ys) ≡ take (length xs) (u .out)
@@ -387,7 +395,7 @@ module _ {t u : Tuner} {k : ℕ} {xs ys zs : List ℤ} {a : Answer} (g : Good t)
         let long : length xs ≤ length (u .out) = omega (arith, ap (λ (v : Tuner). length (v .out)) taken-is, after-lengths t k xs l (taken-fits .most) .out, taken-fits .most) in
         record {
           number = one;
-          tuner = stays;
+          unchanged = stays;
           written = ap (λ (c : Answer). c .written) (now .0) ∙ sym (ap (λ (c : Answer). c .written) (before .0));
           repeated = ap (λ (c : Answer). c .repeated) (now .0) ∙ ap (λ (v : Tuner). v .repeated) stays ∙ same .repeated ∙ sym (ap (λ (c : Answer). c .repeated) (before .0));
           dropped = ap (λ (c : Answer). c .dropped) (now .0) ∙ ap (λ (v : Tuner). v .dropped) stays ∙ same .dropped ∙ sym (ap (λ (c : Answer). c .dropped) (before .0));

@@ -1,3 +1,4 @@
 pub mod Account
 pub mod Holds
 pub mod Calls
+pub mod Hosted
