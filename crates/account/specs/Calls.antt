@@ -15,7 +15,7 @@ use Rattle.whole.specs.Bounds.{natAbs-zero}
 use Rattle.whole.specs.Lists.{length-listOf, getD-listOf}
 use Rattle.whole.specs.Sums.{sum-within, total-zero}
 use Rattle.rules.specs.declared.Settings.{Settings}
-use Rattle.rules.specs.Rules.{Sound, silence, heard, heardAll, sq, E, H, Mode, searching, tracking, inRange, defaults, after}
+use Rattle.rules.specs.Rules.{Sound, silence, heard, heardAll, sq, E, H, Mode, searching, tracking, inRange, defaults}
 use Rattle.rules.specs.Ranges.{InRange, in-range, is-in-range, defaults-in-range}
 use Rattle.rules.specs.Hearing.{all-heard}
 use Rattle.rules.specs.Position.{Paced, withPeriod, withoutPeriod, behind-in-bounds, in-bounds-behind}
@@ -66,7 +66,7 @@ unfolding heardAll
 still-silent zero x p = p
 still-silent (suc n) x p = still-silent n (heard (pos 0) x) (all-heard (λ z. z ≡ pos 0) p refl)
 
-silent-right : {x : Sound} (low n : ℕ) → ((k : ℕ) → x k ≡ pos 0) → Right x low n (replicate n 0) (replicate n (pos 0))
+pub silent-right : {x : Sound} (low n : ℕ) → ((k : ℕ) → x k ≡ pos 0) → Right x low n (replicate n 0) (replicate n (pos 0))
 unfolding E H
 silent-right {x} low n p =
     record {
