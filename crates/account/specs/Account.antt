@@ -150,7 +150,7 @@ pub record GivenAgain {A : Type 0} (n : ℕ) (w w′ : A) (a b : Answer) (zs zs�
   pub dropped : b .dropped ≡ a .dropped
   pub samples : take n zs₂ ≡ take n zs
 
--- after any series of calls: a block taken, and sent again with room for its samples and no block taken between, gives the same again and changes nothing
+-- after any series of calls: a block taken, and sent again with room for its samples and only such calls between, gives the same again and changes nothing
 abbrev pub SentAgain : Type 0
 SentAgain =
     (cs : List Call) (t u w w′ : Tuner) (k : ℕ) (xs ys zs ys₂ zs₂ : List ℤ) (a b : Answer)

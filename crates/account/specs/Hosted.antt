@@ -61,7 +61,7 @@ pub data HostMeanwhile (q : Record) : Record → Type 0 where
   host-nothing : HostMeanwhile q q
   host-meanwhile : {c : Call} {r r′ : Record} → HostMeanwhile q r → HostLeaves r c r′ → TakesNone c → HostMeanwhile q r′
 
--- after any series of exported calls: a block taken, and sent again with room for its samples and no block taken between, gives the same again and changes nothing
+-- after any series of exported calls: a block taken, and sent again with room for its samples and only such calls between, gives the same again and changes nothing
 abbrev pub HostSentAgain : Type 0
 HostSentAgain =
     (cs : List Call) (r q w w′ : Record) (k : ℕ) (xs ys zs ys₂ zs₂ : List ℤ) (a b : Answer)
