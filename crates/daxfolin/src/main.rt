@@ -1,26 +1,83 @@
-// The line program: standard input to standard output. It only moves bytes; what lines are answered is proved in the crate `lines`.
-ghost use Prim.Native.Nat.{_≤_};
-ghost use lib.ListN.{length};
+// The line program: standard input to standard output. What lines are answered is proved in the crate `lines`; here bytes are moved, and
+// the program ends at a read or a write that fails, and says on standard error what failed.
+ghost use Prim.Native.Nat.{_+_, _≤_, _<_};
+ghost use lib.ListN.{length, take, drop};
+ghost use mathlib.Core.Path.{_≡_};
+ghost use mathlib.Core.Bool.{true};
+ghost use Rattle.daxfolin.specs.Turns.{Kept, Serves, Answers, Turns, Working, Finishes};
 use libc::STDIN_FILENO;
 use libc::STDOUT_FILENO;
+use libc::types::timespec;
 use tuner::Tuner;
 
-// The tuner, how many bytes of a line without its end are held, and whether there is more to read.
+// The tuner, how many bytes of a line without its end are held, whether to read on, and whether the input came to its end: neither where
+// something failed.
 struct Turn {
     tuner: Tuner,
     held: usize,
     more: bool,
+    ended: bool,
 }
 
-// The tuner, and the place after the last line that was answered.
+// The tuner, the place after the last line that was answered, and whether all answers were written.
 struct Served {
     tuner: Tuner,
     at: usize,
+    written: bool,
+}
+
+// Waits for a thousandth of a second.
+fn pause() {
+    let asked = timespec {
+        tv_sec: 0,
+        tv_nsec: 1000000,
+    };
+    let mut left = timespec {
+        tv_sec: 0,
+        tv_nsec: 0,
+    };
+    libc::nanosleep(&asked, &mut left);
+}
+
+// Whether the call that just failed is to be tried again: a signal came, or nothing is ready yet, and then after a pause.
+fn try_again() -> bool {
+    let error = os::errno();
+    if error == libc::EINTR {
+        return true;
+    }
+    if error == libc::EAGAIN {
+        pause();
+        return true;
+    }
+    false
+}
+
+// Writes all bytes, each once, and says whether it did. A proved loop ends: no run uses up the tries.
+fn write_out(bytes: &[u8]) -> bool {
+    let mut done: usize = 0;
+    let mut tries = u64::MAX;
+    while tries > 0 {
+        if done == bytes.len() {
+            return true;
+        }
+        let rest = &bytes[done..];
+        let put = libc::write(STDOUT_FILENO, rest);
+        if put < 0 {
+            if !try_again() {
+                os::fail(b"daxfolin: standard output");
+                return false;
+            }
+        }
+        done += io::count(put, rest);
+        tries -= 1;
+    }
+    false
 }
 
 // Answers all lines that end within the input, and writes the answers.
 fn serve(t: Tuner, input: &[u8], out: &mut [u8]) -> Served
-    ensures { λ r. ⌜ r .at ≤ length (now (input .entry)) ⌝ }
+    requires { ⌜ 4096 ≤ length (now out) ⌝ }
+    ensures { λ r. ⌜ (r .written ≡ true → Serves t (now (input .entry)) (r .tuner) (r .at)) ⌝ }
 {
     let mut u = t;
     let mut at: usize = 0;
@@ -28,18 +85,28 @@ fn serve(t: Tuner, input: &[u8], out: &mut [u8]) -> Served
     while moved {
         let r = lines::answer_lines(u, &input[at..], out);
         let n = r.length;
-        io::write_all(STDOUT_FILENO, &out[..n]);
+        if !write_out(&out[..n]) {
+            return Served {
+                tuner: u,
+                at: at,
+                written: false,
+            };
+        }
         u = r.tuner;
         moved = 0 < r.at;
         at += r.at;
     }
-    Served { tuner: u, at: at }
+    Served {
+        tuner: u,
+        at: at,
+        written: true,
+    }
 }
 
 // Moves what is left of the input to its front. Of a line that is too long one byte too many is enough.
 fn keep(buf: &mut [u8], from: usize, to: usize) -> usize
     requires { ⌜ (from ≤ to) × (to ≤ length (now buf)) ⌝ }
-    ensures { λ r. ⌜ r ≤ 8193 ⌝ }
+    ensures { λ r. ⌜ Kept (now (buf .entry)) from to r (now (buf .exit)) ⌝ }
 {
     let rest = to - from;
     let n = if rest < 8193 { rest } else { 8193 };
@@ -52,39 +119,83 @@ fn keep(buf: &mut [u8], from: usize, to: usize) -> usize
     n
 }
 
-// Reads once, after the bytes that are held, and answers.
-fn one_turn(t: Tuner, buf: &mut [u8], held: usize, out: &mut [u8]) -> Turn
-    requires { ⌜ (held ≤ 8193) × (held ≤ length (now buf)) ⌝ }
-    ensures { λ r. ⌜ r .held ≤ 8193 ⌝ }
+// Answers what was read after the bytes that are held, and holds what is left.
+fn answer_read(t: Tuner, buf: &mut [u8], held: usize, read: usize, out: &mut [u8]) -> Turn
+    requires { ⌜ (held + read ≤ length (now buf)) × (held ≤ 8193) × (4096 ≤ length (now out)) ⌝ }
+    ensures { λ r. ⌜ Answers t (take held (now (buf .entry))) (take read (drop held (now (buf .entry)))) r (now (buf .exit)) ⌝ }
 {
-    let got = libc::read(STDIN_FILENO, &mut buf[held..]);
-    let n = io::count(got, &buf[held..]);
-    if n == 0 {
+    let to = held + read;
+    let s = serve(t, &buf[..to], out);
+    if !s.written {
         return Turn {
             tuner: t,
             held: held,
             more: false,
+            ended: false,
         };
     }
-    let to = held + n;
-    let s = serve(t, &buf[..to], out);
     let k = keep(buf, s.at, to);
     let u = s.tuner;
     Turn {
         tuner: u,
         held: k,
         more: true,
+        ended: false,
     }
 }
 
-// A last line may lack its end.
-fn finish(t: Tuner, line: &[u8], out: &mut [u8]) {
-    if line.len() == 0 {
-        return;
+// Reads once, after the bytes that are held, and answers.
+fn one_turn(t: Tuner, buf: &mut [u8], held: usize, out: &mut [u8]) -> Turn
+    requires { ⌜ (held ≤ 8193) × (8193 < length (now buf)) × (4096 ≤ length (now out)) ⌝ }
+    ensures { λ r. ⌜ Turns t (take held (now (buf .entry))) r (now (buf .exit)) ⌝ }
+{
+    let got = libc::read(STDIN_FILENO, &mut buf[held..]);
+    if got < 0 {
+        let again = try_again();
+        if !again {
+            os::fail(b"daxfolin: standard input");
+        }
+        return Turn {
+            tuner: t,
+            held: held,
+            more: again,
+            ended: false,
+        };
     }
-    let r = lines::answer_line(t, line, out);
-    let n = r.length;
-    io::write_all(STDOUT_FILENO, &out[..n]);
+    let n = io::count(got, &buf[held..]);
+    if n == 0 {
+        return Turn {
+            tuner: t,
+            held: held,
+            more: false,
+            ended: true,
+        };
+    }
+    answer_read(t, buf, held, n, out)
+}
+
+// What the end of the input answers: a last line may lack its end.
+fn last_line(t: Tuner, held: &[u8], out: &mut [u8]) -> usize
+    requires { ⌜ 4096 ≤ length (now out) ⌝ }
+    ensures { λ r. ⌜ Finishes t (now (held .entry)) (now (out .entry)) r (now (out .exit)) ⌝ }
+{
+    if held.len() == 0 {
+        return 0;
+    }
+    let r = lines::answer_line(t, held, out);
+    r.length
+}
+
+// At the end of the input: some writes fail only when the output is closed.
+fn finish(t: Tuner, held: &[u8], out: &mut [u8])
+    requires { ⌜ Working t (now held) × (4096 ≤ length (now out)) ⌝ }
+{
+    let n = last_line(t, held, out);
+    if write_out(&out[..n]) {
+        if libc::close(STDOUT_FILENO) < 0 {
+            os::fail(b"daxfolin: standard output");
+        }
+    }
 }
 
 // A proved loop ends: no run uses up the turns.
@@ -93,12 +204,16 @@ fn main() {
     let mut out = io::large_buffer();
     let mut t = tuner::start_default();
     let mut held: usize = 0;
+    let mut ended = false;
     let mut turns = u64::MAX;
     while turns > 0 {
         let r = one_turn(t, &mut buf, held, &mut out);
         t = r.tuner;
         held = r.held;
+        ended = r.ended;
         turns = if r.more { turns - 1 } else { 0 };
     }
-    finish(t, &buf[..held], &mut out);
+    if ended {
+        finish(t, &buf[..held], &mut out);
+    }
 }

@@ -1,47 +1,65 @@
--- `daxfolin::finish` meets its contract: what was written is within the output.
+-- `daxfolin::finish` meets its contract: what is written is within the output.
 -- Assumes nothing.
-use native.Mathlib.Omega.{arith}
 use borrow.Author.Needs.{needs}
-use mathlib.Core.Path.{_≡_, sym}
-use Prim.Native.Nat.{_≤_}
-use lib.ListN.{length, take}
+use mathlib.Core.Path.{sym}
 use lib.Seq.{length-take-le}
-use Rattle.lines.specs.Batch.{answered-within}
+use Rattle.daxfolin.specs.Laws.{finishes-within}
 use Rattle.daxfolin.proofs.finish.Statement.{statement}
 use Rattle.daxfolin.proofs.finish.Tie as tie
 
-returns : tie.Need-returns
-returns c = search needs
+last-line-requires : tie.Need-last-line-requires
+last-line-requires c κs = search needs
 
-within : (c : tie.After-answer-line) → c .answer-line .result .length ≤ length (c .answer-line .last .1 .1 .0)
-within c = answered-within (c .answer-line .ensures) (c .answer-line .kept .1 .1 .0)
+slice-reshare-prefix-write-out : tie.Need-slice-reshare-prefix-write-out
+slice-reshare-prefix-write-out c = finishes-within (c .before .before .last-line .ensures)
 
-answer-line-requires : tie.Need-answer-line-requires
-answer-line-requires c κs = search needs
+slice-aggregate-write-out : tie.Need-slice-aggregate-write-out
+slice-aggregate-write-out c = let l = c .before .before .before .last-line in sym (length-take-le (l .result) (l .last .1 .1 .0) (finishes-within (l .ensures)))
 
-slice-reshare-prefix-write-all : tie.Need-slice-reshare-prefix-write-all
-slice-reshare-prefix-write-all c = within (c .before .before)
+write-out-requires : tie.Need-write-out-requires
+write-out-requires c κs = search needs
 
-slice-aggregate-write-all : tie.Need-slice-aggregate-write-all
-slice-aggregate-write-all c = let q = c .before .before .before in sym (length-take-le (q .answer-line .result .length) (q .answer-line .last .1 .1 .0) (within q))
+close-requires : tie.Need-close-requires
+close-requires c κs = search needs
 
-write-all-requires : tie.Need-write-all-requires
-write-all-requires c κs = search needs
+slice-aggregate-fail : tie.Need-slice-aggregate-fail
+slice-aggregate-fail c = search needs
+
+fail-requires : tie.Need-fail-requires
+fail-requires c κs = search needs
 
 same-length : tie.Need-same-length
 same-length c = search needs
 
+returns : tie.Need-returns
+returns c = search needs
+
+same-length-2 : tie.Need-same-length-2
+same-length-2 c = search needs
+
 returns-2 : tie.Need-returns-2
 returns-2 c = search needs
+
+same-length-3 : tie.Need-same-length-3
+same-length-3 c = search needs
+
+returns-3 : tie.Need-returns-3
+returns-3 c = search needs
 
 pub finish-spec : {M : Type 1} → statement M
 finish-spec =
     tie.close
     (tie.spec
-    returns
-    answer-line-requires
-    slice-reshare-prefix-write-all
-    slice-aggregate-write-all
-    write-all-requires
+    last-line-requires
+    slice-reshare-prefix-write-out
+    slice-aggregate-write-out
+    write-out-requires
+    close-requires
+    slice-aggregate-fail
+    fail-requires
     same-length
-    returns-2)
+    returns
+    same-length-2
+    returns-2
+    same-length-3
+    returns-3)

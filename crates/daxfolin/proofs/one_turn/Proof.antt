@@ -1,30 +1,30 @@
--- `daxfolin::one_turn` meets its contract: what was read stands after what was held, within the buffer.
+-- `daxfolin::one_turn` meets its contract: what was read stands after what is held, which no read touches, and `answer_read` answers it.
 -- Assumes nothing.
 use native.Mathlib.Omega.{arith}
 use borrow.Author.Needs.{needs}
-use mathlib.Core.Path.{_≡_, sym}
-use mathlib.Core.List.{List}
-use Prim.Native.Nat.{ℕ, _+_, _-_, _≤_}
-use lib.ListN.{length, take, drop, length-drop}
-use lib.Seq.{length-take-le}
-use borrow.Rule.Slice.PartMut.{putMid}
+use mathlib.Core.Path.{_≡_, sym, subst}
+use mathlib.Core.Bool.{cond}
+use mathlib.Core.List.{List, [], _∷_, _++_}
+use Prim.Native.Nat.{ℕ, _≤_}
+use lib.ListN.{length, take}
+use lib.Seq.{take-at, length-take-le}
+use Rattle.tuner.specs.declared.Tuner.{Tuner}
+use Rattle.daxfolin.specs.declared.Turn.{Turn}
+use Rattle.daxfolin.specs.Turns.{Turned, nothing-read, Answers, Turns}
 use Rattle.daxfolin.proofs.one_turn.Statement.{statement}
 use Rattle.daxfolin.proofs.one_turn.Tie as tie
 
--- the buffer after the read, and that what was read fits
-module _ (c : tie.After-count) where
-  abbrev start : tie.Start
-  start = c .before .before .before .before .before .before .before .before .before
+-- what is held stays when something else is put after it
+held-stays : (buf : List ℕ) (held : ℕ) (after : List ℕ) → held ≤ length buf → take held (take held buf ++ after) ≡ take held buf
+held-stays buf held after h = take-at (take held buf) after held (length-take-le held buf h)
 
-  abbrev filled : List ℕ
-  filled = putMid (start .args .held) (length (start .args .buf .now) - start .args .held) (start .args .buf .now) (c .before .before .before .before .before .read .last .1 .0)
+as-before : {t : Tuner} (buf : List ℕ) (held : ℕ) (after : List ℕ) → held ≤ length buf → Turned t (take held buf) [] t (take held (take held buf ++ after))
+as-before {t} buf held after h = subst (λ (l : List ℕ). Turned t (take held buf) [] t l) (sym (held-stays buf held after h)) nothing-read
 
-  fits-in : start .args .held + c .count .result ≤ length filled
-  fits-in =
-      let h = start .args .held in
-      let e = length-take-le (length filled - h) (drop h filled) (omega (arith, length-drop h filled)) in
-      let k = c .before .before .before .before .buf .given .1 in
-      omega (arith, c .count .ensures .0 .0, e, k, start .pre .1)
+answered : {t : Tuner} (buf : List ℕ) (held : ℕ) (after : List ℕ) {new : List ℕ} {r : Turn} {buf′ : List ℕ} → held ≤ length buf → Answers t (take held (take held buf ++ after)) new r buf′ → Turns t (take held buf) r buf′
+answered {t} buf held after {new} {r} {buf′} h a =
+    let reads = cond (r .more) (new ∷ []) [] in
+    record { few = a .few; reads = reads; turned = subst (λ (l : List ℕ). Turned t l reads (r .tuner) (take (r .held) buf′)) (held-stays buf held after h) (a .turned) }
 
 sub-read : tie.Need-sub-read
 sub-read c = search needs
@@ -38,6 +38,27 @@ part-read-end c = search needs
 read-requires : tie.Need-read-requires
 read-requires c κs = search needs
 
+try-again-requires : tie.Need-try-again-requires
+try-again-requires c κs = search needs
+
+slice-aggregate-fail : tie.Need-slice-aggregate-fail
+slice-aggregate-fail c = search needs
+
+fail-requires : tie.Need-fail-requires
+fail-requires c κs = search needs
+
+same-length : tie.Need-same-length
+same-length c = search needs
+
+returns : tie.Need-returns
+returns c = let z = c .before .before .before .before .before .before .before .before .before .before .before in record { few = z .pre .0; reads = []; turned = as-before (z .args .buf .now) (z .args .held) _ (omega (arith, z .pre)) }
+
+same-length-2 : tie.Need-same-length-2
+same-length-2 c = search needs
+
+returns-2 : tie.Need-returns-2
+returns-2 c = let z = c .before .before .before .before .before .before .before .before .before in record { few = z .pre .0; reads = []; turned = as-before (z .args .buf .now) (z .args .held) _ (omega (arith, z .pre)) }
+
 sub-count : tie.Need-sub-count
 sub-count c = search needs
 
@@ -50,35 +71,23 @@ part-count-end c = search needs
 count-requires : tie.Need-count-requires
 count-requires c κs = search needs
 
-same-length : tie.Need-same-length
-same-length c = search needs
-
-returns : tie.Need-returns
-returns c = search needs
-
-add-to : tie.Need-add-to
-add-to c = search needs
-
-slice-reshare-prefix-serve : tie.Need-slice-reshare-prefix-serve
-slice-reshare-prefix-serve c = search needs
-
-slice-aggregate-serve : tie.Need-slice-aggregate-serve
-slice-aggregate-serve c = let q = c .before .before in sym (length-take-le (start q .args .held + q .count .result) (filled q) (fits-in q))
-
-serve-requires : tie.Need-serve-requires
-serve-requires c κs = search needs
-
-keep-requires : tie.Need-keep-requires
-keep-requires c κs = let q = c .before .before .before .before .before .before .before in (omega (arith, c .before .before .before .serve .ensures, length-take-le (start q .args .held + q .count .result) (filled q) (fits-in q)), fits-in q)
-
-same-length-2 : tie.Need-same-length-2
-same-length-2 c = search needs
-
 same-length-3 : tie.Need-same-length-3
 same-length-3 c = search needs
 
-returns-2 : tie.Need-returns-2
-returns-2 c = search needs
+returns-3 : tie.Need-returns-3
+returns-3 c = let z = c .before .before .before .before .before .before .before .before .before .before .before in record { few = z .pre .0; reads = []; turned = as-before (z .args .buf .now) (z .args .held) _ (omega (arith, z .pre)) }
+
+answer-read-requires : tie.Need-answer-read-requires
+answer-read-requires c κs = search needs
+
+same-length-4 : tie.Need-same-length-4
+same-length-4 c = search needs
+
+same-length-5 : tie.Need-same-length-5
+same-length-5 c = search needs
+
+returns-4 : tie.Need-returns-4
+returns-4 c = let z = c .before .before .before .before .before .before .before .before .before .before .before .before .before .before .before .before .before .before in answered (z .args .buf .now) (z .args .held) _ (omega (arith, z .pre)) (c .before .before .before .before .answer-read .ensures)
 
 pub one-turn-spec : {M : Type 1} → statement M
 one-turn-spec =
@@ -88,17 +97,20 @@ one-turn-spec =
     part-read-start
     part-read-end
     read-requires
+    try-again-requires
+    slice-aggregate-fail
+    fail-requires
+    same-length
+    returns
+    same-length-2
+    returns-2
     sub-count
     part-count-start
     part-count-end
     count-requires
-    same-length
-    returns
-    add-to
-    slice-reshare-prefix-serve
-    slice-aggregate-serve
-    serve-requires
-    keep-requires
-    same-length-2
     same-length-3
-    returns-2)
+    returns-3
+    answer-read-requires
+    same-length-4
+    same-length-5
+    returns-4)

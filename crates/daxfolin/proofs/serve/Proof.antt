@@ -1,22 +1,21 @@
--- `daxfolin::serve` meets its contract: each turn but the last moves on.
+-- `daxfolin::serve` meets its contract: each batch adds its lines to those said before, and each turn but the last moves on. A turn that answers no line had room for an answer, so no line is left.
 -- Assumes nothing.
 use native.Mathlib.Omega.{arith}
-use borrow.Author.Needs.{needs}
 use mathlib.Core.Path.{_≡_, refl, sym, _∙_}
-use mathlib.Core.Bool.{Bool, true, false, cond}
-use mathlib.Core.List.{List}
+use mathlib.Core.Bool.{Bool, true, cond}
 use Prim.Native.Nat.{ℕ, _+_, _-_, _≤_, _<_}
 use borrow.Author.Tests.{ltb-true}
 use lib.Dec.{ltb}
-use lib.ListN.{length, take, drop, length-drop}
+use lib.ListN.{length}
 use lib.Seq.{length-take-le}
-use Rattle.whole.specs.Tests.{by}
+use Rattle.whole.specs.Tests.{by, yes-and-no}
 use Rattle.lines.specs.Batch.{all-within}
+use Rattle.daxfolin.specs.Laws.{ServedSoFar, none-served, all-served, served-within, served-more}
 use Rattle.daxfolin.proofs.serve.Statement.{statement}
 use Rattle.daxfolin.proofs.serve.Tie as tie
 
 abbrev Inv-loop : tie.InvT-loop
-Inv-loop input out₀ u₀ at₀ moved₀ out u at moved = (at ≤ length input) × (length out ≡ length out₀)
+Inv-loop input out₀ u₀ at₀ moved₀ out u at moved = ServedSoFar u₀ input u at moved × (length out ≡ length out₀)
 
 abbrev μ-loop : tie.MeasureT-loop
 μ-loop input out₀ u₀ at₀ moved₀ out u at moved = length input - at + cond moved 1 0
@@ -26,29 +25,27 @@ module _ (c : tie.After-answer-lines Inv-loop μ-loop) where
   abbrev loop : tie.At-loop Inv-loop μ-loop
   loop = c .before .before .before .before
 
-  abbrev whole : List ℕ
-  whole = loop .before .before .before .args .input .now
-
   within : c .answer-lines .result .length ≤ length (c .answer-lines .last .1 .1 .0)
   within = all-within (c .answer-lines .ensures) (c .answer-lines .kept .1 .1 .0)
 
-  moved-on : loop .loop .at + c .answer-lines .result .at ≤ length whole
-  moved-on =
-      let e = length-take-le (length whole - loop .loop .at) (drop (loop .loop .at) whole) (omega (arith, length-drop (loop .loop .at) whole)) in
-      omega (arith, e, c .answer-lines .ensures .within, loop .loop .inv .0)
+  moved-on : loop .loop .at + c .answer-lines .result .at ≤ length (loop .before .before .before .args .input .now)
+  moved-on = served-within (loop .loop .inv .0) (c .answer-lines .ensures)
+
+  kept : length (c .answer-lines .last .1 .1 .0) ≡ length (loop .before .before .before .args .out .now)
+  kept = c .answer-lines .kept .1 .1 .0 ∙ loop .loop .inv .1
 
 -- it moves on, or it was the last turn
 less : {n : ℕ} (at r : ℕ) (moved : Bool) → moved ≡ true → at + r ≤ n → n - (at + r) + cond (ltb 0 r) 1 0 < n - at + cond moved 1 0
 less at r moved e h = rw e (by (ltb 0 r) (λ y. rw y (omega (arith, ltb-true 0 r y))) (λ y. rw y (omega arith)))
 
 loop-holds : tie.Need-loop-holds Inv-loop μ-loop
-loop-holds c = (omega arith, refl)
+loop-holds c = (none-served, refl)
 
 sub-answer-lines : tie.Need-sub-answer-lines Inv-loop μ-loop
-sub-answer-lines c = omega arith
+sub-answer-lines c = c .before .loop .inv .0 .within
 
 part-answer-lines-start : tie.Need-part-answer-lines-start Inv-loop μ-loop
-part-answer-lines-start c = omega arith
+part-answer-lines-start c = c .before .loop .inv .0 .within
 
 part-answer-lines-end : tie.Need-part-answer-lines-end Inv-loop μ-loop
 part-answer-lines-end c = omega arith
@@ -56,29 +53,37 @@ part-answer-lines-end c = omega arith
 answer-lines-requires : tie.Need-answer-lines-requires Inv-loop μ-loop
 answer-lines-requires c κs = tt
 
-slice-reshare-prefix-write-all : tie.Need-slice-reshare-prefix-write-all Inv-loop μ-loop
-slice-reshare-prefix-write-all c = within (c .before .before)
+slice-reshare-prefix-write-out : tie.Need-slice-reshare-prefix-write-out Inv-loop μ-loop
+slice-reshare-prefix-write-out c = within (c .before .before)
 
-slice-aggregate-write-all : tie.Need-slice-aggregate-write-all Inv-loop μ-loop
-slice-aggregate-write-all c = let q = c .before .before .before in sym (length-take-le (q .answer-lines .result .length) (q .answer-lines .last .1 .1 .0) (within q))
+slice-aggregate-write-out : tie.Need-slice-aggregate-write-out Inv-loop μ-loop
+slice-aggregate-write-out c = let q = c .before .before .before in sym (length-take-le (q .answer-lines .result .length) (q .answer-lines .last .1 .1 .0) (within q))
 
-write-all-requires : tie.Need-write-all-requires Inv-loop μ-loop
-write-all-requires c κs = tt
-
-add-at : tie.Need-add-at Inv-loop μ-loop
-add-at c = let q = c .before .before .before .before .before .before .before in omega (arith, moved-on q, loop q .before .before .before .good .1 .0 .0)
-
-loop-less : tie.Need-loop-less Inv-loop μ-loop
-loop-less c = let q = c .before .before .before .before .before .before .before in less (loop q .loop .at) (q .answer-lines .result .at) (loop q .loop .moved) (q .before .before .before .loop-test .taken) (moved-on q)
-
-loop-again : tie.Need-loop-again Inv-loop μ-loop
-loop-again c = let q = c .before .before .before .before .before .before .before in (moved-on q, q .answer-lines .kept .1 .1 .0 ∙ loop q .loop .inv .1)
+write-out-requires : tie.Need-write-out-requires Inv-loop μ-loop
+write-out-requires c κs = tt
 
 same-length : tie.Need-same-length Inv-loop μ-loop
-same-length c = c .before .loop .inv .1
+same-length c = let q = c .before .before .before .before .before in kept q
 
 returns : tie.Need-returns Inv-loop μ-loop
-returns c = c .before .loop .inv .0
+returns c e = absurd (yes-and-no e refl)
+
+add-at : tie.Need-add-at Inv-loop μ-loop
+add-at c = let q = c .before .before .before .before .before .before .before .before in omega (arith, moved-on q, loop q .before .before .before .good .1 .0 .0)
+
+loop-less : tie.Need-loop-less Inv-loop μ-loop
+loop-less c = let q = c .before .before .before .before .before .before .before .before in less (loop q .loop .at) (q .answer-lines .result .at) (loop q .loop .moved) (q .before .before .before .loop-test .taken) (moved-on q)
+
+loop-again : tie.Need-loop-again Inv-loop μ-loop
+loop-again c =
+    let q = c .before .before .before .before .before .before .before .before in
+    (served-more (loop q .loop .inv .0) (q .answer-lines .ensures) (omega (arith, loop q .before .before .before .pre, loop q .loop .inv .1)), kept q)
+
+same-length-2 : tie.Need-same-length-2 Inv-loop μ-loop
+same-length-2 c = c .before .loop .inv .1
+
+returns-2 : tie.Need-returns-2 Inv-loop μ-loop
+returns-2 c e = all-served (c .before .loop .inv .0) (c .loop-test .left)
 
 pub serve-spec : {M : Type 1} → statement M
 serve-spec =
@@ -91,11 +96,13 @@ serve-spec =
     part-answer-lines-start
     part-answer-lines-end
     answer-lines-requires
-    slice-reshare-prefix-write-all
-    slice-aggregate-write-all
-    write-all-requires
+    slice-reshare-prefix-write-out
+    slice-aggregate-write-out
+    write-out-requires
+    same-length
+    returns
     add-at
     loop-less
     loop-again
-    same-length
-    returns)
+    same-length-2
+    returns-2)

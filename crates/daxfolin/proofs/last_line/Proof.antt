@@ -1,0 +1,21 @@
+-- `daxfolin::last_line` meets its contract: without a byte held nothing is answered, and otherwise the bytes held are a line.
+-- Assumes nothing.
+use borrow.Author.Needs.{needs}
+use Rattle.daxfolin.specs.Laws.{nothing-to-finish, last-line-finished}
+use Rattle.daxfolin.proofs.last_line.Statement.{statement}
+use Rattle.daxfolin.proofs.last_line.Tie as tie
+
+returns : tie.Need-returns
+returns c = nothing-to-finish (c .before .before .before .args .held .now) (c .if1 .taken)
+
+answer-line-requires : tie.Need-answer-line-requires
+answer-line-requires c κs = search needs
+
+same-length : tie.Need-same-length
+same-length c = search needs
+
+returns-2 : tie.Need-returns-2
+returns-2 c = let z = c .before .before .before .before .before .before .before in last-line-finished (z .args .held .now) (c .before .before .before .before .if1 .left) (z .pre) (c .before .before .answer-line .ensures)
+
+pub last-line-spec : {M : Type 1} → statement M
+last-line-spec = tie.close (tie.spec returns answer-line-requires same-length returns-2)

@@ -1,0 +1,106 @@
+-- Laws of lines served batch after batch, and of turns one after the other.
+use mathlib.Core.Path.{_≡_, refl, sym, ap, _∙_, subst}
+use mathlib.Core.Bool.{Bool, true, false}
+use mathlib.Core.List.{List, [], _∷_, _++_, append-nil, append-assoc}
+use mathlib.Core.Logic.{⊎-elim}
+use Prim.Native.Nat.{ℕ, _+_, _-_, _≤_}
+use native.Mathlib.Omega.{arith}
+use borrow.Author.Tests.{ltb-false}
+use lib.Dec.{ltb}
+use lib.ListN.{length, take, drop, length-append, length-take, length-drop}
+use lib.Seq.{take-all, take-add, drop-drop, length-take-le}
+use Rattle.whole.specs.Tests.{yes-and-no}
+use Rattle.rules.specs.Rules.{defaults}
+use Rattle.tuner.specs.declared.Tuner.{Tuner}
+use Rattle.tuner.specs.Tuners.{fresh}
+use Rattle.text.specs.Places.{put-none}
+use Rattle.lines.specs.Lines.{Answered, answered, no-room, NoEnd, AllSaid, no-line, line-more, AnsweredAll}
+use Rattle.lines.specs.Serving.{heldOf, AllServed, no-read, one-read, nothing-held, last-line}
+use Rattle.daxfolin.specs.Turns.{Kept, Serves, Turned, nothing-read, read-once, Working, Finishes}
+
+-- ---- lines
+
+-- lines one after the other, and then more of them
+pub all-said-then : {t u v : Tuner} {before after x y : List ℕ} → AllSaid t before u x → AllSaid u after v y → AllSaid t (before ++ after) v (x ++ y)
+all-said-then {before = before} {x = x} a no-line = rw (append-nil before, append-nil x) a
+all-said-then a (line-more line b n s) = simp append-assoc (simp append-assoc at (line-more line (all-said-then a b) n s))
+
+-- no line is answered by nothing
+nothing-said : {t u : Tuner} {bytes text : List ℕ} → AllSaid t bytes u text → length bytes ≡ 0 → length text ≡ 0
+nothing-said no-line e = refl
+nothing-said (line-more {before = before} line a n s) e = absurd (omega (arith, e, length-append (before ++ line) (10 ∷ [])))
+
+-- ---- batches of lines, one after the other: `moved` says whether the last one answered any
+pub record ServedSoFar (t : Tuner) (input : List ℕ) (u : Tuner) (at : ℕ) (moved : Bool) : Type 0 where
+  pub within : at ≤ length input
+  pub text : List ℕ
+  pub said : AllSaid t (take at input) u text
+  pub rest : moved ≡ false → NoEnd (drop at input)
+
+pub none-served : {t : Tuner} {input : List ℕ} → ServedSoFar t input t 0 true
+none-served = record { within = omega arith; text = []; said = no-line; rest = λ e. absurd (yes-and-no refl e) }
+
+pub all-served : {t u : Tuner} {input : List ℕ} {at : ℕ} {moved : Bool} → ServedSoFar t input u at moved → moved ≡ false → Serves t input u at
+all-served s e = record { text = s .text; served = record { within = s .within; said = s .said; rest = s .rest e } }
+
+module _ {t u : Tuner} {input : List ℕ} {at : ℕ} {moved : Bool} (s : ServedSoFar t input u at moved) where
+  abbrev left : List ℕ
+  left = take (length input - at) (drop at input)
+
+  left-is : left ≡ drop at input
+  left-is = take-all (length input - at) (drop at input) (omega (arith, length-drop at input))
+
+  module _ {out out′ : List ℕ} {v : Tuner} {r n : ℕ} (a : AnsweredAll u left out v r n out′) where
+    pub served-within : at + r ≤ length input
+    served-within = omega (arith, s .within, a .within, ap length left-is, length-drop at input)
+
+    -- where no line was answered there is room for an answer, so that no line ends
+    stopped : 4096 ≤ length out → ltb 0 r ≡ false → NoEnd (drop (at + r) input)
+    stopped room e =
+        ⊎-elim
+        (λ no-end. subst (λ (l : List ℕ). NoEnd l) (ap (drop r) left-is ∙ drop-drop r at input) no-end)
+        (λ full. absurd (omega (arith, full, room, ltb-false 0 r e, a .put .next, nothing-said (a .said) (omega (arith, length-take-le r left (a .within), ltb-false 0 r e)))))
+        (a .stopped)
+
+    pub served-more : 4096 ≤ length out → ServedSoFar t input v (at + r) (ltb 0 r)
+    served-more room =
+        record {
+          within = served-within;
+          text = s .text ++ a .text;
+          said = subst (λ (l : List ℕ). AllSaid t l v (s .text ++ a .text)) (ap (λ (l : List ℕ). take at input ++ take r l) left-is ∙ sym (take-add at r input)) (all-said-then (s .said) (a .said));
+          rest = stopped room;
+        }
+
+-- ---- turns, one after the other
+pub kept-few : {buf buf′ : List ℕ} {from to r : ℕ} → Kept buf from to r buf′ → r ≤ 8193
+kept-few {buf} {from = from} {to = to} k = omega (arith, k .many, length-take 8193 (drop from (take to buf)))
+
+-- what was read stands after what is held; it is served, and what is left is kept
+pub read-answered : {t t′ : Tuner} {buf buf′ : List ℕ} (held new : ℕ) {at r : ℕ} → Serves t (take (held + new) buf) t′ at → Kept buf at (held + new) r buf′ → Turned t (take held buf) (take new (drop held buf) ∷ []) t′ (take r buf′)
+read-answered {t} {t′} {buf} held new {at} s k =
+    let e = take-add held new buf in
+    subst
+    (λ (l : List ℕ). Turned t (take held buf) (take new (drop held buf) ∷ []) t′ l)
+    (ap (λ (l : List ℕ). heldOf (drop at l)) (sym e) ∙ sym (k .bytes))
+    (read-once (take new (drop held buf)) (subst (λ (l : List ℕ). AllServed t l t′ at (s .text)) e (s .served)))
+
+pub none-read : Working (fresh defaults) []
+none-read = record { reads = []; text = []; so-far = no-read }
+
+pub one-turn-more : {t t′ : Tuner} {held held′ : List ℕ} {reads : List (List ℕ)} → Working t held → Turned t held reads t′ held′ → Working t′ held′
+one-turn-more w nothing-read = w
+one-turn-more w (read-once new {text = more} s) = record { reads = w .reads ++ (new ∷ []); text = w .text ++ more; so-far = one-read new (w .so-far) s }
+
+-- ---- the end of the input
+pub nothing-to-finish : {t : Tuner} (held : List ℕ) {out : List ℕ} → length held ≡ 0 → Finishes t held out 0 out
+nothing-to-finish {t} [] {out} e = record { left = t; text = []; ended = nothing-held; put = record { text = sym (put-none out 0); next = refl } }
+nothing-to-finish (b ∷ held) e = absurd (omega arith)
+
+pub last-line-finished : {t : Tuner} (held : List ℕ) {out : List ℕ} {t′ : Tuner} {n : ℕ} {out′ : List ℕ} → (length held ≡ 0 → ⊥) → 4096 ≤ length out → Answered t held out t′ n out′ → Finishes t held out n out′
+last-line-finished [] z room a = absurd (z refl)
+last-line-finished (b ∷ held) {t′ = t′} z room (answered {text = text} r s p) = record { left = t′; text = text; ended = last-line s; put = p }
+last-line-finished (b ∷ held) z room (no-room r e n o) = absurd (omega arith)
+
+-- what the end answers is within the output
+pub finishes-within : {t : Tuner} {held out : List ℕ} {n : ℕ} {out′ : List ℕ} → Finishes t held out n out′ → n ≤ length out′
+finishes-within {out = out} f = omega (arith, f .put .next, ap length (f .put .text), length-append (f .text) (drop (0 + length (f .text)) out))
