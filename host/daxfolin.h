@@ -23,7 +23,7 @@
 extern "C" {
 #endif
 
-#define DAXFOLIN_VERSION 1u       /* of these calls: what daxfolin_version() answers */
+#define DAXFOLIN_VERSION 2u       /* of these calls: what daxfolin_version() answers */
 #define DAXFOLIN_LONGEST_BLOCK 512u
 
 /* The answers. After 2 to 9 the record is as it was, and so is every sample of the output. */
@@ -120,8 +120,8 @@ uint32_t daxfolin_version(void);
 /* A fresh tuner. 0; or 8, and the record is the default tuner. */
 uint32_t daxfolin_start(daxfolin_record *record, daxfolin_settings settings);
 
-/* A fresh tuner with the default settings. */
-void daxfolin_start_default(daxfolin_record *record);
+/* A fresh tuner with the default settings. 0. */
+uint32_t daxfolin_start_default(daxfolin_record *record);
 
 /* New settings, which count from the next sample. 0; or 9, then 8, and the record is as it was. */
 uint32_t daxfolin_change(daxfolin_record *record, daxfolin_settings settings);

@@ -68,7 +68,7 @@ int main(void) {
         memcpy(in_was, in, sizeof in);
         switch (asked.call) {
         case START: said.number = daxfolin_start(&lent.record, asked.settings); break;
-        case START_DEFAULT: daxfolin_start_default(&lent.record); break;
+        case START_DEFAULT: said.number = daxfolin_start_default(&lent.record); break;
         case CHANGE: said.number = daxfolin_change(&lent.record, asked.settings); break;
         case BLOCK: answer(&said, daxfolin_block(&lent.record, (uint16_t)asked.number, in + GUARD, samples_length, out + GUARD, out_length)); break;
         case RESET: said.number = daxfolin_reset(&lent.record); break;

@@ -83,14 +83,11 @@ fn level(sample: i16) -> String {
 pub fn play(tuner: &mut Tuner, bytes: &[u8]) -> String {
     let none = Counts::default();
     match bytes[0] {
-        0 => {
-            let (answer, started) = Tuner::start(settings(bytes));
+        call @ (0 | 1) => {
+            let with = [settings(bytes), Settings::DEFAULT][usize::from(call)];
+            let (answer, started) = Tuner::start(with);
             *tuner = started;
             said(answer, none)
-        }
-        1 => {
-            *tuner = Tuner::default_start();
-            String::new()
         }
         2 => said(tuner.change(settings(bytes)), none),
         3 => said(tuner.reset(), none),

@@ -72,6 +72,14 @@ pub struct Left {
     pub out: Vec<i16>,
 }
 
+impl Left {
+    fn start(&mut self, settings: Settings) {
+        let (answer, tuner) = Tuner::start(settings);
+        self.number = answer.number() as u32;
+        self.record = Record::fresh(tuner.settings).bytes();
+    }
+}
+
 macro_rules! in_order {
     ($record:ident, $number:ident) => {
         $number!($record.settings.scale);
@@ -319,12 +327,8 @@ pub fn made(bytes: &[u8; SIZE], call: &Call) -> Left {
         ..Left::default()
     };
     match call {
-        Call::Start(settings) => {
-            let (answer, tuner) = Tuner::start(*settings);
-            left.number = answer.number() as u32;
-            left.record = Record::fresh(tuner.settings).bytes();
-        }
-        Call::StartDefault => left.record = Record::fresh(Settings::DEFAULT).bytes(),
+        Call::Start(settings) => left.start(*settings),
+        Call::StartDefault => left.start(Settings::DEFAULT),
         Call::Cut(length, k) => {
             // Past the end in whole numbers, whatever k is.
             let from = (u128::from(*k) * LONGEST_BLOCK as u128).min(u128::from(*length)) as u64;

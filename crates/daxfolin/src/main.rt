@@ -202,7 +202,7 @@ fn finish(t: Tuner, held: &[u8], out: &mut [u8])
 fn main() {
     let mut buf = io::large_buffer();
     let mut out = io::large_buffer();
-    let mut t = tuner::start_default();
+    let mut t = tuner::start_default().tuner;
     let mut held: usize = 0;
     let mut ended = false;
     let mut turns = u64::MAX;

@@ -12,11 +12,12 @@ use lib.IntN.{ℤ}
 use lib.ListN.{length, take, drop, length-drop, drop-of-length-le}
 use lib.Seq.{take-all}
 use Rattle.whole.specs.Tests.{by, cond-no}
+use Rattle.rules.specs.Rules.{defaults}
 use Rattle.rules.specs.declared.Settings.{Settings}
 use Rattle.tuner.specs.declared.Tuner.{Tuner}
 use Rattle.tuner.specs.declared.Answer.{Answer}
-use Rattle.tuner.specs.Tuners.{plain, answerBy, Took}
-use Rattle.tuner.specs.Meters.{one-meter, one-start}
+use Rattle.tuner.specs.Tuners.{fresh, plain, answerBy, Took, Started}
+use Rattle.tuner.specs.Meters.{one-meter, one-start, default-start-taken}
 use Rattle.tuner.specs.Verdicts.{tuner-kept, by-refused, took-one, changed-one, reset-one}
 use Rattle.host.specs.declared.Record.{Record}
 use Rattle.host.specs.declared.Shown.{Shown}
@@ -40,6 +41,10 @@ module _ {Call : Tuner → Tuner → Answer → Type 0} {untouched : Type 0} {r 
 
   pub unheld-by : {a : Answer} → 1 < r .tracking → a ≡ plain 9 → r′ ≡ r → untouched → Lent Call untouched r r′ (plain (a .number))
   unheld-by h e l u = unheld h (ap (λ (x : Answer). plain (x .number)) e) l u
+
+-- a start's
+pub started-by : {s : Settings} {t : Tuner} {a a′ : Answer} {r′ : Record} → Started s t a → r′ ≡ recordOf t → a′ ≡ a → HostStarted s r′ (a′ .number)
+started-by {s} {t} p l f = record { tuner = t; started = subst (Started s t) (number-alone (p .answer) f) p; left = l }
 
 -- ---- nothing is lost
 
@@ -123,6 +128,10 @@ module _ {r r₁ r₂ : Record} where
 
 pub host-started-one : {s : Settings} {r₁ r₂ : Record} {n m : ℕ} → HostStarted s r₁ n → HostStarted s r₂ m → (r₁ ≡ r₂) × (n ≡ m)
 host-started-one {n = n} {m} p q = let (t, a) = one-start (p .started) (q .started) in numbers n m (p .left ∙ ap recordOf t ∙ sym (q .left), a, tt)
+
+-- a start with the defaults is taken: the record of the fresh tuner, and 0
+pub host-default-start-taken : {r′ : Record} {n : ℕ} → HostStarted defaults r′ n → (r′ ≡ recordOf (fresh defaults)) × (n ≡ 0)
+host-default-start-taken {n = n} p = let (t, a) = default-start-taken (p .started) in numbers n 0 (p .left ∙ ap recordOf t, a, tt)
 
 pub host-metered-one : {r : Record} {m m′ : Shown} → HostMetered r m → HostMetered r m′ → m ≡ m′
 host-metered-one (held h p e) (held h′ p′ e′) = e ∙ ap shownAs (one-meter p p′) ∙ sym e′

@@ -10,7 +10,7 @@ ghost use mathlib.Core.Path.{_≡_};
 ghost use Prim.Native.Nat.{_≤_};
 ghost use Rattle.whole.specs.Tests.{Decides};
 ghost use Rattle.rules.specs.Rules.{defaults};
-ghost use Rattle.tuner.specs.Tuners.{fresh, plain};
+ghost use Rattle.tuner.specs.Tuners.{plain};
 ghost use Rattle.host.specs.Hosts.{tunerOf, recordOf, bare, shownAs, HostStarted, HostChanged, HostTook, HostReset, HostMetered, HostCut};
 
 // A tuner as numbers alone, so that no bytes in it are undefined: `tracking` is 0 or 1, and then the record holds a tuner.
@@ -180,10 +180,10 @@ fn started(s: Settings) -> Done
     finished(tuner::start(s))
 }
 
-fn started_default() -> Record
-    ensures { λ r. ⌜ r ≡ recordOf (fresh defaults) ⌝ }
+fn started_default() -> Done
+    ensures { λ d. ⌜ HostStarted defaults (d .left) (d .answer .number) ⌝ }
 {
-    record_of(tuner::start_default())
+    finished(tuner::start_default())
 }
 
 fn changed(r: Record, s: Settings) -> Done
@@ -262,9 +262,9 @@ fn metered(r: Record) -> Shown
 // The version of these calls.
 #[no_mangle]
 pub extern "C" fn daxfolin_version() -> u32
-    ensures { λ r. ⌜ r ≡ 1 ⌝ }
+    ensures { λ r. ⌜ r ≡ 2 ⌝ }
 {
-    1
+    2
 }
 
 // Where the k-th stretch of 512 samples of a recording of so many lies: the last may be shorter, and past the end there is nothing.
@@ -290,12 +290,14 @@ pub extern "C" fn daxfolin_start(lent: &mut Record, settings: Settings) -> u32
     d.answer.number
 }
 
-// A fresh tuner with the default settings. What the record held is not read.
+// A fresh tuner with the default settings, and 0. What the record held is not read.
 #[no_mangle]
-pub extern "C" fn daxfolin_start_default(lent: &mut Record)
-    ensures { λ _. ⌜ now (lent .exit) ≡ recordOf (fresh defaults) ⌝ }
+pub extern "C" fn daxfolin_start_default(lent: &mut Record) -> u32
+    ensures { λ n. ⌜ HostStarted defaults (now (lent .exit)) n ⌝ }
 {
-    *lent = started_default();
+    let d = started_default();
+    *lent = d.left;
+    d.answer.number
 }
 
 // The settings count from the next sample.

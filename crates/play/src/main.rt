@@ -176,7 +176,7 @@ fn one(t: Tuner, b: &[u8; 1050]) -> Tuner {
         return took(tuner::start(settings(b)));
     }
     if op == 1 {
-        return tuner::start_default();
+        return took(tuner::start_default());
     }
     if op == 2 {
         return took(t.change(settings(b)));
@@ -191,7 +191,7 @@ fn one(t: Tuner, b: &[u8; 1050]) -> Tuner {
 }
 
 fn main() {
-    let mut t = tuner::start_default();
+    let mut t = tuner::start_default().tuner;
     let mut turns = u64::MAX;
     while turns > 0 {
         let mut b = [0u8; 1050];

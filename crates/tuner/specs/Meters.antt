@@ -1,19 +1,20 @@
 -- The meter: what a read of it shows, and that its figures are exact. No second answer can meet the promise of a read, or of a start.
-use mathlib.Core.Path.{_≡_, sym, _∙_}
-use mathlib.Core.Bool.{true, false, cond}
+use mathlib.Core.Path.{_≡_, sym, _∙_, subst}
+use mathlib.Core.Bool.{Bool, true, false, cond}
 use Prim.Native.Nat.{ℕ, _≤_}
 use native.Mathlib.Omega.{arith}
 use lib.Dec.{eqb}
 use lib.Ieee.{Float, binary32, round}
 use lib.Ieee.Exact.{HasValue}
-use Rattle.rules.specs.Rules.{notePeriod}
+use Rattle.rules.specs.Rules.{inRange, defaults, notePeriod}
+use Rattle.rules.specs.Ranges.{defaults-in-range}
 use Rattle.rules.specs.declared.Settings.{Settings}
 use Rattle.voice.specs.declared.Voice.{Voice}
 use Rattle.tuner.specs.declared.Tuner.{Tuner}
 use Rattle.tuner.specs.declared.Answer.{Answer}
 use Rattle.tuner.specs.declared.Figures.{Figures}
 use Rattle.tuner.specs.declared.Meter.{Meter}
-use Rattle.tuner.specs.Tuners.{Good, PitchRight, Started}
+use Rattle.tuner.specs.Tuners.{Good, PitchRight, fresh, plain, Started}
 
 -- ---- definitions: figures
 
@@ -74,3 +75,11 @@ one-meter (read g e x) (read g′ e′ x′) = e ∙ sym e′
 
 pub one-start : {s : Settings} {t t′ : Tuner} {a a′ : Answer} → Started s t a → Started s t′ a′ → (t ≡ t′) × (a ≡ a′)
 one-start p q = (p .tuner ∙ sym (q .tuner), p .answer ∙ sym (q .answer))
+
+-- settings in range are taken: the fresh tuner with them, and 0
+pub start-taken : {s : Settings} {t : Tuner} {a : Answer} → inRange s ≡ true → Started s t a → (t ≡ fresh s) × (a ≡ plain 0)
+start-taken {s} {t} {a} e p = subst (λ (b : Bool). (t ≡ fresh (cond b s defaults)) × (a ≡ plain (cond b 0 8))) e (p .tuner, p .answer)
+
+-- so are the defaults
+pub default-start-taken : {t : Tuner} {a : Answer} → Started defaults t a → (t ≡ fresh defaults) × (a ≡ plain 0)
+default-start-taken = start-taken defaults-in-range

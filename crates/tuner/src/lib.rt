@@ -283,12 +283,6 @@ fn plain(number: u32) -> Answer
     }
 }
 
-pub fn start_default() -> Tuner
-    ensures { λ r. ⌜ r ≡ fresh defaults ⌝ }
-{
-    fresh(default_settings())
-}
-
 // The fresh tuner with these settings, or the default tuner beside 8.
 pub fn start(s: Settings) -> Taken
     ensures { λ r. ⌜ Started s (r .tuner) (r .answer) ⌝ }
@@ -304,6 +298,13 @@ pub fn start(s: Settings) -> Taken
         tuner: fresh(d),
         answer: plain(8),
     }
+}
+
+// A start with the defaults, which is taken.
+pub fn start_default() -> Taken
+    ensures { λ r. ⌜ Started defaults (r .tuner) (r .answer) ⌝ }
+{
+    start(default_settings())
 }
 
 // n / 256.

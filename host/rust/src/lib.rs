@@ -21,7 +21,7 @@
 use std::fmt;
 
 /// The version of the calls.
-pub const VERSION: u32 = 1;
+pub const VERSION: u32 = 2;
 /// The most samples of a block.
 pub const LONGEST_BLOCK: usize = 512;
 
@@ -127,7 +127,7 @@ mod archive {
     extern "C" {
         pub fn daxfolin_version() -> u32;
         pub fn daxfolin_start(record: *mut Record, settings: Settings) -> u32;
-        pub fn daxfolin_start_default(record: *mut Record);
+        pub fn daxfolin_start_default(record: *mut Record) -> u32;
         pub fn daxfolin_change(record: *mut Record, settings: Settings) -> u32;
         pub fn daxfolin_block(
             record: *mut Record,
@@ -182,6 +182,14 @@ impl Record {
         let mut record = Record::blank();
         // SAFETY: the record is a reference's.
         let number = unsafe { archive::daxfolin_start(&mut record, settings) };
+        (number, record)
+    }
+
+    /// A fresh tuner with the default settings, and 0.
+    pub fn start_default() -> (u32, Record) {
+        let mut record = Record::blank();
+        // SAFETY: the record is a reference's.
+        let number = unsafe { archive::daxfolin_start_default(&mut record) };
         (number, record)
     }
 
@@ -250,9 +258,8 @@ impl Record {
 /// A fresh tuner with the default settings.
 impl Default for Record {
     fn default() -> Record {
-        let mut record = Record::blank();
-        // SAFETY: the record is a reference's.
-        unsafe { archive::daxfolin_start_default(&mut record) };
+        let (number, record) = Record::start_default();
+        assert_eq!(number, TAKEN, "the default start is taken");
         record
     }
 }

@@ -29,7 +29,7 @@ fn left_by(record: &mut Record, call: &Call) -> Left {
     let mut left = Left::default();
     match call {
         Call::Start(with) => (left.number, *record) = Record::start(settings(with)),
-        Call::StartDefault => *record = Record::default(),
+        Call::StartDefault => (left.number, *record) = Record::start_default(),
         Call::Change(to) => left.number = record.change(settings(to)),
         Call::Reset => left.number = record.reset(),
         Call::Block {

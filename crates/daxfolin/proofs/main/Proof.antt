@@ -8,6 +8,7 @@ use Prim.Native.Nat.{_≤_}
 use lib.ListN.{length, take}
 use lib.Seq.{length-take-le}
 use Rattle.tuner.specs.declared.Tuner.{Tuner}
+use Rattle.tuner.specs.Meters.{default-start-taken}
 use Rattle.daxfolin.specs.Turns.{Working}
 use Rattle.daxfolin.specs.Laws.{none-read, one-turn-more}
 use Rattle.daxfolin.proofs.main.Statement.{statement}
@@ -35,7 +36,8 @@ start-default-requires : tie.Need-start-default-requires Inv-loop μ-loop
 start-default-requires c κs = tt
 
 loop-holds : tie.Need-loop-holds Inv-loop μ-loop
-loop-holds c = (sym (c .before .before .large-buffer .ensures), sym (c .before .large-buffer2 .ensures), omega arith, subst (λ (t : Tuner). Working t []) (sym (c .start-default .ensures)) none-read)
+loop-holds c =
+    (sym (c .before .before .before .large-buffer .ensures), sym (c .before .before .large-buffer2 .ensures), omega arith, subst (λ (t : Tuner). Working t []) (sym (default-start-taken (c .before .start-default .ensures) .0)) none-read)
 
 slice-aggregate-one-turn : tie.Need-slice-aggregate-one-turn Inv-loop μ-loop
 slice-aggregate-one-turn c = sym (c .before .before .loop .inv .0)

@@ -1,19 +1,22 @@
--- `tuner::start_default` meets its contract: a fresh tuner with the default settings.
+-- `tuner::start_default` meets its contract: it is the start with the default settings.
 -- Assumes nothing.
-use mathlib.Core.Path.{ap, _∙_}
+use mathlib.Core.Path.{subst}
 use borrow.Author.Needs.{needs}
-use Rattle.tuner.specs.Tuners.{fresh}
+use Rattle.rules.specs.declared.Settings.{Settings}
+use Rattle.tuner.specs.Tuners.{Started}
 use Rattle.tuner.proofs.start_default.Statement.{statement}
 use Rattle.tuner.proofs.start_default.Tie as tie
 
 default-settings-requires : tie.Need-default-settings-requires
 default-settings-requires c κs = search needs
 
-fresh-requires : tie.Need-fresh-requires
-fresh-requires c κs = search needs
+start-requires : tie.Need-start-requires
+start-requires c κs = search needs
 
 returns : tie.Need-returns
-returns c = c .fresh .ensures ∙ ap fresh (c .before .default-settings .ensures)
+returns c =
+    let r = c .start .result in
+    subst (λ (s : Settings). Started s (r .tuner) (r .answer)) (c .before .default-settings .ensures) (c .start .ensures)
 
 pub start-default-spec : {M : Type 1} → statement M
-start-default-spec = tie.close (tie.spec default-settings-requires fresh-requires returns)
+start-default-spec = tie.close (tie.spec default-settings-requires start-requires returns)
