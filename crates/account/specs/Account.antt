@@ -8,15 +8,13 @@ use lib.Dec.{eqb}
 use lib.IntN.{ℤ, pos, _+ℤ_, _-ℤ_}
 use lib.ListN.{length, take}
 use Rattle.rules.specs.declared.Settings.{Settings}
-use Rattle.rules.specs.Rules.{Sound, silence, heardAll, Given, cycles, fresh, defaults, after, samplesOut, allRepeated, allDropped}
-use Rattle.rules.specs.Position.{InBounds}
-use Rattle.rules.specs.Accounts.{Piece, afterPieces, givesPieces, ratesPieces, samplesPieces, totalOf}
-use Rattle.sums.specs.Kept.{Right}
+use Rattle.rules.specs.Rules.{Sound, silence, heardAll, Given, cycles, freshTake, defaults, after, samplesOut, allRepeated, allDropped}
+use Rattle.rules.specs.Facts.{InBounds, Right}
+use Rattle.rules.specs.History.{Piece, afterPieces, givesPieces, ratesPieces, samplesPieces, totalOf}
 use Rattle.tuner.specs.declared.Tuner.{Tuner}
 use Rattle.tuner.specs.declared.Answer.{Answer}
 use Rattle.tuner.specs.declared.Meter.{Meter}
-use Rattle.tuner.specs.Tuners.{takeOf, Good, made, Took, Started, Changed, Reset}
-use Rattle.tuner.specs.Tuners as tuners
+use Rattle.tuner.specs.Tuners.{freshTuner, takeOf, Good, made, Took, Started, Changed, Reset}
 use Rattle.tuner.specs.Meters.{Metered}
 
 -- ---- the history
@@ -39,7 +37,7 @@ pub data Leaves (t : Tuner) : Call → Tuner → Type 0 where
 
 -- any calls one after the other, the newest first, from a fresh start on
 pub data Series : List Call → Tuner → Type 0 where
-  fresh-start : Series [] (tuners.fresh defaults)
+  fresh-start : Series [] (freshTuner defaults)
   and-then : {cs : List Call} {c : Call} {t t′ : Tuner} → Series cs t → Leaves t c t′ → Series (c ∷ cs) t′
 
 -- since the last start or reset: each block taken, with the settings in force; what they wrote, one after the other; the counts that they answered, added up
@@ -93,7 +91,7 @@ samplesOf r = samplesPieces (r .pieces)
 
 -- what the rules give for each of them
 abbrev pub givenOf : Received → List Given
-givenOf r = givesPieces fresh (r .pieces)
+givenOf r = givesPieces freshTake (r .pieces)
 
 -- the sound of all samples received, and of the eighth-rate samples made of them: 0 before the first
 abbrev pub heardOf : Received → Sound
@@ -112,13 +110,13 @@ pub record Accounted (r : Received) (t : Tuner) : Type 0 where
   pub sums : Right (eighthsOf r) 2 109 (t .energies) (t .correlations)
   pub lags : t .voice .tracking ≡ true → Right (heardOf r) (t .voice .tracker .low) 8 (t .voice .tracker .e) (t .voice .tracker .h)
   -- position: all rates used, minus the period of every cycle repeated, plus the period of every cycle dropped
-  pub position : takeOf t .position ≡ pos (totalOf (ratesPieces fresh (r .pieces))) -ℤ pos (cycles (allRepeated (givenOf r))) +ℤ pos (cycles (allDropped (givenOf r)))
+  pub position : takeOf t .position ≡ pos (totalOf (ratesPieces freshTake (r .pieces))) -ℤ pos (cycles (allRepeated (givenOf r))) +ℤ pos (cycles (allDropped (givenOf r)))
   -- the counts answered are the numbers of those cycles
   pub repeated : r .repeated ≡ length (allRepeated (givenOf r))
   pub dropped : r .dropped ≡ length (allDropped (givenOf r))
   -- never ahead of the input nor over 1,000 samples behind: now, and after any beginning xs of the block that comes next
   pub bounds : InBounds (t .count) (takeOf t .position)
-  pub within : (xs : List ℤ) → InBounds (length (samplesOf r) + length xs) (after (t .settings) (afterPieces fresh (r .pieces)) xs .position)
+  pub within : (xs : List ℤ) → InBounds (length (samplesOf r) + length xs) (after (t .settings) (afterPieces freshTake (r .pieces)) xs .position)
   -- samples out: what was written is the rules' reading of all that was received
   pub written : r .written ≡ samplesOut (givenOf r)
 
@@ -155,3 +153,12 @@ abbrev pub SentAgain : Type 0
 SentAgain =
     (cs : List Call) (t u w w′ : Tuner) (k : ℕ) (xs ys zs ys₂ zs₂ : List ℤ) (a b : Answer)
     → Series cs t → Took t k xs ys u a zs → a .number ≡ 0 → Meanwhile u w → length xs ≤ length ys₂ → Took w k xs ys₂ w′ b zs₂ → GivenAgain (length xs) w w′ a b zs zs₂
+
+-- ---- never 9
+
+-- no call on the tuner is answered 9, and its meter is never refused
+pub record NeverNine (t : Tuner) : Type 0 where
+  pub block : {k : ℕ} {xs ys ys′ : List ℤ} {t′ : Tuner} {a : Answer} → Took t k xs ys t′ a ys′ → a .number ≡ 9 → ⊥
+  pub change : {s : Settings} {t′ : Tuner} {a : Answer} → Changed t s t′ a → a .number ≡ 9 → ⊥
+  pub reset : {t′ : Tuner} {a : Answer} → Reset t t′ a → a .number ≡ 9 → ⊥
+  pub meter : {r : Meter} → Metered t r → r ≡ Meter.Refused → ⊥

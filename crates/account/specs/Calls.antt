@@ -16,23 +16,23 @@ use Rattle.whole.specs.Lists.{length-listOf, getD-listOf}
 use Rattle.whole.specs.Sums.{sum-within, total-zero}
 use Rattle.rules.specs.declared.Settings.{Settings}
 use Rattle.rules.specs.Rules.{Sound, silence, heard, heardAll, sq, E, H, Mode, searching, tracking, inRange, defaults}
-use Rattle.rules.specs.Ranges.{InRange, in-range, is-in-range, defaults-in-range}
+use Rattle.rules.specs.Ranges.{in-range, is-in-range, defaults-in-range}
+use Rattle.rules.specs.Facts.{InRange, valueAt, Right}
+use Rattle.voice.specs.Pitches.{Lags, pitchOf}
 use Rattle.rules.specs.Hearing.{all-heard}
 use Rattle.rules.specs.Position.{Paced, withPeriod, withoutPeriod, behind-in-bounds, in-bounds-behind}
 use Rattle.rules.specs.Sane.{SaneMode, SanePitch, Sane, tracking-is-not-searching, after-sane}
-use Rattle.ages.specs.Ages.{at}
-use Rattle.sums.specs.Kept.{Right}
 use Rattle.voice.specs.declared.Voice.{Voice}
-use Rattle.voice.specs.Voices.{Lags, Voiced, pitchOf}
+use Rattle.voice.specs.Voices.{Voiced}
 use Rattle.tuner.specs.declared.Tuner.{Tuner}
 use Rattle.tuner.specs.declared.Answer.{Answer}
 use Rattle.tuner.specs.declared.Meter.{Meter}
-use Rattle.tuner.specs.Tuners.{soundOf, takeOf, PitchRight, pitched, unpitched, Good, fresh, keeping, made, energiesOf, correlationsOf, trackerOf, isTracking, afterBlock, lastSamples, Fits, Verdict, record-out-of-range, given-again, tunerBy, plain, answerBy, Took, Started, withSettings, ChangeVerdict, setting-out-of-range, changed, Changed, ResetVerdict, Reset}
+use Rattle.tuner.specs.Tuners.{soundOf, takeOf, PitchRight, pitched, unpitched, Good, freshTuner, keeping, made, energiesOf, correlationsOf, trackerOf, isTracking, afterBlock, lastSamples, Fits, Verdict, record-out-of-range, given-again, tunerBy, plain, answerBy, Took, Started, withSettings, ChangeVerdict, setting-out-of-range, changed, Changed, ResetVerdict, Reset}
 use Rattle.tuner.specs.Meters.{Exact, Metered, record-out-of-range, read}
 use Rattle.tuner.specs.Taking.{made-length}
 use Rattle.tuner.specs.Afters.{good-voiced}
 use Rattle.tuner.specs.Verdicts.{verdict-one, verdict-fits, verdict-zero, tuner-taken, tuner-kept, by-refused, by-given, counted, overlaid, out-length}
-use Rattle.account.specs.Account.{Call, Leaves, by-start, by-change, by-block, by-reset, by-meter, TakesNone, Meanwhile, nothing, and-meanwhile, GivenAgain}
+use Rattle.account.specs.Account.{Call, Leaves, by-start, by-change, by-block, by-reset, by-meter, TakesNone, Meanwhile, nothing, and-meanwhile, GivenAgain, NeverNine}
 
 -- how long a tuner's arrays are
 pub record Lengths (t : Tuner) : Type 0 where
@@ -41,13 +41,6 @@ pub record Lengths (t : Tuner) : Type 0 where
   pub energies : length (t .energies) ≡ 109
   pub correlations : length (t .correlations) ≡ 109
   pub out : length (t .out) ≡ 512
-
--- no call on the tuner is answered 9, and its meter is never refused
-pub record NeverNine (t : Tuner) : Type 0 where
-  pub block : {k : ℕ} {xs ys ys′ : List ℤ} {t′ : Tuner} {a : Answer} → Took t k xs ys t′ a ys′ → a .number ≡ 9 → ⊥
-  pub change : {s : Settings} {t′ : Tuner} {a : Answer} → Changed t s t′ a → a .number ≡ 9 → ⊥
-  pub reset : {t′ : Tuner} {a : Answer} → Reset t t′ a → a .number ≡ 9 → ⊥
-  pub meter : {r : Meter} → Metered t r → r ≡ Meter.Refused → ⊥
 
 -- the same last block: its samples, number, length, counts and output
 pub record SameLast (u w : Tuner) : Type 0 where
@@ -78,8 +71,8 @@ silent-right {x} low n p =
           ∙ sym (natAbs-zero (H x (low + j)) (omega (arith, sum-within 0 (λ (k : ℕ). x k *ℤ x (k + (low + j))) (λ k. record { within = rw (p k, p (k + (low + j))) (omega arith) }) (low + j) .within)));
     }
 
-pub good-fresh : (s : Settings) → inRange s ≡ true → Good (fresh s)
-unfolding fresh silence
+pub good-fresh : (s : Settings) → inRange s ≡ true → Good (freshTuner s)
+unfolding freshTuner silence
 good-fresh s e =
     record {
       settings = in-range s e;
@@ -95,8 +88,8 @@ good-fresh s e =
       searching = λ t. refl;
     }
 
-pub fresh-lengths : (s : Settings) → Lengths (fresh s)
-unfolding fresh
+pub fresh-lengths : (s : Settings) → Lengths (freshTuner s)
+unfolding freshTuner
 fresh-lengths s =
     record {
       store = length-replicate 1764 (pos 0);
@@ -115,7 +108,7 @@ voice-sane {x} {v} r =
       paced = r .paced;
       noted = r .noted;
       lags = cond-case (v .tracking) m searching SaneMode (λ e. let l = r .lags e in (l .from, l .upto, l .lastFrom, l .lastUpto)) (λ e. tt);
-      unpitched = λ e. by (v .tracking) (λ y. absurd (tracking-is-not-searching (sym (cond-yes m searching y) ∙ e))) (r .unpitched);
+      whileSearching = λ e. by (v .tracking) (λ y. absurd (tracking-is-not-searching (sym (cond-yes m searching y) ∙ e))) (r .whileSearching);
     }
 
 pub good-sane : {t : Tuner} → Good t → Sane (takeOf t)
@@ -128,7 +121,7 @@ pub keeping-length : (kept new : List ℤ) → length (keeping kept new) ≡ len
 keeping-length kept new = omega (arith, length-drop (length new) (kept ++ new), length-append kept new)
 
 -- what was silent before the take has moved on by what came
-keeping-silent : (kept new : List ℤ) (i : ℕ) → i + length new < length kept → at kept (length new + i) ≡ pos 0 → at (keeping kept new) i ≡ pos 0
+keeping-silent : (kept new : List ℤ) (i : ℕ) → i + length new < length kept → valueAt kept (length new + i) ≡ pos 0 → valueAt (keeping kept new) i ≡ pos 0
 keeping-silent kept new i h e =
     getD-drop (length new) (kept ++ new) i (pos 0) ∙ List·getD-append kept new (pos 0) (length new + i) (omega arith) ∙ e
 
@@ -172,7 +165,7 @@ good-after t k xs g l most upto =
       lags = kept-lags _ _ (sane .pitch .lags);
       position = in-bounds-behind (sane .bounds) .near;
       pitch = pitch-right _ (sane .pitch .noted) (sane .pitch .paced);
-      searching = λ e. sane .pitch .unpitched (not-tracking _ e);
+      searching = λ e. sane .pitch .whileSearching (not-tracking _ e);
     }
 
 pub after-lengths : (t : Tuner) (k : ℕ) (xs : List ℤ) → Lengths t → length xs ≤ 512 → Lengths (afterBlock t k xs)
@@ -225,14 +218,14 @@ module _ {t : Tuner} (g : Good t) (l : Lengths t) where
   pub reset-good : {t′ : Tuner} {a : Answer} → Reset t t′ a → Good t′ × Lengths t′
   reset-good p =
       rw (p .tuner)
-      (cond-case (eqb (p .number) 0) (fresh (t .settings)) t (λ (u : Tuner). Good u × Lengths u)
+      (cond-case (eqb (p .number) 0) (freshTuner (t .settings)) t (λ (u : Tuner). Good u × Lengths u)
       (λ e. (good-fresh (t .settings) (is-in-range (t .settings) (g .settings)), fresh-lengths (t .settings)))
       (λ e. (g, l)))
 
 pub started-good : {s : Settings} {t′ : Tuner} {a : Answer} → Started s t′ a → Good t′ × Lengths t′
 started-good {s} p =
     rw (p .tuner)
-    (cond-case (inRange s) s defaults (λ (r : Settings). Good (fresh r) × Lengths (fresh r))
+    (cond-case (inRange s) s defaults (λ (r : Settings). Good (freshTuner r) × Lengths (freshTuner r))
     (λ e. (good-fresh s e, fresh-lengths s))
     (λ e. (good-fresh defaults defaults-in-range, fresh-lengths defaults)))
 
@@ -312,7 +305,7 @@ pub refused-change-unchanged : {t t′ : Tuner} {s : Settings} {a : Answer} → 
 refused-change-unchanged {t} {s = s} p h = kept-unless-zero (withSettings t s) (p .tuner) (p .answer) h
 
 pub refused-reset-unchanged : {t t′ : Tuner} {a : Answer} → Reset t t′ a → 0 < a .number → t′ ≡ t
-refused-reset-unchanged {t} p h = kept-unless-zero (fresh (t .settings)) (p .tuner) (p .answer) h
+refused-reset-unchanged {t} p h = kept-unless-zero (freshTuner (t .settings)) (p .tuner) (p .answer) h
 
 -- ---- the last block again
 
@@ -382,8 +375,8 @@ module _ {t u : Tuner} {k : ℕ} {xs ys zs : List ℤ} {a : Answer} (g : Good t)
 
     verdict-again : {room : ℕ} → length xs ≤ room → Verdict w k xs room 1
     verdict-again h =
-        given-again (record { good = gw; some = taken-fits .some; most = taken-fits .most; written = h })
-        (omega (arith, last-length, taken-fits .some), sym last-number) last-are
+        given-again (record { good = gw; nonempty = taken-fits .nonempty; most = taken-fits .most; written = h })
+        (omega (arith, last-length, taken-fits .nonempty), sym last-number) last-are
 
     pub again : {w′ : Tuner} {b : Answer} {ys₂ zs₂ : List ℤ} → length xs ≤ length ys₂ → Took w k xs ys₂ w′ b zs₂ → GivenAgain (length xs) w w′ a b zs zs₂
     again {w′} {ys₂ = ys₂} room q =

@@ -11,23 +11,24 @@ use lib.ListN.{length, take, length-append}
 use lib.Seq.{take-at}
 use Rattle.whole.specs.Tests.{by, cond-case, cond-yes, cond-no}
 use Rattle.rules.specs.declared.Settings.{Settings}
-use Rattle.rules.specs.Rules.{Sound, silence, heardAll, Mode, searching, tracking, Pitch, unpitched, Take, Given, inputAt, fresh, inRange, defaults, after, gives, samplesOut, joined, allRepeated, allDropped}
-use Rattle.rules.specs.Ranges.{InRange, is-in-range, defaults-in-range}
+use Rattle.rules.specs.Rules.{Sound, silence, heardAll, Mode, searching, tracking, Pitch, noPeriod, Take, Given, inputAt, freshTake, inRange, defaults, after, gives, samplesOut, gathered, allRepeated, allDropped}
+use Rattle.rules.specs.Ranges.{is-in-range, defaults-in-range}
+use Rattle.rules.specs.Facts.{InRange}
+use Rattle.rules.specs.History.{Piece, afterPieces, overPieces, givesPieces, samplesPieces}
+use Rattle.voice.specs.Pitches.{pitchOf}
 use Rattle.rules.specs.Hearing.{heardAll-append}
 use Rattle.rules.specs.Position.{in-bounds-behind}
-use Rattle.rules.specs.Blocks.{after-count, after-sound, gives-length, samplesOut-append, joined-append}
+use Rattle.rules.specs.Blocks.{after-count, after-sound, gives-length, samplesOut-append, gathered-append}
 use Rattle.rules.specs.Sane.{after-sane}
-use Rattle.rules.specs.Accounts.{Piece, afterPieces, overPieces, givesPieces, samplesPieces, InRanges, account, pieces-count, pieces-sound, afterPieces-more, givesPieces-more, pieces-sane, pieces-in-bounds}
+use Rattle.rules.specs.Accounts.{InRanges, account, pieces-count, pieces-sound, afterPieces-more, givesPieces-more, pieces-sane, pieces-in-bounds}
 use Rattle.rules.specs.Local.{reach, reachEighths, SameNewest, Agree, after-agree}
-use Rattle.voice.specs.Voices.{pitchOf}
 use Rattle.tuner.specs.declared.Tuner.{Tuner}
 use Rattle.tuner.specs.declared.Answer.{Answer}
-use Rattle.tuner.specs.Tuners.{soundOf, takeOf, Good, keeping, made, trackerOf, isTracking, voiceOf, afterBlock, Took, Started, withSettings, Changed, Reset}
-use Rattle.tuner.specs.Tuners as tuners
+use Rattle.tuner.specs.Tuners.{freshTuner, soundOf, takeOf, Good, keeping, made, trackerOf, isTracking, voiceOf, afterBlock, Took, Started, withSettings, Changed, Reset}
 use Rattle.tuner.specs.Taking.{kept-age, right-alike, made-append, after-eighths}
 use Rattle.tuner.specs.Verdicts.{tuner-taken, verdict-fits}
-use Rattle.account.specs.Calls.{Lengths, still-silent, good-fresh, fresh-lengths, good-sane, keeping-length, took-good, changed-good, took-number, took-keeps, untaken-unchanged, overlaid-starts, again-after, NeverNine, good-never-nine}
-use Rattle.account.specs.Account.{Call, reset, Leaves, by-start, by-change, by-block, by-reset, by-meter, Series, fresh-start, and-then, Received, begun, plusBlock, plusChange, plus, received, givenOf, heardOf, eighthsOf, Accounted, Theorem, SentAgain}
+use Rattle.account.specs.Calls.{Lengths, still-silent, good-fresh, fresh-lengths, good-sane, keeping-length, took-good, changed-good, took-number, took-keeps, untaken-unchanged, overlaid-starts, again-after, good-never-nine}
+use Rattle.account.specs.Account.{Call, reset, Leaves, by-start, by-change, by-block, by-reset, by-meter, Series, fresh-start, and-then, Received, begun, plusBlock, plusChange, plus, received, givenOf, heardOf, eighthsOf, Accounted, Theorem, SentAgain, NeverNine}
 
 -- ---- what each call keeps
 record Keeps (r : Received) (t : Tuner) : Type 0 where
@@ -35,14 +36,14 @@ record Keeps (r : Received) (t : Tuner) : Type 0 where
   lengths : Lengths t
   settings : t .settings ≡ r .settings
   ranges : InRanges (r .pieces)
-  agree : Agree (afterPieces fresh (r .pieces)) (takeOf t)
+  agree : Agree (afterPieces freshTake (r .pieces)) (takeOf t)
   repeated : r .repeated ≡ length (allRepeated (givenOf r))
   dropped : r .dropped ≡ length (allDropped (givenOf r))
   written : r .written ≡ samplesOut (givenOf r)
 
 -- ---- a fresh tuner
-begun-keeps : (s : Settings) → inRange s ≡ true → Keeps (begun s) (tuners.fresh s)
-unfolding tuners.fresh fresh unpitched takeOf afterPieces overPieces samplesOut joined inputAt silence
+begun-keeps : (s : Settings) → inRange s ≡ true → Keeps (begun s) (freshTuner s)
+unfolding freshTuner freshTake noPeriod takeOf afterPieces overPieces samplesOut gathered inputAt silence
 begun-keeps s e =
     record {
       good = good-fresh s e;
@@ -117,20 +118,20 @@ module _ {r : Received} {t : Tuner} (k : Keeps r t) where
     taken-is = p .tuner ∙ tuner-taken t n xs (took-number p ∙ z)
 
     -- the rules take the block alike after all pieces and after what the tuner kept of them
-    taken-alike : Agree (after (r .settings) (afterPieces fresh (r .pieces)) xs) (after (t .settings) (takeOf t) xs) × (gives (r .settings) (afterPieces fresh (r .pieces)) xs ≡ given)
+    taken-alike : Agree (after (r .settings) (afterPieces freshTake (r .pieces)) xs) (after (t .settings) (takeOf t) xs) × (gives (r .settings) (afterPieces freshTake (r .pieces)) xs ≡ given)
     taken-alike =
-        let all = afterPieces fresh (r .pieces) in
+        let all = afterPieces freshTake (r .pieces) in
         subst (λ (s : Settings). Agree (after s all xs) (after (t .settings) (takeOf t) xs) × (gives s all xs ≡ given)) (k .settings)
         (after-agree (k .good .settings) (pieces-sane (r .pieces) (k .ranges)) (k .agree) xs)
 
-    given-more : givesPieces fresh (r .pieces ++ (piece ∷ [])) ≡ givenOf r ++ given
-    given-more = givesPieces-more fresh (r .pieces) piece ∙ ap (λ (gs : List Given). givenOf r ++ gs) (taken-alike .1)
+    given-more : givesPieces freshTake (r .pieces ++ (piece ∷ [])) ≡ givenOf r ++ given
+    given-more = givesPieces-more freshTake (r .pieces) piece ∙ ap (λ (gs : List Given). givenOf r ++ gs) (taken-alike .1)
 
-    counts-more : (part : Given → List ℕ) {m c : ℕ} → m ≡ length (joined part (givenOf r)) → c ≡ length (joined part given)
-        → m + c ≡ length (joined part (givesPieces fresh (r .pieces ++ (piece ∷ []))))
+    counts-more : (part : Given → List ℕ) {m c : ℕ} → m ≡ length (gathered part (givenOf r)) → c ≡ length (gathered part given)
+        → m + c ≡ length (gathered part (givesPieces freshTake (r .pieces ++ (piece ∷ []))))
     counts-more part e f =
         (λ i. e i + f i)
-        ∙ sym (ap (λ (gs : List Given). length (joined part gs)) given-more ∙ ap length (joined-append part (givenOf r) given) ∙ length-append (joined part (givenOf r)) (joined part given))
+        ∙ sym (ap (λ (gs : List Given). length (gathered part gs)) given-more ∙ ap length (gathered-append part (givenOf r) given) ∙ length-append (gathered part (givenOf r)) (gathered part given))
 
     out-is : take (a .written) ys′ ≡ samplesOut given
     unfolding afterBlock
@@ -157,8 +158,8 @@ module _ {r : Received} {t : Tuner} (k : Keeps r t) where
         settings = ap (λ (u : Tuner). u .settings) is ∙ k .settings;
         ranges = more-in-range (r .pieces) _ (k .ranges) (subst InRange (k .settings) (k .good .settings));
         agree = rw (afterPieces-more, is) (agree-then (taken-alike p z .0) (block-agree t n xs (k .good) (k .lengths)));
-        repeated = counts-more p z (λ (g : Given). g .repeated) (k .repeated) (ap (λ (b : Answer). b .repeated) kept ∙ ap (λ (u : Tuner). u .repeated) is);
-        dropped = counts-more p z (λ (g : Given). g .dropped) (k .dropped) (ap (λ (b : Answer). b .dropped) kept ∙ ap (λ (u : Tuner). u .dropped) is);
+        repeated = counts-more p z (λ (g : Given). g .repeats) (k .repeated) (ap (λ (b : Answer). b .repeated) kept ∙ ap (λ (u : Tuner). u .repeated) is);
+        dropped = counts-more p z (λ (g : Given). g .drops) (k .dropped) (ap (λ (b : Answer). b .dropped) kept ∙ ap (λ (u : Tuner). u .dropped) is);
         written = (λ i. k .written i ++ out-is p z i) ∙ sym (ap samplesOut (given-more p z) ∙ samplesOut-append (givenOf r) (given p z));
       })
       (λ e. let some = eqb-false (a .number) 0 e in subst (Keeps r) (sym (untaken-unchanged p (omega arith))) k)
@@ -175,7 +176,7 @@ module _ {r : Received} {t : Tuner} (k : Keeps r t) where
         lengths = left .1;
         settings = ap (λ (u : Tuner). u .settings) is;
         ranges = k .ranges;
-        agree = subst (λ (u : Tuner). Agree (afterPieces fresh (r .pieces)) (takeOf u)) (sym is) (k .agree);
+        agree = subst (λ (u : Tuner). Agree (afterPieces freshTake (r .pieces)) (takeOf u)) (sym is) (k .agree);
         repeated = k .repeated;
         dropped = k .dropped;
         written = k .written;
@@ -185,7 +186,7 @@ module _ {r : Received} {t : Tuner} (k : Keeps r t) where
   reset-keeps : {t′ : Tuner} {a : Answer} → Reset t t′ a → Keeps (plus (reset a) r) t′
   unfolding plus
   reset-keeps {t′} p =
-      let first = tuners.fresh (t .settings) in
+      let first = freshTuner (t .settings) in
       subst (λ (b : Answer). Keeps (plus (reset b) r) t′) (sym (p .answer))
       (cond-case (eqb (p .number) 0) _ r (λ (q : Received). Keeps q t′)
       (λ e. rw (p .tuner ∙ cond-yes first t e, sym (k .settings)) (begun-keeps (t .settings) (is-in-range (t .settings) (k .good .settings))))
@@ -221,8 +222,8 @@ eighths-from t (p ∷ ps) =
 
 module _ {r : Received} {t : Tuner} (k : Keeps r t) where
   eighths-are : SameNewest reachEighths (soundOf (t .eighths)) (eighthsOf r)
-  unfolding takeOf fresh
-  eighths-are i h = sym (k .agree .eighths i h) ∙ ap (λ (x : Sound). x i) (eighths-from fresh (r .pieces))
+  unfolding takeOf freshTake
+  eighths-are i h = sym (k .agree .eighths i h) ∙ ap (λ (x : Sound). x i) (eighths-from freshTake (r .pieces))
 
   sound-is : SameNewest reach (soundOf (t .store)) (heardOf r)
   unfolding takeOf

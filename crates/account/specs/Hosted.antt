@@ -19,8 +19,7 @@ use Rattle.host.specs.declared.Record.{Record}
 use Rattle.host.specs.declared.Shown.{Shown}
 use Rattle.host.specs.Hosts.{tunerOf, recordOf, held, unheld, HostTook, HostChanged, HostReset, HostStarted, shownAs, HostMetered}
 use Rattle.host.specs.Lents.{tuner-held, tuner-same, tuner's-call}
-use Rattle.account.specs.Account.{Call, start, change, block, reset, meter, Leaves, by-start, by-change, by-block, by-reset, by-meter, Series, fresh-start, and-then, received, Accounted, TakesNone, Meanwhile, nothing, and-meanwhile, GivenAgain}
-use Rattle.account.specs.Calls.{NeverNine}
+use Rattle.account.specs.Account.{Call, start, change, block, reset, meter, Leaves, by-start, by-change, by-block, by-reset, by-meter, Series, fresh-start, and-then, received, Accounted, TakesNone, Meanwhile, nothing, and-meanwhile, GivenAgain, NeverNine}
 use Rattle.account.specs.Holds.{holds, again-holds, never-nine}
 
 -- ---- definitions

@@ -8,15 +8,14 @@ use native.Mathlib.Omega.{arith}
 use lib.IntN.{ℤ, pos, negℤ, natAbs}
 use lib.ListN.{length, take, drop, replicate}
 use Rattle.whole.specs.Tests.{yes-and-no}
-use Rattle.rules.specs.Rules.{silence, heard, defaults, stepDue, listened, listenedIn, unpitched, inputAt, repeated, dropped, cycles, growth, sampleAt, between, wholeOf, fractionOf, reading, fresh, eighthDue, eighthsAfter, stepped, after, gives, samplesOut, joined}
+use Rattle.rules.specs.Rules.{silence, heard, defaults, stepDue, listened, listenedIn, noPeriod, inputAt, cycleRepeated, cycleDropped, cycles, growth, sampleAt, between, wholeOf, fractionOf, reading, freshTake, eighthDue, eighthsAfter, stepped, after, gives, samplesOut, gathered}
 use Rattle.rules.specs.Ranges.{defaults-in-range}
-use Rattle.rules.specs.Accounts.{Piece, overPieces, givesPieces}
-use Rattle.ages.specs.Ages.{at}
+use Rattle.rules.specs.History.{Piece, overPieces, givesPieces}
+use Rattle.rules.specs.Facts.{valueAt}
 use Rattle.voice.specs.declared.Voice.{Voice}
 use Rattle.tuner.specs.declared.Tuner.{Tuner}
 use Rattle.tuner.specs.declared.Answer.{Answer}
-use Rattle.tuner.specs.Tuners.{Good, pitched, takeOf, nextNumber, Verdict, taken, afterBlock, Took}
-use Rattle.tuner.specs.Tuners as tuners
+use Rattle.tuner.specs.Tuners.{freshTuner, Good, pitched, takeOf, nextNumber, Verdict, taken, afterBlock, Took}
 use Rattle.tuner.specs.Verdicts.{verdict-one, counted, tuner-taken}
 use Rattle.account.specs.Account.{block, Series, fresh-start, and-then, by-block, plus, plusBlock, received}
 use Rattle.account.specs.Calls.{still-silent, silent-right, good-fresh, fresh-lengths, took-good, took-number, took-keeps}
@@ -107,13 +106,13 @@ withVoice t v =
 -- a good record, as a host may hand it in: fresh, but reading at twice the rate, so that the first sample repeats a cycle
 unfoldable pub ahead : Tuner
 ahead =
-    withVoice (tuners.fresh defaults)
+    withVoice (freshTuner defaults)
     (record { tracking = true; period = 4096; note = 69; rate = 131072; tracker = record { low = 16; last = 16; e = replicate 8 0; h = replicate 8 (pos 0) } })
 
 -- the program keeps the promise on three calls: the whole case's first block, its second, and the first block to the record `ahead`
 pub record Tried (q : Program) : Type 0 where
-  pub first : Keeps q (tuners.fresh defaults) 0 firstBlock room
-  pub second : Keeps q (q (tuners.fresh defaults) 0 firstBlock room .tuner) 1 secondBlock room
+  pub first : Keeps q (freshTuner defaults) 0 firstBlock room
+  pub second : Keeps q (q (freshTuner defaults) 0 firstBlock room .tuner) 1 secondBlock room
   pub level : Keeps q ahead 0 firstBlock room
 
 -- it is none of the list
@@ -152,40 +151,40 @@ module _ {t t′ : Tuner} {k : ℕ} {xs ys zs : List ℤ} {a : Answer} (v : Verd
   gives-it = omega (arith, took-number p, number-zero)
 
 abbrev start : Tuner
-start = tuners.fresh defaults
+start = freshTuner defaults
 
 good-start : Good start
 good-start = good-fresh defaults defaults-in-range
 
 first-taken : Verdict start 0 firstBlock 3 0
-unfolding tuners.fresh
-first-taken = taken (record { good = good-start; some = omega arith; most = omega arith; written = omega arith }) (λ l. omega arith) refl (omega arith)
+unfolding freshTuner
+first-taken = taken (record { good = good-start; nonempty = omega arith; most = omega arith; written = omega arith }) (λ l. omega arith) refl (omega arith)
 
 -- what comes after the first block
 second-taken : {t : Tuner} → Good t → t ≡ afterBlock start 0 firstBlock → Verdict t 1 secondBlock 3 0
-unfolding tuners.fresh afterBlock
+unfolding freshTuner afterBlock
 second-taken {t} g e =
     let size : t .length ≡ 3 = ap (λ (u : Tuner). u .length) e in
     let last : t .number ≡ 0 = ap (λ (u : Tuner). u .number) e in
     let count : t .count ≡ 3 = ap (λ (u : Tuner). u .count) e in
-    taken (record { good = g; some = omega arith; most = omega arith; written = omega arith }) (λ l. omega arith) (sym (ap nextNumber e)) (omega arith)
+    taken (record { good = g; nonempty = omega arith; most = omega arith; written = omega arith }) (λ l. omega arith) (sym (ap nextNumber e)) (omega arith)
 
 -- the rules' samples for the first block, and for both: the input four samples late
 abbrev piece : List ℤ → Piece
 piece xs = record { settings = defaults; samples = xs }
 
-case-out : (samplesOut (givesPieces fresh (piece firstBlock ∷ [])) ≡ pos 0 ∷ pos 0 ∷ pos 0 ∷ [])
-    × (samplesOut (givesPieces fresh (piece firstBlock ∷ piece secondBlock ∷ [])) ≡ pos 0 ∷ pos 0 ∷ pos 0 ∷ pos 0 ∷ pos 1000 ∷ negℤ (pos 1000) ∷ [])
-unfolding fresh silence heard overPieces gives after samplesOut stepped eighthDue eighthsAfter unpitched listened listenedIn growth repeated dropped cycles inputAt reading between sampleAt wholeOf fractionOf
+case-out : (samplesOut (givesPieces freshTake (piece firstBlock ∷ [])) ≡ pos 0 ∷ pos 0 ∷ pos 0 ∷ [])
+    × (samplesOut (givesPieces freshTake (piece firstBlock ∷ piece secondBlock ∷ [])) ≡ pos 0 ∷ pos 0 ∷ pos 0 ∷ pos 0 ∷ pos 1000 ∷ negℤ (pos 1000) ∷ [])
+unfolding freshTake silence heard overPieces gives after samplesOut stepped eighthDue eighthsAfter noPeriod listened listenedIn growth cycleRepeated cycleDropped cycles inputAt reading between sampleAt wholeOf fractionOf
 case-out = (refl, refl)
 
 -- one cycle is repeated in the first block to `ahead`, and none in the first block to a fresh tuner
 cycles-counted : (afterBlock ahead 0 firstBlock .repeated ≡ 1) × (afterBlock start 0 firstBlock .repeated ≡ 0)
-unfolding afterBlock ahead takeOf tuners.fresh joined gives stepped eighthDue eighthsAfter stepDue listened listenedIn growth repeated dropped cycles inputAt
+unfolding afterBlock ahead takeOf freshTuner gathered gives stepped eighthDue eighthsAfter stepDue listened listenedIn growth cycleRepeated cycleDropped cycles inputAt
 cycles-counted = (refl, refl)
 
 good-ahead : Good ahead
-unfolding ahead tuners.fresh silence
+unfolding ahead freshTuner silence
 good-ahead =
     record {
       settings = good-start .settings;
@@ -202,12 +201,12 @@ good-ahead =
     }
 
 ahead-taken : Verdict ahead 0 firstBlock 3 0
-unfolding ahead tuners.fresh
-ahead-taken = taken (record { good = good-ahead; some = omega arith; most = omega arith; written = omega arith }) (λ l. omega arith) refl (omega arith)
+unfolding ahead freshTuner
+ahead-taken = taken (record { good = good-ahead; nonempty = omega arith; most = omega arith; written = omega arith }) (λ l. omega arith) refl (omega arith)
 
 -- equal lists have equal samples at a place, but for the sign
-alike : {xs ys : List ℤ} (i : ℕ) → xs ≡ ys → natAbs (at xs i) ≡ natAbs (at ys i)
-alike i e = ap (λ (xs : List ℤ). natAbs (at xs i)) e
+alike : {xs ys : List ℤ} (i : ℕ) → xs ≡ ys → natAbs (valueAt xs i) ≡ natAbs (valueAt ys i)
+alike i e = ap (λ (xs : List ℤ). natAbs (valueAt xs i)) e
 
 module _ {q : Program} (tried : Tried q) where
   abbrev one : Done
@@ -248,7 +247,7 @@ module _ {q : Program} (tried : Tried q) where
   not-copied all = let e = alike 0 (sym first-written ∙ all start 0 firstBlock room (gives-it first-taken (tried .first))) in omega arith
 
   not-left : LeavesAll q → ⊥
-  unfolding afterBlock tuners.fresh
+  unfolding afterBlock freshTuner
   not-left all = let e = ap (λ (u : Tuner). u .count) (sym first-tuner ∙ all start 0 firstBlock room .1) in omega arith
 
   not-passed : PassesTheRest q → ⊥

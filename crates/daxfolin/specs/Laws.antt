@@ -12,7 +12,7 @@ use lib.Seq.{take-all, take-add, drop-drop, length-take-le}
 use Rattle.whole.specs.Tests.{yes-and-no}
 use Rattle.rules.specs.Rules.{defaults}
 use Rattle.tuner.specs.declared.Tuner.{Tuner}
-use Rattle.tuner.specs.Tuners.{fresh}
+use Rattle.tuner.specs.Tuners.{freshTuner}
 use Rattle.text.specs.Places.{put-none}
 use Rattle.lines.specs.Lines.{Answered, answered, no-room, NoEnd, AllSaid, no-line, line-more, AnsweredAll}
 use Rattle.lines.specs.Serving.{heldOf, AllServed, no-read, one-read, nothing-held, last-line}
@@ -84,7 +84,7 @@ read-answered {t} {t′} {buf} held new {at} s k =
     (ap (λ (l : List ℕ). heldOf (drop at l)) (sym e) ∙ sym (k .bytes))
     (read-once (take new (drop held buf)) (subst (λ (l : List ℕ). AllServed t l t′ at (s .text)) e (s .served)))
 
-pub none-read : Working (fresh defaults) []
+pub none-read : Working (freshTuner defaults) []
 none-read = record { reads = []; text = []; so-far = no-read }
 
 pub one-turn-more : {t t′ : Tuner} {held held′ : List ℕ} {reads : List (List ℕ)} → Working t held → Turned t held reads t′ held′ → Working t′ held′

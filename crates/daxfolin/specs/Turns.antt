@@ -6,8 +6,8 @@ use Prim.Native.Nat.{ℕ, _≤_}
 use lib.ListN.{length, take, drop}
 use Rattle.rules.specs.Rules.{defaults}
 use Rattle.tuner.specs.declared.Tuner.{Tuner}
-use Rattle.tuner.specs.Tuners.{fresh}
-use Rattle.text.specs.Places.{Put}
+use Rattle.tuner.specs.Tuners.{freshTuner}
+use Rattle.text.specs.Text.{Put}
 use Rattle.lines.specs.Serving.{heldOf, AllServed, Reads, Ended}
 use Rattle.daxfolin.specs.declared.Turn.{Turn}
 
@@ -41,7 +41,7 @@ pub record Turns (t : Tuner) (held : List ℕ) (r : Turn) (buf′ : List ℕ) : 
 pub record Working (t : Tuner) (held : List ℕ) : Type 0 where
   pub reads : List (List ℕ)
   pub text : List ℕ
-  pub so-far : Reads (fresh defaults) reads t held text
+  pub so-far : Reads (freshTuner defaults) reads t held text
 
 -- what the end of the input answers stands at the front of the output
 pub record Finishes (t : Tuner) (held out : List ℕ) (n : ℕ) (out′ : List ℕ) : Type 0 where

@@ -11,7 +11,8 @@ use mir.Val.{SFits}
 use Rattle.rules.specs.declared.Settings.{Settings}
 use Rattle.rules.specs.Rules.{Sound, E, D}
 use Rattle.rules.specs.Distance.{D-within}
-use Rattle.ages.specs.Ages.{at, Samples}
+use Rattle.ages.specs.Ages.{Samples}
+use Rattle.rules.specs.Facts.{valueAt}
 use Rattle.sums.specs.Kept.{RightAt, Kept}
 use Rattle.sums.specs.Sweep.{right-each, energy-small}
 use Rattle.finding.specs.declared.Found.{Found}
@@ -57,7 +58,7 @@ pub record Small (n : ℕ) (xs : List ℕ) : Type 0 where
 
 -- ---- what is kept is small
 module _ {n : ℕ} {e : List ℕ} {h : List ℤ} (k : Kept n e h) where
-  pub one-of : (j : ℕ) → j < n → One (getD e j 0) (at h j)
+  pub one-of : (j : ℕ) → j < n → One (getD e j 0) (valueAt h j)
   one-of j l =
       record {
         sound = k .sound;

@@ -8,7 +8,8 @@ ghost use Prim.Native.Nat.{ℕ, _-_, _*_, _/_, _^_, _≤_, _<_};
 ghost use lib.ListN.{length, getD};
 ghost use Rattle.rules.specs.Rules.{Sound, E, D, passes, isLow, choice, found};
 ghost use Rattle.ages.specs.Ages.{ago};
-ghost use Rattle.sums.specs.Kept.{RightAt, Right, Room, Kept};
+ghost use Rattle.sums.specs.Kept.{RightAt, Enough, Kept};
+ghost use Rattle.rules.specs.Facts.{Right};
 ghost use Rattle.finding.specs.Quiet.{Quiet};
 ghost use Rattle.finding.specs.Finding.{lagOf, Modest, Long, One, Distances, Measured, Small};
 ghost use Rattle.finding.specs.Scan.{InOrder, Leasts, Passed};
@@ -142,7 +143,7 @@ fn two_least(d: &[u64; 109], e: &[u64; 109], g: Settings) -> Lows
 
 // D at full rate, at one lag.
 fn full(s: &[i16], m: usize, lag: usize) -> u64
-    requires { ⌜ Room (now s) m lag 1 ⌝ }
+    requires { ⌜ Enough (now s) m lag 1 ⌝ }
     ensures { λ r. ⌜ r ≡ D (ago (now (s .entry)) m) lag ⌝ }
 {
     let t = sums::direct(s, m, lag);

@@ -16,8 +16,8 @@ use Rattle.rules.specs.Rules.{defaults}
 use Rattle.rules.specs.declared.Settings.{Settings}
 use Rattle.tuner.specs.declared.Tuner.{Tuner}
 use Rattle.tuner.specs.declared.Answer.{Answer}
-use Rattle.tuner.specs.Tuners.{fresh, plain, answerBy, Took, Started}
-use Rattle.tuner.specs.Meters.{one-meter, one-start, default-start-taken}
+use Rattle.tuner.specs.Tuners.{freshTuner, plain, answerBy, Took, Started}
+use Rattle.tuner.specs.Metering.{one-meter, one-start, default-start-taken}
 use Rattle.tuner.specs.Verdicts.{tuner-kept, by-refused, took-one, changed-one, reset-one}
 use Rattle.host.specs.declared.Record.{Record}
 use Rattle.host.specs.declared.Shown.{Shown}
@@ -130,7 +130,7 @@ pub host-started-one : {s : Settings} {r₁ r₂ : Record} {n m : ℕ} → HostS
 host-started-one {n = n} {m} p q = let (t, a) = one-start (p .started) (q .started) in numbers n m (p .left ∙ ap recordOf t ∙ sym (q .left), a, tt)
 
 -- a start with the defaults is taken: the record of the fresh tuner, and 0
-pub host-default-start-taken : {r′ : Record} {n : ℕ} → HostStarted defaults r′ n → (r′ ≡ recordOf (fresh defaults)) × (n ≡ 0)
+pub host-default-start-taken : {r′ : Record} {n : ℕ} → HostStarted defaults r′ n → (r′ ≡ recordOf (freshTuner defaults)) × (n ≡ 0)
 host-default-start-taken {n = n} p = let (t, a) = default-start-taken (p .started) in numbers n 0 (p .left ∙ ap recordOf t, a, tt)
 
 pub host-metered-one : {r : Record} {m m′ : Shown} → HostMetered r m → HostMetered r m′ → m ≡ m′

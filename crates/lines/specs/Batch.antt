@@ -8,7 +8,8 @@ use native.Mathlib.Omega.{arith}
 use lib.ListN.{length, getD, take, drop, length-append, length-drop, drop-of-length-le}
 use lib.Seq.{take-all, take-suc, take-add, drop-drop, length-take-le, getD-take, getD-drop}
 use Rattle.tuner.specs.declared.Tuner.{Tuner}
-use Rattle.text.specs.Places.{First, Put, put-none, put-then, put-length}
+use Rattle.text.specs.Places.{First, put-none, put-then, put-length}
+use Rattle.text.specs.Text.{Put}
 use Rattle.lines.specs.Lines.{Answered, answered, no-room, NoEnd, AllSaid, no-line, line-more, AnsweredAll}
 
 -- the first `at` bytes of the input are whole lines, answered at the front of the output

@@ -10,7 +10,7 @@ use native.Mathlib.Omega.{arith}
 use lib.ListN.{length, getD, take, drop, length-append, length-drop, length-take, take-append-drop, List·getD-append}
 use lib.Seq.{getD-at, getD-append-add, getD-take, take-at, drop-at, take-all, take-append-add, drop-append-add, length-take-le, take-append-seam, drop-append-seam, take-add, drop-drop}
 use Rattle.tuner.specs.declared.Tuner.{Tuner}
-use Rattle.text.specs.Places.{put}
+use Rattle.text.specs.Text.{put}
 use Rattle.lines.specs.Lines.{read, Line, Said, NoEnd, AllSaid, no-line, line-more, AnsweredAll}
 use Rattle.lines.specs.Laws.{read-long}
 use Rattle.lines.specs.Ones.{said-one}

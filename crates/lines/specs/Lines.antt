@@ -13,8 +13,7 @@ use Rattle.rules.specs.declared.Settings.{Settings}
 use Rattle.tuner.specs.declared.Tuner.{Tuner}
 use Rattle.tuner.specs.declared.Answer.{Answer}
 use Rattle.tuner.specs.Tuners.{Took, Started, Changed, Reset}
-use Rattle.text.specs.Text.{fields, number, sample, decimal, sampleFields}
-use Rattle.text.specs.Places.{Put}
+use Rattle.text.specs.Text.{fields, number, sample, decimal, sampleFields, Put}
 
 -- ---- what a line says
 

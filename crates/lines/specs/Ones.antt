@@ -8,8 +8,8 @@ use lib.ListN.{length, replicate}
 use Rattle.tuner.specs.declared.Tuner.{Tuner}
 use Rattle.tuner.specs.declared.Answer.{Answer}
 use Rattle.tuner.specs.Verdicts.{took-one, changed-one, reset-one}
-use Rattle.tuner.specs.Meters.{one-start}
-use Rattle.text.specs.Places.{Put, put}
+use Rattle.tuner.specs.Metering.{one-start}
+use Rattle.text.specs.Text.{Put, put}
 use Rattle.lines.specs.Lines.{Line, numberLine, blockLine, Said, begun, not-begun, changed, taken, begun-again, not-read, Answered, answered, no-room}
 
 numbers : {a b : Answer} → a ≡ b → a .number ≡ b .number

@@ -6,8 +6,8 @@ use native.Mathlib.Omega.{arith}
 use lib.IntN.{ℤ}
 use lib.ListN.{length, take, length-append}
 use lib.Seq.{length-take-le}
-use Rattle.text.specs.Text.{decimal, sampleFields}
-use Rattle.text.specs.Places.{Put, put-then, put-length}
+use Rattle.text.specs.Text.{decimal, sampleFields, Put}
+use Rattle.text.specs.Places.{put-then, put-length}
 use Rattle.text.specs.Spelling.{decimal-short, fields-short}
 
 -- the text so far stands at the front of an output of at least 4,096 bytes, and takes at most so much of it

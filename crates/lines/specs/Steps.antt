@@ -7,8 +7,8 @@ use Prim.Native.Nat.{ℕ, _+_, _≤_, _<_}
 use lib.IntN.{ℤ, pos}
 use lib.ListN.{length, take}
 use Rattle.tuner.specs.declared.Tuner.{Tuner}
-use Rattle.text.specs.Text.{number, sample}
-use Rattle.text.specs.Places.{optional, Put}
+use Rattle.text.specs.Text.{number, sample, Put}
+use Rattle.text.specs.Places.{optional}
 use Rattle.text.specs.Fields.{later}
 use Rattle.lines.specs.declared.Reply.{Reply}
 use Rattle.lines.specs.declared.NumberField.{NumberField}

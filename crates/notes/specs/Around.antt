@@ -1,10 +1,11 @@
 -- The search of the wanted note. The table falls, so the notes with a longer period than the sung one are its first. Of those of the scale
 -- among them the last is the nearest, of the others the first; the wanted note is one of these two.
-use mathlib.Core.Path.{_≡_, ap, _∙_}
+use mathlib.Core.Path.{_≡_, sym, ap, _∙_}
 use mathlib.Core.Bool.{true, false}
 use mathlib.Core.List.{List}
 use mathlib.Core.Option.{some}
 use Prim.Native.Nat.{ℕ, _+_, _-_, _≤_, _<_}
+use native.Mathlib.Nat.{le-of-lt}
 use native.Mathlib.Omega.{arith}
 use borrow.Author.Tests.{ltb-true, ltb-false}
 use lib.Dec.{ltb}
@@ -91,6 +92,32 @@ none-below {a = a} r off =
           (λ t. let e : a ≡ m = omega (arith, ltb-false a m t) in rw (← e) off);
     }
 
+-- ---- distances from p
+away-shorter : (p s : ℕ) → s ≤ p → away p s ≡ p - s
+away-shorter p s h = omega arith
+
+away-longer : (p u : ℕ) → p ≤ u → away p u ≡ u - p
+away-longer p u h = omega arith
+
+-- of a shorter period s and a longer one u
+module _ {p s u : ℕ} (below : s ≤ p) (above : p ≤ u) where
+  shorter-is-nearer : p - s ≤ u - p → away p s ≤ away p u
+  shorter-is-nearer h = rw (away-shorter p s below, away-longer p u above) h
+
+  longer-is-nearer : u - p < p - s → away p u < away p s
+  longer-is-nearer h = rw (away-longer p u above, away-shorter p s below) h
+
+-- of two shorter ones
+farther-below : {p s q : ℕ} → s ≤ p → q ≤ s → away p s ≤ away p q
+farther-below {p} {s} {q} h l = rw (away-shorter p s h, away-shorter p q (omega arith)) (omega arith)
+
+-- a period that falls with the note number, at the same difference: not a higher note
+not-higher : {p s m n : ℕ} (q : ℕ) → s ≤ p → n ≤ m → q + (m - n) ≤ s → p - q ≡ p - s → m ≤ n
+not-higher q below h fall e = omega arith
+
+not-equal : {a b : ℕ} → a < b → b ≡ a → ⊥
+not-equal h e = omega arith
+
 -- ---- the wanted note
 module _ {scale p k low high : ℕ} (l : Longer p k) (a : LastOfScale scale k low) (b : FirstOfScale scale k high) where
   -- a note of the scale with a longer period is not nearer than the last of them
@@ -129,12 +156,15 @@ module _ {scale p k low high : ℕ} (l : Longer p k) (a : LastOfScale scale k lo
         (record {
           inTable = omega arith;
           inScale = b .first h;
-          least = λ m lo hi on. each-of-scale m lo hi on (λ w. omega (arith, near (w .0), short)) (λ w. omega arith);
-          higher = λ m lo hi on e. each-of-scale m lo hi on (λ w. omega (arith, a .upto, b .from)) (λ w. omega arith);
+          least = λ m lo hi on. each-of-scale m lo hi on (λ w. shorter-is-nearer short (omega arith) (omega (arith, near (w .0)))) (λ w. farther-below short (omega arith));
+          higher = λ m lo hi on e. each-of-scale m lo hi on (λ w. omega (arith, a .upto, b .from)) (λ w. not-higher (notePeriod m) short (w .1) (w .3) (sym (away-shorter p (notePeriod m) (shorter-too m w)) ∙ e ∙ away-shorter p (notePeriod (firstNote + high)) short));
         })
       where
         short : notePeriod (firstNote + high) ≤ p
         short = l .shorter (firstNote + high) (omega (arith, b .from)) (omega arith)
+
+        shorter-too : (m : ℕ) → (high < notes) × (firstNote + high ≤ m) × (notePeriod (firstNote + high) ≤ p) × (notePeriod m + (m - (firstNote + high)) ≤ notePeriod (firstNote + high)) → notePeriod m ≤ p
+        shorter-too m w = omega arith
 
     -- the last note with a longer period is wanted where it is nearer than the first without
     pub lower-wanted : 0 < low → (high < notes → notePeriod (31 + low) - p < p - notePeriod (firstNote + high)) → wanted scale p ≡ some (31 + low)
@@ -143,12 +173,16 @@ module _ {scale p k low high : ℕ} (l : Longer p k) (a : LastOfScale scale k lo
         (record {
           inTable = omega (arith, a .upto, l .upto);
           inScale = a .last h;
-          least = λ m lo hi on. each-of-scale m lo hi on (λ w. omega arith) (λ w. omega (arith, near (w .0), long));
-          higher = λ m lo hi on e. each-of-scale m lo hi on (λ w. omega arith) (λ w. absurd (omega (arith, near (w .0), long)));
+          least = λ m lo hi on. each-of-scale m lo hi on (λ w. omega arith) (λ w. le-of-lt (farther m w));
+          higher = λ m lo hi on e. each-of-scale m lo hi on (λ w. omega arith) (λ w. absurd (not-equal (farther m w) e));
         })
       where
         long : p < notePeriod (31 + low)
         long = l .longer (31 + low) (omega arith) (omega (arith, a .upto))
+
+        farther : (m : ℕ) → (high < notes) × (firstNote + high ≤ m) × (notePeriod (firstNote + high) ≤ p) × (notePeriod m + (m - (firstNote + high)) ≤ notePeriod (firstNote + high))
+            → away p (notePeriod (31 + low)) < away p (notePeriod m)
+        farther m w = longer-is-nearer (omega arith) (omega (arith, long)) (omega (arith, near (w .0), long))
 
     -- some note is of the scale
     pub some-higher : low ≡ 0 → high < notes

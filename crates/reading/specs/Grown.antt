@@ -13,4 +13,4 @@ pub record Grown (behind rate period : ℕ) (r : Growth) : Type 0 where
   pub repeated-one : r .repeated ≤ 1
   pub dropped-one : r .dropped ≤ 1
   pub grows : (n : ℕ) → growth (suc n) rate period (inputAt n -ℤ pos behind)
-      ≡ record { position = inputAt (suc n) -ℤ pos (r .behind); repeated = replicate (r .repeated) period; dropped = replicate (r .dropped) period }
+      ≡ record { position = inputAt (suc n) -ℤ pos (r .behind); repeats = replicate (r .repeated) period; drops = replicate (r .dropped) period }

@@ -9,58 +9,20 @@ use lib.IntN.{ℤ, pos, _+ℤ_, _-ℤ_}
 use lib.ListN.{length, length-append}
 use Rattle.whole.specs.Ring.{var, con, _⊕_, _⊖_, solve}
 use Rattle.rules.specs.declared.Settings.{Settings}
-use Rattle.rules.specs.Rules.{Sound, Take, Given, silence, heardAll, cycles, growth, fresh, stepped, after, gives, joined, allRepeated, allDropped}
-use Rattle.rules.specs.Ranges.{InRange}
+use Rattle.rules.specs.Rules.{Sound, Take, Given, silence, heardAll, cycles, growth, freshTake, stepped, after, gives, gathered, allRepeated, allDropped}
+use Rattle.rules.specs.Facts.{InRange, InBounds}
 use Rattle.rules.specs.Hearing.{heardAll-append}
-use Rattle.rules.specs.Position.{InBounds}
-use Rattle.rules.specs.Blocks.{after-count, after-sound, joined-append}
+use Rattle.rules.specs.Blocks.{after-count, after-sound, gathered-append}
 use Rattle.rules.specs.Sane.{Sane, fresh-sane, after-sane, always-in-bounds}
+use Rattle.rules.specs.History.{ratesUsed, totalOf, Piece, afterPieces, overPieces, givesPieces, ratesPieces, samplesPieces}
 
 -- ---- the account
-
--- the rate used at each of the samples: the one in force once the sample was searched or tracked
-unfoldable pub ratesUsed : Settings → Take → List ℤ → List ℕ
-ratesUsed s t [] = []
-ratesUsed s t (x ∷ xs) = stepped s t x .next .pitch .rate ∷ ratesUsed s (stepped s t x .next) xs
-
--- the sum of all rates used
-unfoldable pub totalOf : List ℕ → ℕ
-totalOf [] = 0
-totalOf (r ∷ rs) = r + totalOf rs
 
 -- from a position on: the sum of all rates used, minus the period of every cycle repeated, plus the period of every cycle dropped
 abbrev pub accounted : ℤ → List ℕ → List Given → ℤ
 accounted at rates gs = at +ℤ pos (totalOf rates) -ℤ pos (cycles (allRepeated gs)) +ℤ pos (cycles (allDropped gs))
 
 -- ---- a take made of pieces
-
--- a piece: samples heard under one choice of settings
-pub record Piece : Type 0 where
-  pub settings : Settings
-  pub samples : List ℤ
-
--- the take after the pieces, one after the other
-unfoldable pub afterPieces : Take → List Piece → Take
-afterPieces t [] = t
-afterPieces t (p ∷ ps) = afterPieces (after (p .settings) t (p .samples)) ps
-
--- what is listed of each piece's samples, one piece after the other
-unfoldable pub overPieces : {A : Type 0} → (Settings → Take → List ℤ → List A) → Take → List Piece → List A
-overPieces part t [] = []
-overPieces part t (p ∷ ps) = part (p .settings) t (p .samples) ++ overPieces part (after (p .settings) t (p .samples)) ps
-
--- what each of their samples gives
-abbrev pub givesPieces : Take → List Piece → List Given
-givesPieces t ps = overPieces gives t ps
-
--- the rate used at each of their samples
-abbrev pub ratesPieces : Take → List Piece → List ℕ
-ratesPieces t ps = overPieces ratesUsed t ps
-
--- all their samples, in order
-unfoldable pub samplesPieces : List Piece → List ℤ
-samplesPieces [] = []
-samplesPieces (p ∷ ps) = p .samples ++ samplesPieces ps
 
 -- a change of the settings alone: a piece without samples
 abbrev pub unheard : Settings → Piece
@@ -83,13 +45,13 @@ cycles-append [] qs = sym (zero-add (cycles qs))
 cycles-append (p ∷ ps) qs = omega (arith, cycles-append ps qs)
 
 nothing-accounted : (at : ℤ) → at ≡ accounted at [] []
-unfolding totalOf joined cycles
+unfolding totalOf gathered cycles
 nothing-accounted at = solve (at ∷ []) (var 0) (var 0 ⊕ con (pos 0) ⊖ con (pos 0) ⊕ con (pos 0)) refl
 
 -- where z is an account, an account from z on is one account more
 pub accounted-append : (at : ℤ) (rs qs : List ℕ) (gs hs : List Given) {z : ℤ} → z ≡ accounted at rs gs → accounted z qs hs ≡ accounted at (rs ++ qs) (gs ++ hs)
 accounted-append at rs qs gs hs e =
-    simp (e, total-append, joined-append, cycles-append)
+    simp (e, total-append, gathered-append, cycles-append)
     (solve (at ∷ pos (totalOf rs) ∷ pos (totalOf qs) ∷ pos (cycles (allRepeated gs)) ∷ pos (cycles (allRepeated hs)) ∷ pos (cycles (allDropped gs)) ∷ pos (cycles (allDropped hs)) ∷ [])
     (var 0 ⊕ var 1 ⊖ var 3 ⊕ var 5 ⊕ var 2 ⊖ var 4 ⊕ var 6)
     (var 0 ⊕ (var 1 ⊕ var 2) ⊖ (var 3 ⊕ var 4) ⊕ (var 5 ⊕ var 6))
@@ -98,7 +60,7 @@ accounted-append at rs qs gs hs e =
 -- a growth is the account of its sample
 one-accounted : (s : Settings) (t : Take) (x : ℤ)
     → stepped s t x .next .position ≡ accounted (t .position) (stepped s t x .next .pitch .rate ∷ []) (stepped s t x .given ∷ [])
-unfolding stepped growth totalOf joined
+unfolding stepped growth totalOf gathered
 one-accounted s t x = simp (append-nil, add-zero)
 
 pub position-account : (s : Settings) (t : Take) (xs : List ℤ) → after s t xs .position ≡ accounted (t .position) (ratesUsed s t xs) (gives s t xs)
@@ -119,10 +81,10 @@ pieces-account t (p ∷ ps) =
     (position-account (p .settings) t (p .samples))
 
 -- the read position equals the sum of all rates used, minus the period of every cycle repeated, plus the period of every cycle dropped
-pub account : (ps : List Piece) → afterPieces fresh ps .position
-    ≡ pos (totalOf (ratesPieces fresh ps)) -ℤ pos (cycles (allRepeated (givesPieces fresh ps))) +ℤ pos (cycles (allDropped (givesPieces fresh ps)))
-unfolding fresh
-account ps = rw zero-add at (pieces-account fresh ps)
+pub account : (ps : List Piece) → afterPieces freshTake ps .position
+    ≡ pos (totalOf (ratesPieces freshTake ps)) -ℤ pos (cycles (allRepeated (givesPieces freshTake ps))) +ℤ pos (cycles (allDropped (givesPieces freshTake ps)))
+unfolding freshTake
+account ps = rw zero-add at (pieces-account freshTake ps)
 
 -- ---- one rate for each sample; the count; and each sample is heard
 rates-length : (s : Settings) (t : Take) (xs : List ℤ) → length (ratesUsed s t xs) ≡ length xs
@@ -143,9 +105,9 @@ count-from t [] = sym (add-zero (t .count))
 count-from t (p ∷ ps) =
     count-from (after (p .settings) t (p .samples)) ps ∙ rw (length-append, after-count) (add-assoc (t .count) (length (p .samples)) (length (samplesPieces ps)))
 
-pub pieces-count : (ps : List Piece) → afterPieces fresh ps .count ≡ length (samplesPieces ps)
-unfolding fresh
-pieces-count ps = count-from fresh ps ∙ zero-add _
+pub pieces-count : (ps : List Piece) → afterPieces freshTake ps .count ≡ length (samplesPieces ps)
+unfolding freshTake
+pieces-count ps = count-from freshTake ps ∙ zero-add _
 
 sound-from : (t : Take) (ps : List Piece) → afterPieces t ps .sound ≡ heardAll (t .sound) (samplesPieces ps)
 unfolding afterPieces samplesPieces heardAll
@@ -155,9 +117,9 @@ sound-from t (p ∷ ps) =
     ∙ ap (λ (x : Sound). heardAll x (samplesPieces ps)) (after-sound (p .settings) t (p .samples))
     ∙ sym (heardAll-append (t .sound) (p .samples) (samplesPieces ps))
 
-pub pieces-sound : (ps : List Piece) → afterPieces fresh ps .sound ≡ heardAll silence (samplesPieces ps)
-unfolding fresh
-pieces-sound ps = sound-from fresh ps
+pub pieces-sound : (ps : List Piece) → afterPieces freshTake ps .sound ≡ heardAll silence (samplesPieces ps)
+unfolding freshTake
+pieces-sound ps = sound-from freshTake ps
 
 -- ---- pieces, and more pieces after them
 pub afterPieces-append : (t : Take) (ps qs : List Piece) → afterPieces t (ps ++ qs) ≡ afterPieces (afterPieces t ps) qs
@@ -217,14 +179,14 @@ sane-from h [] r = h
 sane-from h (p ∷ ps) r = sane-from (after-sane (r .0) h (p .samples)) ps (r .1)
 
 module _ (ps : List Piece) (r : InRanges ps) where
-  pub pieces-sane : Sane (afterPieces fresh ps)
+  pub pieces-sane : Sane (afterPieces freshTake ps)
   pieces-sane = sane-from fresh-sane ps r
 
   -- also within a piece: xs is any beginning of the samples that come next
-  pub pieces-sane-within : {s : Settings} → InRange s → (xs : List ℤ) → Sane (after s (afterPieces fresh ps) xs)
+  pub pieces-sane-within : {s : Settings} → InRange s → (xs : List ℤ) → Sane (after s (afterPieces freshTake ps) xs)
   pieces-sane-within q xs = after-sane q pieces-sane xs
 
   -- never ahead, never over 1,000 samples behind
-  pub pieces-in-bounds : {s : Settings} → InRange s → (xs : List ℤ) → InBounds (length (samplesPieces ps) + length xs) (after s (afterPieces fresh ps) xs .position)
+  pub pieces-in-bounds : {s : Settings} → InRange s → (xs : List ℤ) → InBounds (length (samplesPieces ps) + length xs) (after s (afterPieces freshTake ps) xs .position)
   pieces-in-bounds {s} q xs =
-      subst (λ (n : ℕ). InBounds (n + length xs) (after s (afterPieces fresh ps) xs .position)) (pieces-count ps) (always-in-bounds q pieces-sane xs)
+      subst (λ (n : ℕ). InBounds (n + length xs) (after s (afterPieces freshTake ps) xs .position)) (pieces-count ps) (always-in-bounds q pieces-sane xs)

@@ -6,7 +6,7 @@ use native.Mathlib.Nat.{suc-add, add-suc, add-zero}
 use lib.IntN.{ℤ}
 use lib.ListN.{length, length-append}
 use Rattle.rules.specs.declared.Settings.{Settings}
-use Rattle.rules.specs.Rules.{Take, Given, heardAll, stepped, after, gives, samplesOut, joined}
+use Rattle.rules.specs.Rules.{Take, Given, heardAll, stepped, after, gives, samplesOut, gathered}
 
 -- ---- samples, and more samples after them
 module _ (s : Settings) where
@@ -52,15 +52,15 @@ unfolding samplesOut
 samplesOut-append [] hs = refl
 samplesOut-append (g ∷ gs) hs = ap (λ (xs : List ℤ). g .out ∷ xs) (samplesOut-append gs hs)
 
-pub joined-append : (part : Given → List ℕ) (gs hs : List Given) → joined part (gs ++ hs) ≡ joined part gs ++ joined part hs
-unfolding joined
-joined-append part [] hs = refl
-joined-append part (g ∷ gs) hs =
-    ap (λ (ps : List ℕ). part g ++ ps) (joined-append part gs hs) ∙ sym (append-assoc (part g) (joined part gs) (joined part hs))
+pub gathered-append : (part : Given → List ℕ) (gs hs : List Given) → gathered part (gs ++ hs) ≡ gathered part gs ++ gathered part hs
+unfolding gathered
+gathered-append part [] hs = refl
+gathered-append part (g ∷ gs) hs =
+    ap (λ (ps : List ℕ). part g ++ ps) (gathered-append part gs hs) ∙ sym (append-assoc (part g) (gathered part gs) (gathered part hs))
 
 -- how many after one sample more
-pub joined-more : (part : Given → List ℕ) (gs : List Given) (g : Given) → length (joined part (gs ++ (g ∷ []))) ≡ length (joined part gs) + length (part g)
-unfolding joined
-joined-more part gs g =
-    ap length (joined-append part gs (g ∷ [])) ∙ length-append (joined part gs) (part g ++ [])
-    ∙ ap (λ (n : ℕ). length (joined part gs) + n) (length-append (part g) [] ∙ add-zero (length (part g)))
+pub gathered-more : (part : Given → List ℕ) (gs : List Given) (g : Given) → length (gathered part (gs ++ (g ∷ []))) ≡ length (gathered part gs) + length (part g)
+unfolding gathered
+gathered-more part gs g =
+    ap length (gathered-append part gs (g ∷ [])) ∙ length-append (gathered part gs) (part g ++ [])
+    ∙ ap (λ (n : ℕ). length (gathered part gs) + n) (length-append (part g) [] ∙ add-zero (length (part g)))

@@ -11,7 +11,8 @@ use mir.Val.{SFits}
 use Rattle.whole.specs.Bounds.{square-pos, square-zero, w-sub, w-mul}
 use Rattle.whole.specs.Words.{held}
 use Rattle.whole.specs.Ring.{Expr, var, con, _⊕_, _⊖_, _⊗_, solve}
-use Rattle.whole.specs.Sums.{fold, sum, total, adds, addsℤ, fold-split, fold-below, pos-total, total-zero, total-term, total-within}
+use Rattle.whole.specs.Sums.{adds, addsℤ, fold-split, fold-below, pos-total, total-zero, total-term, total-within}
+use Rattle.whole.specs.Numbers.{fold, sum, total}
 use Rattle.rules.specs.Rules.{Sound, sq, E, H, D}
 use Rattle.rules.specs.Energies.{E-same, H-same}
 

@@ -9,7 +9,8 @@ use mir.Syntax.{w16}
 use mir.Val.{SFits}
 use Rattle.whole.specs.Bounds.{Within, square-zero, w-mul}
 use Rattle.whole.specs.Words.{held}
-use Rattle.whole.specs.Sums.{sum, total, adds, addsℤ, slide, fold-step, fold-below, sum-slide, sum-within, total-within, total-term, total-grows}
+use Rattle.whole.specs.Sums.{adds, addsℤ, slide, fold-step, fold-below, sum-slide, sum-within, total-within, total-term, total-grows}
+use Rattle.whole.specs.Numbers.{sum, total}
 use Rattle.rules.specs.Rules.{Sound, older, heard, sq, E, H}
 
 -- (4): from E before the newest sample x 0

@@ -6,7 +6,8 @@ use native.Mathlib.Omega.{arith}
 use lib.IntN.{ℤ}
 use mir.Syntax.{w16}
 use mir.Val.{SFits}
-use Rattle.whole.specs.Sums.{sum, sum-mag}
+use Rattle.whole.specs.Sums.{sum-mag}
+use Rattle.whole.specs.Numbers.{sum}
 use Rattle.whole.specs.Floor.{floor-mag}
 use Rattle.rules.specs.Rules.{Sound, heard, heardAll, eighthSample}
 

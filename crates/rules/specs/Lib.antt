@@ -1,4 +1,5 @@
 pub mod Rules
+pub mod Facts
 pub mod Ranges
 pub mod Hearing
 pub mod Energies
@@ -12,5 +13,6 @@ pub mod Position
 pub mod Blocks
 pub mod Sane
 pub mod Local
+pub mod History
 pub mod Accounts
 pub mod Worked

@@ -11,14 +11,14 @@ use lib.Dec.{leb, ltb}
 use lib.IntN.{ℤ, pos, natAbs, _+ℤ_, _-ℤ_}
 use Rattle.whole.specs.Tests.{by, and-right}
 use Rattle.whole.specs.Sums.{addsℤ, fold-below}
-use Rattle.whole.specs.Floor.{floorDiv}
+use Rattle.whole.specs.Numbers.{floorDiv}
+use Rattle.rules.specs.Facts.{InRange, InBounds}
 use Rattle.rules.specs.declared.Settings.{Settings}
 use Rattle.rules.specs.Rules.{Sound, heard, D, eighthSample, eighthDue, passes, isLow, leastFrom, lowAbove, choice, foundBy, found, best, isLost, period, tracked, Mode, searching, tracking, Pitch, listenedIn, listened, inputAt, reading, between, growth, Take, eighthsAfter, stepped, after, gives}
-use Rattle.rules.specs.Ranges.{InRange}
 use Rattle.rules.specs.Energies.{E-same}
 use Rattle.rules.specs.Distance.{D-same}
 use Rattle.rules.specs.Choosing.{low-above, best-first, place-of-same}
-use Rattle.rules.specs.Position.{InBounds, in-bounds-behind, wholeBehind, fractionBehind, whole-within, reading-behind}
+use Rattle.rules.specs.Position.{in-bounds-behind, wholeBehind, fractionBehind, whole-within, reading-behind}
 use Rattle.rules.specs.Sane.{SaneMode, Sane, stepped-sane}
 
 -- how far a step looks: so many of the newest samples, and of the newest at eighth rate
@@ -166,8 +166,8 @@ module _ (s : Settings) {t u : Take} (a : Agree t u) (new : ℤ)
         record { count = refl; pitch = p; position = λ i. growth n (p i .rate) (p i .period) (t .position) .position; sound = x; eighths = y },
         (λ i. record {
           out = (out ∙ (λ j. reading (heard new (u .sound)) n (growth n (p j .rate) (p j .period) (t .position) .position))) i;
-          repeated = growth n (p i .rate) (p i .period) (t .position) .repeated;
-          dropped = growth n (p i .rate) (p i .period) (t .position) .dropped;
+          repeats = growth n (p i .rate) (p i .period) (t .position) .repeats;
+          drops = growth n (p i .rate) (p i .period) (t .position) .drops;
         }),
       )
 

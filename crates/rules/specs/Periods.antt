@@ -11,7 +11,8 @@ use lib.Dec.{ltb, eqb}
 use lib.IntN.{ℤ, pos, negsuc, natAbs, subℕ, _+ℤ_, _-ℤ_, _*ℤ_}
 use Rattle.whole.specs.Tests.{cond-case, and-left, and-right}
 use Rattle.whole.specs.Bounds.{near, near-range, pos-minus-pos}
-use Rattle.whole.specs.Floor.{Floor, floorDiv, floor-is}
+use Rattle.whole.specs.Floor.{floor-is}
+use Rattle.whole.specs.Numbers.{Floor, floorDiv}
 use Rattle.whole.specs.Ring.{var, con, _⊕_, _⊖_, _⊗_, solve}
 use Rattle.rules.specs.Rules.{Sound, D, best, offset, period, moved}
 use Rattle.rules.specs.Choosing.{best-first}

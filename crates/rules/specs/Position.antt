@@ -15,16 +15,13 @@ use mir.Val.{SFits}
 use Rattle.whole.specs.Tests.{by, cond-case, cond-yes, cond-no, true-T}
 use Rattle.whole.specs.Bounds.{minus-down, pos-minus-pos, subℕ-lt}
 use Rattle.whole.specs.Order.{not-less, minus-less, minus-not-above, below-is}
-use Rattle.whole.specs.Floor.{floorDiv, floor-is, floor-one}
+use Rattle.whole.specs.Floor.{floor-is, floor-one}
+use Rattle.whole.specs.Numbers.{floorDiv}
 use Rattle.whole.specs.Ring.{var, con, _⊕_, _⊖_, _⊗_, solve}
-use Rattle.rules.specs.Rules.{Sound, Growth, inputAt, repeated, dropped, cycles, growth, sampleAt, between, wholeOf, fractionOf, reading}
+use Rattle.rules.specs.Rules.{Sound, Growth, inputAt, cycleRepeated, cycleDropped, cycles, growth, sampleAt, between, wholeOf, fractionOf, reading}
+use Rattle.rules.specs.Facts.{InBounds}
 
 -- ---- the bounds
-
--- not ahead of the input nor over 1,000 samples behind
-pub record InBounds (n : ℕ) (at : ℤ) : Type 0 where
-  pub notAhead : at ≤ℤ inputAt n
-  pub notFar : (inputAt n -ℤ pos (1000 * 65536)) ≤ℤ at
 
 -- the same, by how far it lies behind
 pub record Behind (n : ℕ) (at : ℤ) (b : ℕ) : Type 0 where
@@ -61,28 +58,28 @@ behind-one {n} {b} h =
 
 -- ---- what is repeated and dropped
 module _ (n p h : ℕ) {at : ℤ} where
-  pub repeated-none : at ≡ inputAt n -ℤ pos h → repeated n p at ≡ []
-  unfolding repeated inputAt
+  pub repeated-none : at ≡ inputAt n -ℤ pos h → cycleRepeated n p at ≡ []
+  unfolding cycleRepeated inputAt
   repeated-none e = rw (e, minus-not-above (n * 65536) h)
 
-  pub repeated-one : at ≡ inputAt n +ℤ pos h → 0 < h → repeated n p at ≡ p ∷ []
-  unfolding repeated inputAt
+  pub repeated-one : at ≡ inputAt n +ℤ pos h → 0 < h → cycleRepeated n p at ≡ p ∷ []
+  unfolding cycleRepeated inputAt
   repeated-one e k = rw (e, lt-ltb (n * 65536) (n * 65536 + h) (omega arith))
 
-  pub dropped-none : at ≡ inputAt n -ℤ pos h → h ≤ 65536000 → dropped n p at ≡ []
-  unfolding dropped inputAt
+  pub dropped-none : at ≡ inputAt n -ℤ pos h → h ≤ 65536000 → cycleDropped n p at ≡ []
+  unfolding cycleDropped inputAt
   dropped-none e k = rw (e, minus-less) (cond-no (p ∷ []) [] (le-ltb _ h (omega arith)))
 
-  pub dropped-one : at ≡ inputAt n -ℤ pos h → 65536000 < h → dropped n p at ≡ p ∷ []
-  unfolding dropped inputAt
+  pub dropped-one : at ≡ inputAt n -ℤ pos h → 65536000 < h → cycleDropped n p at ≡ p ∷ []
+  unfolding cycleDropped inputAt
   dropped-one e k = rw (e, minus-less) (cond-yes (p ∷ []) [] (lt-ltb _ h (omega arith)))
 
 -- ---- one sample's growth
 
 -- from what is repeated and dropped, and where the position then stands
-growth-of : (n rate p : ℕ) (at : ℤ) {again gone : List ℕ} {z : ℤ} → repeated n p (at +ℤ pos rate) ≡ again
-    → dropped n p (at +ℤ pos rate -ℤ pos (cycles again)) ≡ gone → at +ℤ pos rate -ℤ pos (cycles again) +ℤ pos (cycles gone) ≡ z
-    → growth n rate p at ≡ record { position = z; repeated = again; dropped = gone }
+growth-of : (n rate p : ℕ) (at : ℤ) {again gone : List ℕ} {z : ℤ} → cycleRepeated n p (at +ℤ pos rate) ≡ again
+    → cycleDropped n p (at +ℤ pos rate -ℤ pos (cycles again)) ≡ gone → at +ℤ pos rate -ℤ pos (cycles again) +ℤ pos (cycles gone) ≡ z
+    → growth n rate p at ≡ record { position = z; repeats = again; drops = gone }
 unfolding growth
 growth-of n rate p at a d e = rw (a, d, e)
 
@@ -112,7 +109,7 @@ module _ (n b rate p : ℕ) {at : ℤ} (is : at ≡ inputAt n -ℤ pos b) where
   grown-behind h = +ℤ-idr (at +ℤ pos rate) ∙ grown ∙ on-behind (inputAt (suc n)) (b + 65536) rate h
 
   pub growth-keeps : rate ≤ b + 65536 → b + 65536 - rate ≤ 65536000
-      → growth (suc n) rate p at ≡ record { position = inputAt (suc n) -ℤ pos (b + 65536 - rate); repeated = []; dropped = [] }
+      → growth (suc n) rate p at ≡ record { position = inputAt (suc n) -ℤ pos (b + 65536 - rate); repeats = []; drops = [] }
   unfolding cycles
   growth-keeps h k =
       let e = grown-behind h in
@@ -122,7 +119,7 @@ module _ (n b rate p : ℕ) {at : ℤ} (is : at ≡ inputAt n -ℤ pos b) where
       (+ℤ-idr (at +ℤ pos rate -ℤ pos 0) ∙ e)
 
   pub growth-drops : 65536000 < b + 65536 - rate → p ≤ 225280
-      → growth (suc n) rate p at ≡ record { position = inputAt (suc n) -ℤ pos (b + 65536 - rate - 256 * p); repeated = []; dropped = p ∷ [] }
+      → growth (suc n) rate p at ≡ record { position = inputAt (suc n) -ℤ pos (b + 65536 - rate - 256 * p); repeats = []; drops = p ∷ [] }
   unfolding cycles
   growth-drops k l =
       let e = grown-behind (omega arith) in
@@ -133,7 +130,7 @@ module _ (n b rate p : ℕ) {at : ℤ} (is : at ≡ inputAt n -ℤ pos b) where
       (rw (e, c) (on-behind (inputAt (suc n)) (b + 65536 - rate) (256 * p) (omega arith)))
 
   pub growth-repeats : b + 65536 < rate → rate ≤ 131072 → 4096 ≤ p → p ≤ 225280
-      → growth (suc n) rate p at ≡ record { position = inputAt (suc n) -ℤ pos (b + 65536 + 256 * p - rate); repeated = p ∷ []; dropped = [] }
+      → growth (suc n) rate p at ≡ record { position = inputAt (suc n) -ℤ pos (b + 65536 + 256 * p - rate); repeats = p ∷ []; drops = [] }
   unfolding cycles
   growth-repeats h k l m =
       let a = grown ∙ on-ahead (inputAt (suc n)) (b + 65536) rate (omega arith) in
@@ -154,7 +151,7 @@ pub data Paced (rate p : ℕ) : Type 0 where
 record Kept (n : ℕ) (g : Growth) : Type 0 where
   behind : ℕ
   still : Behind n (g .position) behind
-  one : length (g .repeated) + length (g .dropped) ≤ 1
+  one : length (g .repeats) + length (g .drops) ≤ 1
 
 growth-kept : {n b : ℕ} {at : ℤ} (rate p : ℕ) → Behind n at b → Paced rate p → Kept (suc n) (growth (suc n) rate p at)
 growth-kept {n} {b} rate p h (withPeriod r s lo hi) =
@@ -179,7 +176,7 @@ module _ {n : ℕ} {at : ℤ} (rate p : ℕ) (h : InBounds n at) (paced : Paced 
   pub growth-in-bounds : InBounds (suc n) (growth (suc n) rate p at .position)
   growth-in-bounds = behind-in-bounds (growth-kept rate p (in-bounds-behind h) paced .still)
 
-  pub at-most-one : length (growth (suc n) rate p at .repeated) + length (growth (suc n) rate p at .dropped) ≤ 1
+  pub at-most-one : length (growth (suc n) rate p at .repeats) + length (growth (suc n) rate p at .drops) ≤ 1
   at-most-one = growth-kept rate p (in-bounds-behind h) paced .one
 
 -- ---- the output

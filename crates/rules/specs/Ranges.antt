@@ -1,20 +1,11 @@
 -- Settings in their ranges, fact by fact, and the test that decides it.
 use mathlib.Core.Path.{_≡_, refl}
 use mathlib.Core.Bool.{true}
-use Prim.Native.Nat.{_≤_}
 use borrow.Author.Tests.{leb-true, le-leb}
 use Rattle.whole.specs.Tests.{each-of}
 use Rattle.rules.specs.declared.Settings.{Settings}
 use Rattle.rules.specs.Rules.{rangeTests, inRange, defaults}
-
--- each setting in its range
-pub record InRange (s : Settings) : Type 0 where
-  pub scaleFrom : 1 ≤ s .scale
-  pub scaleTo : s .scale ≤ 4095
-  pub eps : s .eps ≤ 409
-  pub decay : s .decay ≤ 255
-  pub floorFrom : 1 ≤ s .floor
-  pub floorTo : s .floor ≤ 1000000
+use Rattle.rules.specs.Facts.{InRange}
 
 module _ (s : Settings) where
   pub in-range : inRange s ≡ true → InRange s

@@ -3,15 +3,13 @@
 use mathlib.Core.Bool.{Bool, true, false, not, cond, _&&_}
 use mathlib.Core.List.{List, [], _∷_, _++_}
 use mathlib.Core.Option.{Option, none, some}
-use Prim.Native.Nat.{ℕ, zero, suc, _+_, _-_, _*_, _/_, _%_, _^_}
+use Prim.Native.Nat.{ℕ, zero, suc, _+_, _-_, _*_, _/_, _%_, _^_, min, max}
 use lib.Dec.{leb, ltb, eqb}
 use lib.IntN.{ℤ, pos, natAbs, _+ℤ_, _-ℤ_, _*ℤ_}
 use lib.ListN.{getD}
 use lib.Signed.{ltZ}
 use Rattle.rules.specs.declared.Settings.{Settings}
-use Rattle.whole.specs.Tests.{allb}
-use Rattle.whole.specs.Sums.{sum, total}
-use Rattle.whole.specs.Floor.{floorDiv, nearestDiv}
+use Rattle.whole.specs.Numbers.{allb, sum, total, floorDiv, nearestDiv}
 
 -- ---- Settings: scale, eps, decay and floor, as src/lib.rt declares them
 
@@ -132,9 +130,9 @@ leastPlace d (suc n) = let before = leastPlace d n in cond (ltb (d (suc n)) (d b
 unfoldable pub best : Sound → ℕ → ℕ
 best x low = leastPlace (λ (j : ℕ). D x (low + j)) 7
 
--- how far two numbers lie apart
+-- how far two numbers lie apart: the greater less the smaller
 abbrev pub away : ℕ → ℕ → ℕ
-away a b = (a - b) + (b - a)
+away a b = max a b - min a b
 
 -- 2. lost: best doesn't pass, or differs by more than 3 from the last best
 unfoldable pub isLost : Settings → Sound → ℕ → ℕ → Bool
@@ -225,13 +223,13 @@ pub record Pitch : Type 0 where
   pub rate : ℕ
 
 -- no period, and the rate 65536: fresh, locking, and lost
-unfoldable pub unpitched : Mode → Pitch
-unpitched m = record { mode = m; period = 0; note = 0; rate = freshRate }
+unfoldable pub noPeriod : Mode → Pitch
+noPeriod m = record { mode = m; period = 0; note = 0; rate = freshRate }
 
 -- what a search leaves: no finding, what there was; a lag found, the eight lags from the found lag minus 3
 unfoldable pub searched : Pitch → Option ℕ → Pitch
 searched t none = t
-searched t (some lag) = unpitched (tracking (lag - 3) lag)
+searched t (some lag) = noPeriod (tracking (lag - 3) lag)
 
 -- the wanted note's number, and the raw rate of a period by it; without one (no scale in its range has none) 0 and 65536
 unfoldable pub noteOf : Option ℕ → ℕ
@@ -252,7 +250,7 @@ tuned s rate m p =
 unfoldable pub tracked : Settings → Sound → ℕ → ℕ → ℕ → Pitch
 tracked s x rate low last =
     let at = best x low in
-    cond (isLost s x (low + at) last) (unpitched searching) (tuned s rate (tracking (moved low at) (low + at)) (period x low at))
+    cond (isLost s x (low + at) last) (noPeriod searching) (tuned s rate (tracking (moved low at) (low + at)) (period x low at))
 
 -- a tracking step comes when the take's sample count is a multiple of 5
 unfoldable pub stepDue : ℕ → Bool
@@ -273,12 +271,12 @@ unfoldable pub inputAt : ℕ → ℤ
 inputAt n = pos (n * 65536)
 
 -- the periods of the cycle repeated after sample n: one where the position is greater than n x 65536
-unfoldable pub repeated : ℕ → ℕ → ℤ → List ℕ
-repeated n p at = cond (ltZ (inputAt n) at) (p ∷ []) []
+unfoldable pub cycleRepeated : ℕ → ℕ → ℤ → List ℕ
+cycleRepeated n p at = cond (ltZ (inputAt n) at) (p ∷ []) []
 
 -- the periods of the cycle dropped: one where it is more than 1,000 samples behind
-unfoldable pub dropped : ℕ → ℕ → ℤ → List ℕ
-dropped n p at = cond (ltZ at (inputAt n -ℤ pos (1000 * 65536))) (p ∷ []) []
+unfoldable pub cycleDropped : ℕ → ℕ → ℤ → List ℕ
+cycleDropped n p at = cond (ltZ at (inputAt n -ℤ pos (1000 * 65536))) (p ∷ []) []
 
 -- what cycles come to: a period counts 256 position units for each 1/256 sample
 unfoldable pub cycles : List ℕ → ℕ
@@ -288,17 +286,17 @@ cycles (p ∷ ps) = 256 * p + cycles ps
 -- the position after sample n, and the periods of the cycles repeated and dropped there
 pub record Growth : Type 0 where
   pub position : ℤ
-  pub repeated : List ℕ
-  pub dropped : List ℕ
+  pub repeats : List ℕ
+  pub drops : List ℕ
 
 -- the position grows by the rate; if it is now ahead, one period is taken off; if it is too far behind, one period is put on
 unfoldable pub growth : ℕ → ℕ → ℕ → ℤ → Growth
 growth n rate p at =
     let grown = at +ℤ pos rate in
-    let again = repeated n p grown in
+    let again = cycleRepeated n p grown in
     let held = grown -ℤ pos (cycles again) in
-    let gone = dropped n p held in
-    record { position = held +ℤ pos (cycles gone); repeated = again; dropped = gone }
+    let gone = cycleDropped n p held in
+    record { position = held +ℤ pos (cycles gone); repeats = again; drops = gone }
 
 -- the sample number i, from 0, of a sound of n samples; below 0 it reads as 0
 unfoldable pub sampleAt : Sound → ℕ → ℤ → ℤ
@@ -332,14 +330,14 @@ pub record Take : Type 0 where
   pub position : ℤ
 
 -- a fresh take
-unfoldable pub fresh : Take
-fresh = record { count = 0; sound = silence; eighths = silence; pitch = unpitched searching; position = pos 0 }
+unfoldable pub freshTake : Take
+freshTake = record { count = 0; sound = silence; eighths = silence; pitch = noPeriod searching; position = pos 0 }
 
 -- what one sample gives: the sample out, and the periods of the cycles repeated and dropped
 pub record Given : Type 0 where
   pub out : ℤ
-  pub repeated : List ℕ
-  pub dropped : List ℕ
+  pub repeats : List ℕ
+  pub drops : List ℕ
 
 -- what one sample leaves and gives
 pub record Step : Type 0 where
@@ -361,7 +359,7 @@ stepped s t new =
     let g = growth n (pitch .rate) (pitch .period) (t .position) in
     record {
       next = record { count = n; sound = x; eighths = y; pitch = pitch; position = g .position };
-      given = record { out = reading x n (g .position); repeated = g .repeated; dropped = g .dropped };
+      given = record { out = reading x n (g .position); repeats = g .repeats; drops = g .drops };
     }
 
 -- ---- A block: the fold of the step over its samples
@@ -381,13 +379,13 @@ unfoldable pub samplesOut : List Given → List ℤ
 samplesOut [] = []
 samplesOut (g ∷ gs) = g .out ∷ samplesOut gs
 
--- the periods of all cycles repeated, and of all dropped
-unfoldable pub joined : (Given → List ℕ) → List Given → List ℕ
-joined part [] = []
-joined part (g ∷ gs) = part g ++ joined part gs
+-- the periods that the samples' lists have, one after the other: of all cycles repeated, and of all dropped
+unfoldable pub gathered : (Given → List ℕ) → List Given → List ℕ
+gathered part [] = []
+gathered part (g ∷ gs) = part g ++ gathered part gs
 
 abbrev pub allRepeated : List Given → List ℕ
-allRepeated gs = joined (λ (g : Given). g .repeated) gs
+allRepeated gs = gathered (λ (g : Given). g .repeats) gs
 
 abbrev pub allDropped : List Given → List ℕ
-allDropped gs = joined (λ (g : Given). g .dropped) gs
+allDropped gs = gathered (λ (g : Given). g .drops) gs

@@ -9,12 +9,12 @@ use lib.IntN.{ℤ}
 use lib.ListN.{length}
 use Rattle.whole.specs.Tests.{cond-case}
 use Rattle.rules.specs.declared.Settings.{Settings}
-use Rattle.rules.specs.Rules.{Sound, Mode, searching, tracking, Pitch, Take, unpitched, found, searched, best, period, moved, isLost, noteOf, tuned, tracked, eighthDue, stepDue, listenedIn, listened, inputAt, fresh, stepped, after}
-use Rattle.rules.specs.Ranges.{InRange}
+use Rattle.rules.specs.Rules.{Sound, Mode, searching, tracking, Pitch, Take, noPeriod, found, searched, best, period, moved, isLost, noteOf, tuned, tracked, eighthDue, stepDue, listenedIn, listened, inputAt, freshTake, stepped, after}
+use Rattle.rules.specs.Facts.{InRange, InBounds}
 use Rattle.rules.specs.Choosing.{best-first, found-range}
 use Rattle.rules.specs.Periods.{period-range, moved-range, moved-best}
 use Rattle.rules.specs.Notes.{wanted-some, tuned-rate-range}
-use Rattle.rules.specs.Position.{Paced, withPeriod, withoutPeriod, InBounds, behind-in-bounds, growth-in-bounds, at-most-one}
+use Rattle.rules.specs.Position.{Paced, withPeriod, withoutPeriod, behind-in-bounds, growth-in-bounds, at-most-one}
 use Rattle.rules.specs.Blocks.{after-count}
 
 -- the eight lags are in their range, and the last best is among them
@@ -27,7 +27,7 @@ pub record SanePitch (p : Pitch) : Type 0 where
   pub paced : Paced (p .rate) (p .period)
   pub noted : 0 < p .period → (32 ≤ p .note) × (p .note ≤ 100)
   pub lags : SaneMode (p .mode)
-  pub unpitched : p .mode ≡ searching → p .period ≡ 0
+  pub whileSearching : p .mode ≡ searching → p .period ≡ 0
 
 -- a take with its pitch in its ranges, and its position not ahead of the input nor over 1,000 samples behind
 pub record Sane (t : Take) : Type 0 where
@@ -36,15 +36,15 @@ pub record Sane (t : Take) : Type 0 where
 
 -- ---- what searching and tracking leave
 
-unpitched-is-sane : (m : Mode) → SaneMode m → SanePitch (unpitched m)
-unfolding unpitched
-unpitched-is-sane m h = record { paced = withoutPeriod refl refl; noted = λ l. absurd (omega arith); lags = h; unpitched = λ e. refl }
+without-period-is-sane : (m : Mode) → SaneMode m → SanePitch (noPeriod m)
+unfolding noPeriod
+without-period-is-sane m h = record { paced = withoutPeriod refl refl; noted = λ l. absurd (omega arith); lags = h; whileSearching = λ e. refl }
 
 module _ (s : Settings) (x y : Sound) where
   searched-is-sane : {p : Pitch} → SanePitch p → (o : Option ℕ) → found s x y ≡ o → SanePitch (searched p o)
   unfolding searched
   searched-is-sane h none e = h
-  searched-is-sane h (some lag) e = let r = found-range s x y lag e in unpitched-is-sane (tracking (lag - 3) lag) (omega arith)
+  searched-is-sane h (some lag) e = let r = found-range s x y lag e in without-period-is-sane (tracking (lag - 3) lag) (omega arith)
 
 -- no rate that paces a position is under a half or over two
 paced-rate : {rate p : ℕ} → Paced rate p → (32768 ≤ rate) × (rate ≤ 131072)
@@ -64,7 +64,7 @@ module _ {s : Settings} (r : InRange s) where
         paced = withPeriod (k .0) (k .1) (b .0) (b .1);
         noted = λ l. rw (w .0) (omega (arith, w .1 .inTable));
         lags = h;
-        unpitched = λ e. absurd (tracking-is-not-searching e);
+        whileSearching = λ e. absurd (tracking-is-not-searching e);
       }
 
   tracked-is-sane : (x : Sound) {rate low last : ℕ} → (32768 ≤ rate) × (rate ≤ 131072) → SaneMode (tracking low last) → SanePitch (tracked s x rate low last)
@@ -73,8 +73,8 @@ module _ {s : Settings} (r : InRange s) where
       let at = best x low in
       let m = moved-range low at (h .0) (h .1) in
       let b = moved-best low at (best-first x low .inside) in
-      cond-case (isLost s x (low + at) last) (unpitched searching) (tuned s rate (tracking (moved low at) (low + at)) (period x low at)) SanePitch
-      (λ e. unpitched-is-sane searching tt)
+      cond-case (isLost s x (low + at) last) (noPeriod searching) (tuned s rate (tracking (moved low at) (low + at)) (period x low at)) SanePitch
+      (λ e. without-period-is-sane searching tt)
       (λ e. tuned-is-sane (period x low at) a (period-range x low (h .0) (h .1)) (m .0, m .1, b .0, b .1))
 
   listened-in-is-sane : (m : Mode) (n : ℕ) (x y : Sound) {p : Pitch} → SaneMode m → SanePitch p → SanePitch (listenedIn m s n x y p)
@@ -89,9 +89,9 @@ module _ {s : Settings} (r : InRange s) where
   listened-is-sane n x y {p} h = listened-in-is-sane (p .mode) n x y (h .lags) h
 
 -- ---- a fresh take, one sample, and any number of them
-pub fresh-sane : Sane fresh
-unfolding fresh inputAt
-fresh-sane = record { pitch = unpitched-is-sane searching tt; bounds = behind-in-bounds {b = 0} (record { is = refl; near = omega arith }) }
+pub fresh-sane : Sane freshTake
+unfolding freshTake inputAt
+fresh-sane = record { pitch = without-period-is-sane searching tt; bounds = behind-in-bounds {b = 0} (record { is = refl; near = omega arith }) }
 
 module _ {s : Settings} (r : InRange s) where
   pub stepped-sane : {t : Take} → Sane t → (x : ℤ) → Sane (stepped s t x .next)
@@ -101,7 +101,7 @@ module _ {s : Settings} (r : InRange s) where
       record { pitch = p; bounds = growth-in-bounds _ _ (h .bounds) (p .paced) }
 
   -- after no sample are there two cycles repeated, two dropped, or one of each
-  pub at-most-one-cycle : {t : Take} → Sane t → (x : ℤ) → length (stepped s t x .given .repeated) + length (stepped s t x .given .dropped) ≤ 1
+  pub at-most-one-cycle : {t : Take} → Sane t → (x : ℤ) → length (stepped s t x .given .repeats) + length (stepped s t x .given .drops) ≤ 1
   unfolding stepped
   at-most-one-cycle h x = at-most-one _ _ (h .bounds) (listened-is-sane r _ _ _ (h .pitch) .paced)
 

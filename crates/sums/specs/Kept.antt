@@ -1,14 +1,15 @@
 -- Energies and correlations that are kept: that they are the direct sums.
 use mathlib.Core.Path.{_≡_}
 use mathlib.Core.List.{List}
-use Prim.Native.Nat.{ℕ, _+_, _*_, _≤_, _<_}
+use Prim.Native.Nat.{ℕ, _+_, _*_, _≤_}
 use lib.IntN.{ℤ}
-use lib.ListN.{length, getD}
+use lib.ListN.{length}
 use mir.Syntax.{w16}
 use mir.Val.{SFits}
-use Rattle.whole.specs.Sums.{total}
+use Rattle.whole.specs.Numbers.{total}
+use Rattle.rules.specs.Facts.{Right}
 use Rattle.rules.specs.Rules.{Sound, sq, E, H}
-use Rattle.ages.specs.Ages.{at, Samples}
+use Rattle.ages.specs.Ages.{Samples}
 
 -- the sum of squares of the newest n samples: E at a lag is that of twice as many
 abbrev pub squares : Sound → ℕ → ℕ
@@ -19,15 +20,8 @@ pub record RightAt (x : Sound) (lag e : ℕ) (h : ℤ) : Type 0 where
   pub energy : e ≡ E x lag
   pub correlation : h ≡ H x lag
 
--- the energies e and correlations h kept at the n lags from low on are the direct sums over the sound x
-pub record Right (x : Sound) (low n : ℕ) (e : List ℕ) (h : List ℤ) : Type 0 where
-  pub energies : length e ≡ n
-  pub correlations : length h ≡ n
-  pub energy : (j : ℕ) → j < n → getD e j 0 ≡ E x (low + j)
-  pub correlation : (j : ℕ) → j < n → at h j ≡ H x (low + j)
-
 -- the first m samples of a store are enough for the n lags from low on, and for one lag more
-pub record Room (s : List ℤ) (m low n : ℕ) : Type 0 where
+pub record Enough (s : List ℤ) (m low n : ℕ) : Type 0 where
   pub samples : Samples s
   pub long : m ≤ length s
   pub from : 1 ≤ low

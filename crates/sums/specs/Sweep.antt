@@ -13,11 +13,11 @@ use mir.Val.{SFits, toZ, ofZ}
 use Rattle.whole.specs.Words.{Bits, num}
 use Rattle.rules.specs.Rules.{Sound, E, H}
 use Rattle.rules.specs.Energies.{E-within, H-within}
-use Rattle.ages.specs.Ages.{at}
-use Rattle.sums.specs.Kept.{RightAt, Right, Room}
+use Rattle.rules.specs.Facts.{valueAt, Right}
+use Rattle.sums.specs.Kept.{RightAt, Enough}
 
 -- room for all lags is room for each
-pub room-at : {s : List ℤ} {m low n : ℕ} → Room s m low n → (i : ℕ) → i < n → Room s m (low + i) 1
+pub room-at : {s : List ℤ} {m low n : ℕ} → Enough s m low n → (i : ℕ) → i < n → Enough s m (low + i) 1
 room-at r i h =
     record {
       samples = r .samples;
@@ -29,7 +29,7 @@ room-at r i h =
 
 -- the sums at the lag of place j are right
 abbrev pub RightIn : Sound → ℕ → List ℕ → List ℤ → ℕ → Type 0
-RightIn x low e h j = RightAt x (low + j) (getD e j 0) (at h j)
+RightIn x low e h j = RightAt x (low + j) (getD e j 0) (valueAt h j)
 
 pub right-each : {x : Sound} {low n : ℕ} {e : List ℕ} {h : List ℤ} → Right x low n e h → (j : ℕ) → j < n → RightIn x low e h j
 right-each r j l = record { energy = r .energy j l; correlation = r .correlation j l }
@@ -43,7 +43,7 @@ pub record Sweep (x : Sound) (low : ℕ) (e₀ : List ℕ) (h₀ : List ℤ) (i 
   pub correlations : length h ≡ length h₀
   pub done : (j : ℕ) → j < i → RightIn x low e h j
   pub left-e : (j : ℕ) → i ≤ j → getD e j 0 ≡ getD e₀ j 0
-  pub left-h : (j : ℕ) → i ≤ j → at h j ≡ at h₀ j
+  pub left-h : (j : ℕ) → i ≤ j → valueAt h j ≡ valueAt h₀ j
 
 pub sweep-start : (x : Sound) (low : ℕ) (e : List ℕ) (h : List ℤ) → Sweep x low e h 0 e h
 sweep-start x low e h =

@@ -9,7 +9,8 @@ ghost use Rattle.rules.specs.Rules.{older, sq, E};
 ghost use Rattle.rules.specs.Rules as rules;
 ghost use Rattle.ages.specs.Ages.{ago};
 ghost use Rattle.sums.specs.Direct.{highOf, lowOf};
-ghost use Rattle.sums.specs.Kept.{squares, RightAt, Right, Room};
+ghost use Rattle.sums.specs.Kept.{squares, RightAt, Enough};
+ghost use Rattle.rules.specs.Facts.{Right};
 
 pub struct Sums {
     pub e: u64,
@@ -61,7 +62,7 @@ fn turned(h: i64, x: i16, y: i16, z: i16) -> i64
 
 // E and H at one lag after the newest sample x, from those before it.
 fn next(s: &[i16], m: usize, lag: usize, x: i16, t: Sums) -> Sums
-    requires { ⌜ Room (now s) m lag 1 × (x ≡ ago (now s) m 0) × RightAt (older (ago (now s) m)) lag (t .e) (t .h) ⌝ }
+    requires { ⌜ Enough (now s) m lag 1 × (x ≡ ago (now s) m 0) × RightAt (older (ago (now s) m)) lag (t .e) (t .h) ⌝ }
     ensures { λ r. ⌜ RightAt (ago (now (s .entry)) m) lag (r .e) (r .h) ⌝ }
 {
     let y = ages::back(s, m, lag);
@@ -73,7 +74,7 @@ fn next(s: &[i16], m: usize, lag: usize, x: i16, t: Sums) -> Sums
 
 // All of them, at the lags from low on.
 pub fn next_all(e: &mut [u64], h: &mut [i64], low: usize, s: &[i16], m: usize)
-    requires { ⌜ Room (now s) m low (length (now e)) × Right (older (ago (now s) m)) low (length (now e)) (now e) (now h) ⌝ }
+    requires { ⌜ Enough (now s) m low (length (now e)) × Right (older (ago (now s) m)) low (length (now e)) (now e) (now h) ⌝ }
     ensures { λ r. ⌜ Right (ago (now (s .entry)) m) low (length (now (e .entry))) (now (e .exit)) (now (h .exit)) ⌝ }
 {
     let x = ages::back(s, m, 0);
@@ -129,7 +130,7 @@ fn correlation(s: &[i16], m: usize, lag: usize) -> i64
 
 // E and H at one lag from the samples themselves.
 pub fn direct(s: &[i16], m: usize, lag: usize) -> Sums
-    requires { ⌜ Room (now s) m lag 1 ⌝ }
+    requires { ⌜ Enough (now s) m lag 1 ⌝ }
     ensures { λ r. ⌜ RightAt (ago (now (s .entry)) m) lag (r .e) (r .h) ⌝ }
 {
     let e = energy(s, m, 2 * lag);
@@ -139,7 +140,7 @@ pub fn direct(s: &[i16], m: usize, lag: usize) -> Sums
 
 // E at the next lag: two squares more.
 fn one_lag_more(s: &[i16], m: usize, lag: usize, e: u64) -> u64
-    requires { ⌜ Room (now s) m lag 1 × (e ≡ E (ago (now s) m) lag) ⌝ }
+    requires { ⌜ Enough (now s) m lag 1 × (e ≡ E (ago (now s) m) lag) ⌝ }
     ensures { λ r. ⌜ r ≡ E (ago (now (s .entry)) m) (lag + 1) ⌝ }
 {
     let y = ages::back(s, m, 2 * lag);
@@ -149,7 +150,7 @@ fn one_lag_more(s: &[i16], m: usize, lag: usize, e: u64) -> u64
 
 // All of them from the samples themselves, at the lags from low on.
 pub fn direct_all(e: &mut [u64], h: &mut [i64], low: usize, s: &[i16], m: usize)
-    requires { ⌜ Room (now s) m low (length (now e)) × (length (now h) ≡ length (now e)) ⌝ }
+    requires { ⌜ Enough (now s) m low (length (now e)) × (length (now h) ≡ length (now e)) ⌝ }
     ensures { λ r. ⌜ Right (ago (now (s .entry)) m) low (length (now (e .entry))) (now (e .exit)) (now (h .exit)) ⌝ }
 {
     let n = e.len();
@@ -165,7 +166,7 @@ pub fn direct_all(e: &mut [u64], h: &mut [i64], low: usize, s: &[i16], m: usize)
 
 // Each kept E and H, at the lags from low on, is the direct sum.
 pub fn all_right(e: &[u64], h: &[i64], low: usize, s: &[i16], m: usize) -> bool
-    requires { ⌜ Room (now s) m low (length (now e)) × (length (now h) ≡ length (now e)) ⌝ }
+    requires { ⌜ Enough (now s) m low (length (now e)) × (length (now h) ≡ length (now e)) ⌝ }
     ensures { λ r. ⌜ Decides r (Right (ago (now (s .entry)) m) low (length (now (e .entry))) (now (e .entry)) (now (h .entry))) ⌝ }
 {
     let n = e.len();

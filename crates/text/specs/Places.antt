@@ -3,17 +3,14 @@ use mathlib.Core.Path.{_≡_, refl, sym, ap, _∙_, subst}
 use mathlib.Core.Bool.{Bool, cond}
 use mathlib.Core.List.{List, [], _∷_, _++_, append-assoc, append-nil}
 use mathlib.Core.Option.{Option, none, some}
-use Prim.Native.Nat.{ℕ, zero, suc, _+_, _-_, _≤_, _<_}
+use Prim.Native.Nat.{ℕ, suc, _+_, _-_, _≤_, _<_}
 use native.Mathlib.Nat.{add-zero}
 use native.Mathlib.Numerals.{add-one}
 use native.Mathlib.Decide.{ℕ-discrete}
 use native.Mathlib.Omega.{arith}
-use borrow.Author.Tests.{eqb-true, eqb-false, eq-eqb, ne-eqb, lt-ltb, le-ltb}
-use lib.Dec.{eqb, ltb}
 use lib.ListN.{length, getD, take, drop, set, length-append, length-drop, take-append-drop}
-use lib.Seq.{take-at, drop-append-add, drop-drop, length-take-le, set-split, getD-drop, append-snoc, take-suc, set-at}
-use Rattle.whole.specs.Tests.{cond-yes, cond-no}
-use Rattle.text.specs.Text.{onto, fields}
+use lib.Seq.{take-at, drop-append-add, drop-drop, length-take-le, set-split, append-snoc, take-suc, set-at}
+use Rattle.text.specs.Text.{put, Put}
 
 -- a value, where ok
 abbrev pub optional : {A : Type 0} → Bool → A → Option A
@@ -27,15 +24,6 @@ pub record First (a : List ℕ) (from b r : ℕ) : Type 0 where
   pub stands : r < length a → getD a r 0 ≡ b
 
 -- ---- text put at a place
-
--- the text t over what stands from a place on
-abbrev pub put : List ℕ → ℕ → List ℕ → List ℕ
-put s at t = take at s ++ t ++ drop (at + length t) s
-
--- the text t was put at a place, and r is the place after it
-pub record Put (s : List ℕ) (at : ℕ) (t s′ : List ℕ) (r : ℕ) : Type 0 where
-  pub text : s′ ≡ put s at t
-  pub next : r ≡ at + length t
 
 module _ (s t : List ℕ) (at : ℕ) (h : at + length t ≤ length s) where
   head-length : length (take at s ++ t) ≡ at + length t

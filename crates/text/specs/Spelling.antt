@@ -12,8 +12,8 @@ use lib.IntN.{ℤ, pos, negsuc}
 use lib.ListN.{length, getD, take, drop, set, length-append}
 use lib.Seq.{append-snoc, take-suc, length-take-le}
 use Rattle.whole.specs.Tests.{cond-case}
-use Rattle.text.specs.Text.{digits, places, decimal, signed, sampleFields}
-use Rattle.text.specs.Places.{put, Put, put-none, put-before, put-then}
+use Rattle.text.specs.Text.{digits, places, decimal, signed, sampleFields, put, Put}
+use Rattle.text.specs.Places.{put-none, put-before, put-then}
 
 pub digits-length : (k n : ℕ) → length (digits k n) ≡ k
 unfolding digits

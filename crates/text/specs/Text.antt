@@ -1,10 +1,12 @@
--- Lines as text, in document 01's words: fields parted by one tab, decimal numbers as they are read and as they are printed. Definitions only.
+-- Lines as text, in document 01's words: fields parted by one tab, decimal numbers as they are read and as they are printed, text put at a place. Definitions only.
+use mathlib.Core.Path.{_≡_}
 use mathlib.Core.Bool.{Bool, cond, _&&_}
 use mathlib.Core.List.{List, [], _∷_, _++_}
 use mathlib.Core.Option.{Option, none, some, Option·map, bind}
 use Prim.Native.Nat.{ℕ, zero, suc, _+_, _-_, _*_, _/_, _%_}
 use lib.Dec.{leb, ltb, eqb}
 use lib.IntN.{ℤ, pos, negsuc, negℤ}
+use lib.ListN.{length, take, drop}
 
 -- ---- fields
 
@@ -66,3 +68,14 @@ signed (negsuc n) = 45 ∷ decimal (suc n)
 unfoldable pub sampleFields : List ℤ → List ℕ
 sampleFields [] = []
 sampleFields (x ∷ xs) = (9 ∷ signed x) ++ sampleFields xs
+
+-- ---- text put at a place
+
+-- the text t over what stands from a place on
+abbrev pub put : List ℕ → ℕ → List ℕ → List ℕ
+put s at t = take at s ++ t ++ drop (at + length t) s
+
+-- the text t was put at a place, and r is the place after it
+pub record Put (s : List ℕ) (at : ℕ) (t s′ : List ℕ) (r : ℕ) : Type 0 where
+  pub text : s′ ≡ put s at t
+  pub next : r ≡ at + length t

@@ -6,8 +6,8 @@ ghost use lib.IntN.{pos, negℤ, natAbs};
 ghost use Prim.Native.Nat.{_+_, _*_, _%_, _≤_, _<_};
 ghost use lib.ListN.{length, take};
 ghost use Rattle.whole.specs.Tests.{Decides};
-ghost use Rattle.text.specs.Text.{oneMore, number, sample, places, digits, decimal, signed, sampleFields};
-ghost use Rattle.text.specs.Places.{First, optional, put, Put};
+ghost use Rattle.text.specs.Text.{oneMore, number, sample, places, digits, decimal, signed, sampleFields, put, Put};
+ghost use Rattle.text.specs.Places.{First, optional};
 
 // A number, where ok.
 pub struct Number {

@@ -12,7 +12,8 @@ use Rattle.rules.specs.Rules as rules
 use Rattle.rules.specs.Choosing.{First, first-of-same, is-place}
 use Rattle.rules.specs.Periods.{period-range}
 use Rattle.ages.specs.Ages.{ago, ago-fits}
-use Rattle.sums.specs.Kept.{Right, Room, Kept}
+use Rattle.sums.specs.Kept.{Enough, Kept}
+use Rattle.rules.specs.Facts.{Right}
 use Rattle.finding.specs.Finding.{Long, Distances}
 use Rattle.tracking.specs.declared.Tracker.{Tracker}
 use Rattle.tracking.specs.declared.Tracked.{Tracked}
@@ -48,7 +49,7 @@ pub record Stepped (g : Settings) (x : Sound) (t : Tracker) (r : Tracked) : Type
   pub sums : r .kept ≡ true → Right x (r .tracker .low) 8 (r .tracker .e) (r .tracker .h)
 
 -- room for eight lags
-pub room : {s : List ℤ} {m low : ℕ} → 16 ≤ low → low ≤ 873 → Long s m → Room s m low 8
+pub room : {s : List ℤ} {m low : ℕ} → 16 ≤ low → low ≤ 873 → Long s m → Enough s m low 8
 room lo hi l = record { samples = l .samples; long = l .long; from = omega arith; upto = omega arith; reach = omega (arith, l .enough) }
 
 -- the eight sums of a store are those of a sound of 16-bit samples

@@ -3,11 +3,11 @@ use rules::Settings;
 ghost use mathlib.Core.Path.{_≡_};
 ghost use Prim.Native.Nat.{_+_, _-_, _*_, _^_, _≤_, _<_};
 ghost use lib.IntN.{natAbs};
-ghost use Rattle.whole.specs.Floor.{floorDiv};
+ghost use Rattle.whole.specs.Numbers.{floorDiv};
+ghost use Rattle.rules.specs.Facts.{Right};
 ghost use Rattle.rules.specs.Rules.{Sound, older, E, D, isLost, offset, moved};
 ghost use Rattle.rules.specs.Choosing.{First};
 ghost use Rattle.ages.specs.Ages.{ago};
-ghost use Rattle.sums.specs.Kept.{Right};
 ghost use Rattle.finding.specs.Finding.{Modest, Long, Distances, Small};
 ghost use Rattle.tracking.specs.Tracking.{place, PeriodAt, Tracks, Stepped};
 

@@ -12,12 +12,13 @@ use denote.Array.{each}
 use denote.Laws.{Is}
 use denote.Shadow.{shadow}
 use denote.Signed.{SInt}
-use Rattle.ages.specs.Ages.{at, Samples}
+use Rattle.ages.specs.Ages.{Samples}
+use Rattle.rules.specs.Facts.{valueAt}
 use Rattle.tuner.specs.declared.Tuner.{Tuner}
 use Rattle.tuner.specs.Goods.{Stores}
 use Rattle.tuner.proofs.Tuner.{the-row}
 
-each-fits : (xs : List ℤ) (us : List Val) (i : ℕ) → shadow (each ℤ (SInt w16 .own) xs us) → SFits w16 (at xs i)
+each-fits : (xs : List ℤ) (us : List Val) (i : ℕ) → shadow (each ℤ (SInt w16 .own) xs us) → SFits w16 (valueAt xs i)
 each-fits [] us i p = record { sfits = lit< tt }
 each-fits (x ∷ xs) [] i p = absurd p
 each-fits (x ∷ xs) (u ∷ us) zero p = record { sfits = p .0 .1 }

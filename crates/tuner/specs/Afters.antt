@@ -13,13 +13,13 @@ use Rattle.rules.specs.declared.Settings.{Settings}
 use Rattle.rules.specs.Rules.{Sound, silence, heardAll, Mode, searching, tracking, Pitch, Take, Given, inputAt, after, gives, samplesOut, allRepeated, allDropped}
 use Rattle.rules.specs.Hearing.{heardAll-append}
 use Rattle.rules.specs.Position.{Paced, withPeriod, withoutPeriod, Behind, behind-one}
-use Rattle.ages.specs.Ages.{at, ago}
-use Rattle.sums.specs.Kept.{Right}
+use Rattle.ages.specs.Ages.{ago}
+use Rattle.rules.specs.Facts.{valueAt, Right}
+use Rattle.voice.specs.Pitches.{Lags, modeOf, pitchOf}
 use Rattle.finding.specs.Finding.{Long}
 use Rattle.voice.specs.declared.Voice.{Voice}
 use Rattle.voice.specs.declared.Progress.{Progress}
-use Rattle.voice.specs.Voices.{Lags, Voiced, modeOf, pitchOf}
-use Rattle.voice.specs.Voices as voices
+use Rattle.voice.specs.Voices.{takeSoFar, Voiced}
 use Rattle.voice.specs.Eighths.{Eighths}
 use Rattle.voice.specs.Running.{Ready, Ran, Begins, Ended}
 use Rattle.tuner.specs.declared.Tuner.{Tuner}
@@ -42,7 +42,7 @@ noted-of (pitched a b c d e f) h = (c, d)
 noted-of (unpitched p r) h = absurd (omega arith)
 
 pub good-voiced : {t : Tuner} → Good t → Voiced (soundOf (t .store)) (t .voice)
-good-voiced g = record { paced = paced-of (g .pitch); noted = noted-of (g .pitch); lags = g .lags; unpitched = g .searching }
+good-voiced g = record { paced = paced-of (g .pitch); noted = noted-of (g .pitch); lags = g .lags; whileSearching = g .searching }
 
 module _ (t : Tuner) (g : Good t) (st : Stores t) {xs s y : List ℤ} (j : Joined (t .store) xs 2276 s) (k : Joined (t .eighths) [] 288 y) where
   sound-before : ago s 1764 ≡ soundOf (t .store)
@@ -68,22 +68,22 @@ module _ (t : Tuner) (g : Good t) (st : Stores t) {xs s y : List ℤ} (j : Joine
         placed = omega arith;
       }
 
-  begin-take : voices.takeOf s 1764 y (beginning t) ≡ takeOf t
+  begin-take : takeSoFar s 1764 y (beginning t) ≡ takeOf t
   unfolding takeOf
   begin-take =
       λ i. record { count = t .count; sound = sound-before i; eighths = eighths-before i; pitch = pitchOf (t .voice); position = inputAt (t .count) -ℤ pos (t .behind) }
 
   -- ---- where it ends
   module _ (few : length xs ≤ 512) {y′ : List ℤ} {e : List ℕ} {h out : List ℤ} {q : Progress} (long : length y′ ≡ 288) (rd : Ready s (1764 + length xs) y′ e h q)
-      (ran : Ran (t .settings) (voices.takeOf s 1764 y (beginning t)) (take (length xs) (drop 1764 s)) (voices.takeOf s (1764 + length xs) y′ q) (replicate 512 (pos 0)) out (beginning t) q)
+      (ran : Ran (t .settings) (takeSoFar s 1764 y (beginning t)) (take (length xs) (drop 1764 s)) (takeSoFar s (1764 + length xs) y′ q) (replicate 512 (pos 0)) out (beginning t) q)
       (end : Ended (length xs) (beginning t) q) where
     block-is : take (length xs) (drop 1764 s) ≡ xs
     block-is = ap (λ (n : ℕ). take (length xs) (drop n s)) (sym (st .store)) ∙ joined-new j
 
-    end-take : voices.takeOf s (1764 + length xs) y′ q ≡ after (t .settings) (takeOf t) xs
+    end-take : takeSoFar s (1764 + length xs) y′ q ≡ after (t .settings) (takeOf t) xs
     end-take = ran .take ∙ (λ i. after (t .settings) (begin-take i) (block-is i))
 
-    end-gives : gives (t .settings) (voices.takeOf s 1764 y (beginning t)) (take (length xs) (drop 1764 s)) ≡ gives (t .settings) (takeOf t) xs
+    end-gives : gives (t .settings) (takeSoFar s 1764 y (beginning t)) (take (length xs) (drop 1764 s)) ≡ gives (t .settings) (takeOf t) xs
     end-gives = λ i. gives (t .settings) (begin-take i) (block-is i)
 
     abbrev new8 : List ℤ
@@ -135,7 +135,7 @@ module _ (t : Tuner) (g : Good t) (st : Stores t) {xs s y : List ℤ} (j : Joine
             lastUpto = l .lastUpto;
             sums = kept-right (length xs) (t .store ++ xs) (omega (arith, l .upto, length-drop (length xs) (t .store ++ xs), length-append (t .store) xs, st .store)) (l .sums);
           };
-          unpitched = v .unpitched;
+          whileSearching = v .whileSearching;
         }
 
     behind-is : q .behind ≡ natAbs (inputAt (after (t .settings) (takeOf t) xs .count) -ℤ after (t .settings) (takeOf t) xs .position)

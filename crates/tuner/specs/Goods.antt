@@ -10,11 +10,11 @@ use lib.Seq.{take-all}
 use Rattle.whole.specs.Tests.{Decides, by, yes-and-no, decides-as}
 use Rattle.rules.specs.declared.Settings.{Settings}
 use Rattle.rules.specs.Rules.{silence, heardAll, inRange}
-use Rattle.rules.specs.Ranges.{InRange, in-range, is-in-range}
-use Rattle.ages.specs.Ages.{at, ago, Samples}
-use Rattle.sums.specs.Kept.{Right}
+use Rattle.rules.specs.Ranges.{in-range, is-in-range}
+use Rattle.rules.specs.Facts.{InRange, valueAt, Right}
+use Rattle.voice.specs.Pitches.{Lags}
+use Rattle.ages.specs.Ages.{ago, Samples}
 use Rattle.voice.specs.declared.Voice.{Voice}
-use Rattle.voice.specs.Voices.{Lags}
 use Rattle.tuner.specs.declared.Tuner.{Tuner}
 use Rattle.tuner.specs.Tuners.{soundOf, PitchRight, pitched, unpitched}
 
@@ -29,7 +29,7 @@ module _ {b : Bool} (s : Settings) where
   range-is d = by b (λ y. y ∙ sym (is-in-range s (d .yes y))) (λ n. by (inRange s) (λ y. absurd (d .no n (in-range s y))) (λ m. n ∙ sym m))
 
 -- the samples from before a take of n
-pub silent-of : {b : Bool} (s : List ℤ) (kept n m : ℕ) → m ≡ kept - n → Decides b ((i : ℕ) → i < m → at s i ≡ pos 0) → Decides b ((i : ℕ) → i + n < kept → at s i ≡ pos 0)
+pub silent-of : {b : Bool} (s : List ℤ) (kept n m : ℕ) → m ≡ kept - n → Decides b ((i : ℕ) → i < m → valueAt s i ≡ pos 0) → Decides b ((i : ℕ) → i + n < kept → valueAt s i ≡ pos 0)
 silent-of s kept n m e d = decides-as d (λ p i l. p i (omega arith)) (λ p i l. p i (omega arith))
 
 -- the sound of all that is kept, and its sums
@@ -42,12 +42,12 @@ right-of s m n p q d = rw (ago-all s m p, q) at d
 
 -- what is kept at eighth rate: silence before the take, and the sums
 pub record EighthsRight (n : ℕ) (y : List ℤ) (e : List ℕ) (h : List ℤ) : Type 0 where
-  pub before : (i : ℕ) → i + n / 8 < 224 → at y i ≡ pos 0
+  pub before : (i : ℕ) → i + n / 8 < 224 → valueAt y i ≡ pos 0
   pub sums : Right (soundOf y) 2 109 e h
 
 -- what is kept at full rate: silence before the take, the pitch and, while tracking, the eight lags
 pub record VoiceRight (n : ℕ) (s : List ℤ) (v : Voice) : Type 0 where
-  pub before : (i : ℕ) → i + n < 1764 → at s i ≡ pos 0
+  pub before : (i : ℕ) → i + n < 1764 → valueAt s i ≡ pos 0
   pub pitch : PitchRight v
   pub searching : v .tracking ≡ false → v .period ≡ 0
   pub lags : v .tracking ≡ true → Lags (soundOf s) (v .tracker)

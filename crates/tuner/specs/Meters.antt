@@ -1,20 +1,16 @@
--- The meter: what a read of it shows, and that its figures are exact. No second answer can meet the promise of a read, or of a start.
-use mathlib.Core.Path.{_≡_, sym, _∙_, subst}
-use mathlib.Core.Bool.{Bool, true, false, cond}
-use Prim.Native.Nat.{ℕ, _≤_}
-use native.Mathlib.Omega.{arith}
+-- The meter: what a read of it shows, and that its figures are exact. Definitions only.
+use mathlib.Core.Path.{_≡_}
+use mathlib.Core.Bool.{false, cond}
+use Prim.Native.Nat.{ℕ}
 use lib.Dec.{eqb}
 use lib.Ieee.{Float, binary32, round}
 use lib.Ieee.Exact.{HasValue}
-use Rattle.rules.specs.Rules.{inRange, defaults, notePeriod}
-use Rattle.rules.specs.Ranges.{defaults-in-range}
-use Rattle.rules.specs.declared.Settings.{Settings}
+use Rattle.rules.specs.Rules.{notePeriod}
 use Rattle.voice.specs.declared.Voice.{Voice}
 use Rattle.tuner.specs.declared.Tuner.{Tuner}
-use Rattle.tuner.specs.declared.Answer.{Answer}
 use Rattle.tuner.specs.declared.Figures.{Figures}
 use Rattle.tuner.specs.declared.Meter.{Meter}
-use Rattle.tuner.specs.Tuners.{Good, PitchRight, fresh, plain, Started}
+use Rattle.tuner.specs.Tuners.{Good}
 
 -- ---- definitions: figures
 
@@ -56,30 +52,3 @@ pub data Exact (v : Voice) : Meter → Type 0 where
 pub data Metered (t : Tuner) (r : Meter) : Type 0 where
   record-out-of-range : (Good t → ⊥) → r ≡ Meter.Refused → Metered t r
   read : Good t → r ≡ meterOf t → Exact (t .voice) r → Metered t r
-
--- what a good record says of its voice, as far as the meter needs it
-pub record Readable (v : Voice) : Type 0 where
-  pub pitch : PitchRight v
-  pub last : v .tracking ≡ true → v .tracker .last ≤ 880
-
--- ---- laws
-
-pub readable : {t : Tuner} → Good t → Readable (t .voice)
-readable g = record { pitch = g .pitch; last = λ e. let l = g .lags e in omega arith }
-
-pub one-meter : {t : Tuner} {r r′ : Meter} → Metered t r → Metered t r′ → r ≡ r′
-one-meter (record-out-of-range n e) (record-out-of-range n′ e′) = e ∙ sym e′
-one-meter (record-out-of-range n e) (read g e′ x′) = absurd (n g)
-one-meter (read g e x) (record-out-of-range n′ e′) = absurd (n′ g)
-one-meter (read g e x) (read g′ e′ x′) = e ∙ sym e′
-
-pub one-start : {s : Settings} {t t′ : Tuner} {a a′ : Answer} → Started s t a → Started s t′ a′ → (t ≡ t′) × (a ≡ a′)
-one-start p q = (p .tuner ∙ sym (q .tuner), p .answer ∙ sym (q .answer))
-
--- settings in range are taken: the fresh tuner with them, and 0
-pub start-taken : {s : Settings} {t : Tuner} {a : Answer} → inRange s ≡ true → Started s t a → (t ≡ fresh s) × (a ≡ plain 0)
-start-taken {s} {t} {a} e p = subst (λ (b : Bool). (t ≡ fresh (cond b s defaults)) × (a ≡ plain (cond b 0 8))) e (p .tuner, p .answer)
-
--- so are the defaults
-pub default-start-taken : {t : Tuner} {a : Answer} → Started defaults t a → (t ≡ fresh defaults) × (a ≡ plain 0)
-default-start-taken = start-taken defaults-in-range

@@ -18,8 +18,8 @@ use Rattle.whole.specs.Lists.{is-listOf}
 use Rattle.rules.specs.declared.Settings.{Settings}
 use Rattle.rules.specs.Rules.{Sound, silence, heard, heardAll, E, H, eighthDue, eighthSample, eighthsAfter, Take, after, stepped}
 use Rattle.rules.specs.Energies.{E-same, H-same}
-use Rattle.ages.specs.Ages.{at, ago, Samples, laid, ago-at}
-use Rattle.sums.specs.Kept.{Right}
+use Rattle.ages.specs.Ages.{ago, Samples, laid, ago-at}
+use Rattle.rules.specs.Facts.{valueAt, Right}
 use Rattle.tuner.specs.Tuners.{soundOf, keeping, made, energiesOf, correlationsOf}
 use Rattle.tuner.specs.Goods.{ago-all}
 
@@ -58,7 +58,7 @@ module _ {kept new : List ℤ} {n : ℕ} {r : List ℤ} (j : Joined kept new n r
 pub zeros-fit : (n : ℕ) → Samples (replicate n (pos 0))
 zeros-fit n = record { each = λ i. zero-at n i }
   where
-    zero-at : (n i : ℕ) → SFits w16 (at (replicate n (pos 0)) i)
+    zero-at : (n i : ℕ) → SFits w16 (valueAt (replicate n (pos 0)) i)
     zero-at zero i = record { sfits = omega arith }
     zero-at (suc n) zero = record { sfits = omega arith }
     zero-at (suc n) (suc i) = zero-at n i
@@ -107,7 +107,7 @@ joined-two {kept} {new} {a} {r} {n} m e h j p q =
     }
 
 -- ---- a sound and its list
-sound-at : (l : List ℤ) (i : ℕ) → i < length l → soundOf l i ≡ at l (length l - 1 - i)
+sound-at : (l : List ℤ) (i : ℕ) → i < length l → soundOf l i ≡ valueAt l (length l - 1 - i)
 sound-at l i h = ap (λ (x : Sound). x i) (sym (ago-all l (length l) refl)) ∙ ago-at l (length l) i (omega arith) h
 
 -- lists of one length with the same sound are the same
@@ -117,14 +117,14 @@ same-sound a b e s =
     (λ i h.
     let p : length a - 1 - (length a - 1 - i) ≡ i = omega arith in
     let q : length b - 1 - (length a - 1 - i) ≡ i = omega arith in
-    sym (sound-at a (length a - 1 - i) (omega arith) ∙ ap (at a) p) ∙ ap (λ (x : Sound). x (length a - 1 - i)) s ∙ sound-at b (length a - 1 - i) (omega arith) ∙ ap (at b) q)
+    sym (sound-at a (length a - 1 - i) (omega arith) ∙ ap (valueAt a) p) ∙ ap (λ (x : Sound). x (length a - 1 - i)) s ∙ sound-at b (length a - 1 - i) (omega arith) ∙ ap (valueAt b) q)
 
 -- the newest of a list sound as the list, as far back as they go
 pub kept-age : (k : ℕ) (l : List ℤ) (i : ℕ) → i < length (drop k l) → soundOf (drop k l) i ≡ soundOf l i
 kept-age k l i h =
     let d = length-drop k l in
     let e : k + (length (drop k l) - 1 - i) ≡ length l - 1 - i = omega arith in
-    sound-at (drop k l) i h ∙ getD-drop k l (length (drop k l) - 1 - i) (pos 0) ∙ ap (at l) e ∙ sym (sound-at l i (omega arith))
+    sound-at (drop k l) i h ∙ getD-drop k l (length (drop k l) - 1 - i) (pos 0) ∙ ap (valueAt l) e ∙ sym (sound-at l i (omega arith))
 
 -- sums are right over any sound with the same newest samples
 pub right-alike : {x y : Sound} {low n : ℕ} {e : List ℕ} {h : List ℤ} → ((i : ℕ) → i < 2 * (low + n) → x i ≡ y i) → Right x low n e h → Right y low n e h

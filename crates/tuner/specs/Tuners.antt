@@ -6,15 +6,13 @@ use Prim.Native.Nat.{ℕ, zero, suc, _+_, _-_, _*_, _/_, _%_, _≤_, _<_}
 use lib.Dec.{eqb}
 use lib.IntN.{ℤ, pos, natAbs, _-ℤ_}
 use lib.ListN.{length, take, drop, replicate}
-use Rattle.whole.specs.Lists.{listOf}
+use Rattle.whole.specs.Numbers.{listOf}
+use Rattle.rules.specs.Facts.{InRange, valueAt, Right}
+use Rattle.voice.specs.Pitches.{Lags, pitchOf}
 use Rattle.rules.specs.declared.Settings.{Settings}
 use Rattle.rules.specs.Rules.{Sound, silence, heard, heardAll, E, H, eighthDue, eighthSample, Mode, searching, tracking, Pitch, Take, Given, inputAt, inRange, defaults, after, gives, samplesOut, allRepeated, allDropped}
-use Rattle.rules.specs.Ranges.{InRange}
-use Rattle.ages.specs.Ages.{at}
-use Rattle.sums.specs.Kept.{Right}
 use Rattle.tracking.specs.declared.Tracker.{Tracker}
 use Rattle.voice.specs.declared.Voice.{Voice}
-use Rattle.voice.specs.Voices.{Lags, pitchOf}
 use Rattle.tuner.specs.declared.Tuner.{Tuner}
 use Rattle.tuner.specs.declared.Answer.{Answer}
 
@@ -47,8 +45,8 @@ pub record Good (t : Tuner) : Type 0 where
   pub count : t .count ≤ 1000000000
   pub length : t .length ≤ 512
   pub within : t .length ≤ t .count
-  pub before : (i : ℕ) → i + t .count < 1764 → at (t .store) i ≡ pos 0
-  pub eighthsBefore : (i : ℕ) → i + t .count / 8 < 224 → at (t .eighths) i ≡ pos 0
+  pub before : (i : ℕ) → i + t .count < 1764 → valueAt (t .store) i ≡ pos 0
+  pub eighthsBefore : (i : ℕ) → i + t .count / 8 < 224 → valueAt (t .eighths) i ≡ pos 0
   pub sums : Right (soundOf (t .eighths)) 2 109 (t .energies) (t .correlations)
   pub lags : t .voice .tracking ≡ true → Lags (soundOf (t .store)) (t .voice .tracker)
   pub position : t .behind ≤ 65536000
@@ -60,8 +58,8 @@ pub record Good (t : Tuner) : Type 0 where
 abbrev pub blank : Tracker
 blank = record { low = 0; last = 0; e = replicate 8 0; h = replicate 8 (pos 0) }
 
-unfoldable pub fresh : Settings → Tuner
-fresh s =
+unfoldable pub freshTuner : Settings → Tuner
+freshTuner s =
     record {
       settings = s;
       count = 0;
@@ -152,7 +150,7 @@ nextNumber t = cond (eqb (t .length) 0) 0 ((t .number + 1) % 65536)
 -- what comes before any number is looked at: the record is good, the block not empty nor over 512, the output long enough
 pub record Fits (t : Tuner) (xs : List ℤ) (room : ℕ) : Type 0 where
   pub good : Good t
-  pub some : 0 < length xs
+  pub nonempty : 0 < length xs
   pub most : length xs ≤ 512
   pub written : length xs ≤ room
 
@@ -200,7 +198,7 @@ pub record Took (t : Tuner) (k : ℕ) (xs ys : List ℤ) (t′ : Tuner) (a : Ans
 
 -- the promise of a start: taken, or the default tuner beside 8
 pub record Started (s : Settings) (t′ : Tuner) (a : Answer) : Type 0 where
-  pub tuner : t′ ≡ fresh (cond (inRange s) s defaults)
+  pub tuner : t′ ≡ freshTuner (cond (inRange s) s defaults)
   pub answer : a ≡ plain (cond (inRange s) 0 8)
 
 -- the tuner with other settings
@@ -244,5 +242,5 @@ pub data ResetVerdict (t : Tuner) : ℕ → Type 0 where
 pub record Reset (t : Tuner) (t′ : Tuner) (a : Answer) : Type 0 where
   pub number : ℕ
   pub verdict : ResetVerdict t number
-  pub tuner : t′ ≡ cond (eqb number 0) (fresh (t .settings)) t
+  pub tuner : t′ ≡ cond (eqb number 0) (freshTuner (t .settings)) t
   pub answer : a ≡ plain number

@@ -14,7 +14,7 @@ use Rattle.rules.specs.Rules.{inRange}
 use Rattle.rules.specs.Blocks.{gives-length}
 use Rattle.tuner.specs.declared.Tuner.{Tuner}
 use Rattle.tuner.specs.declared.Answer.{Answer}
-use Rattle.tuner.specs.Tuners.{Good, fresh, afterBlock, IsLast, lastSamples, nextNumber, Fits, Verdict, record-out-of-range, block-empty, block-over-512, output-short, number-neither, other-samples, given-again, take-full, taken, tunerBy, plain, answerBy, outBy, Took, ChangeVerdict, withSettings, setting-out-of-range, changed, Changed, ResetVerdict, begun-again, Reset}
+use Rattle.tuner.specs.Tuners.{Good, freshTuner, afterBlock, IsLast, lastSamples, nextNumber, Fits, Verdict, record-out-of-range, block-empty, block-over-512, output-short, number-neither, other-samples, given-again, take-full, taken, tunerBy, plain, answerBy, outBy, Took, ChangeVerdict, withSettings, setting-out-of-range, changed, Changed, ResetVerdict, begun-again, Reset}
 
 -- ---- the number where the record is good and the block fits, over the record's numbers
 
@@ -60,14 +60,14 @@ Before t xs room v A = Step (Good t) (v ≡ 9) (Step (0 < length xs) (v ≡ 2) (
 
 module _ {t : Tuner} {xs : List ℤ} {room v : ℕ} {A : Type 0} where
   fitting : Fits t xs room → A → Before t xs room v A
-  fitting f a = is (f .good) (is (f .some) (is (f .most) (is (f .written) a)))
+  fitting f a = is (f .good) (is (f .nonempty) (is (f .most) (is (f .written) a)))
 
   fits-on : v ≤ 1 → Before t xs room v A → Fits t xs room
   fits-on h (isn't n e) = absurd (omega arith)
   fits-on h (is g (isn't n e)) = absurd (omega arith)
   fits-on h (is g (is a (isn't n e))) = absurd (omega arith)
   fits-on h (is g (is a (is b (isn't n e)))) = absurd (omega arith)
-  fits-on h (is g (is a (is b (is c s)))) = record { good = g; some = a; most = b; written = c }
+  fits-on h (is g (is a (is b (is c s)))) = record { good = g; nonempty = a; most = b; written = c }
 
 module _ {t : Tuner} {k : ℕ} {xs : List ℤ} {room : ℕ} where
   path : {v : ℕ} → Verdict t k xs room v → Before t xs room v
@@ -184,6 +184,6 @@ module _ {t : Tuner} where
   pub reset-one : {t₁ t₂ : Tuner} {a₁ a₂ : Answer} → Reset t t₁ a₁ → Reset t t₂ a₂ → (t₁ ≡ t₂) × (a₁ ≡ a₂)
   reset-one p q =
       let e = step-one (reset-path (p .verdict)) (reset-path (q .verdict)) both both in (
-        p .tuner ∙ ap (λ (v : ℕ). cond (eqb v 0) (fresh (t .settings)) t) e ∙ sym (q .tuner),
+        p .tuner ∙ ap (λ (v : ℕ). cond (eqb v 0) (freshTuner (t .settings)) t) e ∙ sym (q .tuner),
         p .answer ∙ ap plain e ∙ sym (q .answer),
       )

@@ -11,12 +11,15 @@ ghost use lib.IntN.{pos};
 ghost use lib.ListN.{length, take, drop};
 ghost use Rattle.whole.specs.Tests.{Decides};
 ghost use Rattle.rules.specs.Rules.{inRange, defaults, Sound};
-ghost use Rattle.ages.specs.Ages.{at, Samples};
-ghost use Rattle.voice.specs.Voices.{Lags, Voiced, pitchOf};
-ghost use Rattle.tuner.specs.Tuners.{soundOf, PitchRight, Good, blank, fresh, afterBlock, plain, Verdict, Took, Started, Changed, Reset, voiceOf};
+ghost use Rattle.ages.specs.Ages.{Samples};
+ghost use Rattle.rules.specs.Facts.{valueAt};
+ghost use Rattle.voice.specs.Pitches.{Lags, pitchOf};
+ghost use Rattle.tuner.specs.Metering.{Readable};
+ghost use Rattle.voice.specs.Voices.{Voiced};
+ghost use Rattle.tuner.specs.Tuners.{soundOf, PitchRight, Good, blank, freshTuner, afterBlock, plain, Verdict, Took, Started, Changed, Reset, voiceOf};
 ghost use Rattle.tuner.specs.Goods.{EighthsRight, VoiceRight};
 ghost use Rattle.tuner.specs.Verdicts.{HasNumber, following, Numbered};
-ghost use Rattle.tuner.specs.Meters.{Exactly, Exact, shownOf, Readable, Metered};
+ghost use Rattle.tuner.specs.Meters.{Exactly, Exact, shownOf, Metered};
 ghost use Rattle.tuner.specs.Taking.{Joined};
 
 pub struct Tuner {
@@ -106,7 +109,7 @@ fn counts_right(count: u32, length: u16) -> bool
 // The first n samples of a store are 0.
 fn silent(s: &[i16], n: usize) -> bool
     requires { ⌜ n ≤ length (now s) ⌝ }
-    ensures { λ r. ⌜ Decides r ((i : ℕ) → i < n → at (now (s .entry)) i ≡ pos 0) ⌝ }
+    ensures { λ r. ⌜ Decides r ((i : ℕ) → i < n → valueAt (now (s .entry)) i ≡ pos 0) ⌝ }
 {
     let mut i: usize = 0;
     while i < n {
@@ -239,8 +242,8 @@ fn blank() -> Tracker
     }
 }
 
-fn fresh(s: Settings) -> Tuner
-    ensures { λ r. ⌜ r ≡ fresh s ⌝ }
+fn fresh_tuner(s: Settings) -> Tuner
+    ensures { λ r. ⌜ r ≡ freshTuner s ⌝ }
 {
     let store = [0i16; 1764];
     let eighths = [0i16; 224];
@@ -289,13 +292,13 @@ pub fn start(s: Settings) -> Taken
 {
     if in_range(s) {
         return Taken {
-            tuner: fresh(s),
+            tuner: fresh_tuner(s),
             answer: plain(0),
         };
     }
     let d = default_settings();
     Taken {
-        tuner: fresh(d),
+        tuner: fresh_tuner(d),
         answer: plain(8),
     }
 }
@@ -591,7 +594,7 @@ impl Tuner {
         if good(self) {
             let g = self.settings;
             return Taken {
-                tuner: fresh(g),
+                tuner: fresh_tuner(g),
                 answer: plain(0),
             };
         }

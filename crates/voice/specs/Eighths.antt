@@ -10,7 +10,8 @@ use mir.Syntax.{w16}
 use mir.Val.{SFits}
 use Rattle.rules.specs.Rules.{Sound, heard, older, eighthSample, eighthDue, eighthsAfter}
 use Rattle.ages.specs.Ages.{ago, Samples, ago-older, ago-put, ago-before, samples-put}
-use Rattle.sums.specs.Kept.{Right, Room}
+use Rattle.sums.specs.Kept.{Enough}
+use Rattle.rules.specs.Facts.{Right}
 use Rattle.voice.specs.Silent.{still-right}
 
 -- 288 places hold the eighth-rate samples of a take, as far as `places`, and e and h are the sums over them
@@ -55,7 +56,7 @@ module _ (y : List ℤ) (p : ℕ) (v : ℤ) where
     put-samples = samples-put y p v f (omega (arith, r .long)) (r .samples)
 
     -- what the update of the sums asks
-    pub put-room : Room (set y p v) (p + 1) 2 109
+    pub put-room : Enough (set y p v) (p + 1) 2 109
     put-room = record { samples = put-samples; long = omega (arith, put-long); from = omega arith; upto = omega arith; reach = omega arith }
 
     pub put-older : Right (older (ago (set y p v) (p + 1))) 2 109 e h

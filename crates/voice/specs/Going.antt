@@ -9,12 +9,12 @@ use lib.IntN.{ℤ, pos}
 use lib.ListN.{length, getD, take, drop, set, length-drop, length-append}
 use lib.Seq.{take-suc, length-take-le, getD-drop, drop-cons, set-at, append-snoc}
 use Rattle.rules.specs.declared.Settings.{Settings}
-use Rattle.rules.specs.Rules.{Take, Given, Step, after, gives, stepped, samplesOut, joined, allRepeated, allDropped}
-use Rattle.rules.specs.Blocks.{after-more, gives-more, gives-length, samplesOut-append, joined-more}
-use Rattle.ages.specs.Ages.{at}
+use Rattle.rules.specs.Rules.{Take, Given, Step, after, gives, stepped, samplesOut, gathered, allRepeated, allDropped}
+use Rattle.rules.specs.Blocks.{after-more, gives-more, gives-length, samplesOut-append, gathered-more}
+use Rattle.rules.specs.Facts.{valueAt}
 use Rattle.finding.specs.Finding.{Long}
 use Rattle.voice.specs.declared.Progress.{Progress}
-use Rattle.voice.specs.Voices.{takeOf}
+use Rattle.voice.specs.Voices.{takeSoFar}
 use Rattle.voice.specs.Running.{Ready, Room, Did, Ran, Begins, Ended}
 
 -- ---- one sample more
@@ -41,34 +41,34 @@ ran-more {g} {t} {xs = xs} {x = x} {out = out} l a d =
           ∙ one-out (samplesOut (gives g t xs)) out (length xs) (stepped g (after g t xs) x .given .out) (gives-length g t xs) l
           ∙ ap (λ (zs : List ℤ). zs ++ drop (length xs + 1) out) (sym (samplesOut-append (gives g t xs) (stepped g (after g t xs) x .given ∷ [])))
           ∙ (λ j. samplesOut (sym (gives-more g t xs x) j) ++ drop (sym (length-append xs (x ∷ [])) j) out);
-      repeated = d .repeated ∙ counts (λ (k : Given). k .repeated) _ _ _ (a .repeated) (ap (λ (k : Step). k .given .repeated) s);
-      dropped = d .dropped ∙ counts (λ (k : Given). k .dropped) _ _ _ (a .dropped) (ap (λ (k : Step). k .given .dropped) s);
+      repeated = d .repeated ∙ counts (λ (k : Given). k .repeats) _ _ _ (a .repeated) (ap (λ (k : Step). k .given .repeats) s);
+      dropped = d .dropped ∙ counts (λ (k : Given). k .drops) _ _ _ (a .dropped) (ap (λ (k : Step). k .given .drops) s);
     }
   where
-    counts : (part : Given → List ℕ) (a b : ℕ) (ps : List ℕ) → a ≡ b + length (joined part (gives g t xs)) → ps ≡ part (stepped g (after g t xs) x .given)
-        → a + length ps ≡ b + length (joined part (gives g t (xs ++ (x ∷ []))))
+    counts : (part : Given → List ℕ) (a b : ℕ) (ps : List ℕ) → a ≡ b + length (gathered part (gives g t xs)) → ps ≡ part (stepped g (after g t xs) x .given)
+        → a + length ps ≡ b + length (gathered part (gives g t (xs ++ (x ∷ []))))
     counts part a b ps e f =
-        let m : length (joined part (gives g t (xs ++ (x ∷ [])))) ≡ length (joined part (gives g t xs)) + length (part (stepped g (after g t xs) x .given)) =
-        ap (λ (gs : List Given). length (joined part gs)) (gives-more g t xs x) ∙ joined-more part (gives g t xs) (stepped g (after g t xs) x .given) in
+        let m : length (gathered part (gives g t (xs ++ (x ∷ [])))) ≡ length (gathered part (gives g t xs)) + length (part (stepped g (after g t xs) x .given)) =
+        ap (λ (gs : List Given). length (gathered part gs)) (gives-more g t xs x) ∙ gathered-more part (gives g t xs) (stepped g (after g t xs) x .given) in
         let n : length ps ≡ length (part (stepped g (after g t xs) x .given)) = ap length f in
         omega arith
 
 -- ---- after i samples
 pub record Going (g : Settings) (s : List ℤ) (m : ℕ) (y₀ out₀ : List ℤ) (p : Progress) (i : ℕ) (y : List ℤ) (e : List ℕ) (h : List ℤ) (out : List ℤ) (q : Progress) : Type 0 where
   pub ready : Ready s (m + i) y e h q
-  pub ran : Ran g (takeOf s m y₀ p) (take i (drop m s)) (takeOf s (m + i) y q) out₀ out p q
+  pub ran : Ran g (takeSoFar s m y₀ p) (take i (drop m s)) (takeSoFar s (m + i) y q) out₀ out p q
   pub ended : Ended i p q
 
 pub going-none : (g : Settings) {s : List ℤ} {m : ℕ} {y : List ℤ} {e : List ℕ} {h : List ℤ} (out : List ℤ) {p : Progress} {b : ℕ} → Ready s m y e h p → Begins b p
     → Going g s m y out p 0 y e h out p
-unfolding after gives samplesOut joined
+unfolding after gives samplesOut gathered
 going-none g {s} {m} {y} {e} {h} out {p} r k =
     let z : m ≡ m + 0 = sym (add-zero m) in
     record {
       ready = subst (λ (n : ℕ). Ready s n y e h p) z r;
       ran =
           record {
-            take = ap (λ (n : ℕ). takeOf s n y p) (sym z);
+            take = ap (λ (n : ℕ). takeSoFar s n y p) (sym z);
             out = refl;
             repeated = sym (add-zero (p .repeated));
             dropped = sym (add-zero (p .dropped));
@@ -91,24 +91,24 @@ module _ {g : Settings} {s : List ℤ} {m : ℕ} {y₀ out₀ : List ℤ} {p : P
   pub going-long : Long s m → Long s (m + i)
   going-long n = record { enough = omega (arith, n .enough); long = omega arith; samples = n .samples }
 
-  taken : take (i + 1) (drop m s) ≡ take i (drop m s) ++ (at s (m + i) ∷ [])
+  taken : take (i + 1) (drop m s) ≡ take i (drop m s) ++ (valueAt s (m + i) ∷ [])
   taken =
       ap (λ (n : ℕ). take n (drop m s)) (add-one i)
       ∙ take-suc (drop m s) i (pos 0) (omega (arith, length-drop m s))
       ∙ ap (λ (x : ℤ). take i (drop m s) ++ (x ∷ [])) (getD-drop m s i (pos 0))
 
   pub going-more : {y′ : List ℤ} {e′ : List ℕ} {h′ out′ : List ℤ} {r : Progress} → i < length out₀ → Ready s (m + i + 1) y′ e′ h′ r
-      → Did g (takeOf s (m + i) y q) (at s (m + i)) (takeOf s (m + i + 1) y′ r) out i out′ q r → Going g s m y₀ out₀ p (i + 1) y′ e′ h′ out′ r
+      → Did g (takeSoFar s (m + i) y q) (valueAt s (m + i)) (takeSoFar s (m + i + 1) y′ r) out i out′ q r → Going g s m y₀ out₀ p (i + 1) y′ e′ h′ out′ r
   going-more {y′} {e′} {h′} {out′} {r} o rd d =
       let z : m + i + 1 ≡ m + (i + 1) = add-assoc m i 1 in
       let n : i ≡ length (take i (drop m s)) = sym (length-take-le i (drop m s) (omega (arith, length-drop m s))) in
-      let d′ = subst (λ (j : ℕ). Did g (takeOf s (m + i) y q) (at s (m + i)) (takeOf s (m + i + 1) y′ r) out j out′ q r) n d in
+      let d′ = subst (λ (j : ℕ). Did g (takeSoFar s (m + i) y q) (valueAt s (m + i)) (takeSoFar s (m + i + 1) y′ r) out j out′ q r) n d in
       let a = ran-more (omega arith) (k .ran) d′ in
       record {
         ready = subst (λ (j : ℕ). Ready s j y′ e′ h′ r) z rd;
         ran =
-            subst (λ (j : ℕ). Ran g (takeOf s m y₀ p) (take (i + 1) (drop m s)) (takeOf s j y′ r) out₀ out′ p r) z
-            (subst (λ (xs : List ℤ). Ran g (takeOf s m y₀ p) xs (takeOf s (m + i + 1) y′ r) out₀ out′ p r) (sym taken) a);
+            subst (λ (j : ℕ). Ran g (takeSoFar s m y₀ p) (take (i + 1) (drop m s)) (takeSoFar s j y′ r) out₀ out′ p r) z
+            (subst (λ (xs : List ℤ). Ran g (takeSoFar s m y₀ p) xs (takeSoFar s (m + i + 1) y′ r) out₀ out′ p r) (sym taken) a);
         ended =
             record {
               count = omega (arith, d .count, k .ended .count);

@@ -9,11 +9,11 @@ use borrow.Author.Tests.{not-true, not-false}
 use lib.IntN.{ℤ}
 use Rattle.whole.specs.Tests.{cond-yes, yes-and-no}
 use Rattle.rules.specs.declared.Settings.{Settings}
-use Rattle.rules.specs.Rules.{Sound, Mode, searching, tracking, Pitch, unpitched, searched, found, tracked, tuned, wanted, noteOf, rawFor, smooth, best, period, moved, isLost}
+use Rattle.rules.specs.Rules.{Sound, Mode, searching, tracking, Pitch, noPeriod, searched, found, tracked, tuned, wanted, noteOf, rawFor, smooth, best, period, moved, isLost}
 use Rattle.rules.specs.Position.{Paced, withPeriod}
 use Rattle.rules.specs.Choosing.{found-range}
-use Rattle.rules.specs.Ranges.{InRange}
-use Rattle.sums.specs.Kept.{Right}
+use Rattle.rules.specs.Facts.{InRange, Right}
+use Rattle.voice.specs.Pitches.{Lags, pitchOf}
 use Rattle.finding.specs.Finding.{Modest, lagOf}
 use Rattle.finding.specs.declared.Found.{Found}
 use Rattle.tracking.specs.declared.Tracker.{Tracker}
@@ -22,15 +22,15 @@ use Rattle.tracking.specs.Tracking.{Tracks, Stepped}
 use Rattle.notes.specs.declared.Tone.{Tone}
 use Rattle.notes.specs.Tuned.{Tuned}
 use Rattle.voice.specs.declared.Voice.{Voice}
-use Rattle.voice.specs.Voices.{Lags, Voiced, Became, Eighth, Searched, pitchOf, no-pitch}
+use Rattle.voice.specs.Voices.{Voiced, Became, Eighth, Searched, no-pitch}
 
 pub modest : {g : Settings} → InRange g → Modest g
 modest r = record { eps = r .eps; floor = r .floorTo }
 
 -- ---- a lag was found
 pub became-locked : {x : Sound} {t : Tracker} (lag : ℕ) → 24 ≤ lag → lag ≤ 872 → Tracks x (lag - 3) lag t
-    → Became x (unpitched (tracking (lag - 3) lag)) (record { tracking = true; period = 0; note = 0; rate = 65536; tracker = t })
-unfolding unpitched
+    → Became x (noPeriod (tracking (lag - 3) lag)) (record { tracking = true; period = 0; note = 0; rate = 65536; tracker = t })
+unfolding noPeriod
 became-locked {t = t} lag lo hi k =
     record {
       pitch = λ i. record { mode = tracking (k .low i) (k .last i); period = 0; note = 0; rate = 65536 };
@@ -51,13 +51,13 @@ became-followed {v = v} e r k =
             paced = r .paced;
             noted = r .noted;
             lags = λ e. record { from = omega (arith, k .low, l .from); upto = omega (arith, k .low, l .upto); lastFrom = omega (arith, k .low, k .last, l .lastFrom); lastUpto = omega (arith, k .low, k .last, l .lastUpto); sums = rw (k .low) (k .sums) };
-            unpitched = r .unpitched;
+            whileSearching = r .whileSearching;
           };
     }
 
 -- ---- a tracking step
 module _ (g : Settings) (x : Sound) (rate low last : ℕ) where
-  tracked-lost : isLost g x (low + best x low) last ≡ true → tracked g x rate low last ≡ unpitched searching
+  tracked-lost : isLost g x (low + best x low) last ≡ true → tracked g x rate low last ≡ noPeriod searching
   unfolding tracked
   tracked-lost e = rw e
 
@@ -69,7 +69,7 @@ module _ (g : Settings) (x : Sound) (rate low last : ℕ) where
 module _ {g : Settings} {x : Sound} (v : Voice) {r : Tracked} (s : Stepped g x (v .tracker) r) where
   pub became-lost : r .kept ≡ false
       → Became x (tracked g x (v .rate) (v .tracker .low) (v .tracker .last)) (record { tracking = false; period = 0; note = 0; rate = 65536; tracker = r .tracker })
-  unfolding unpitched
+  unfolding noPeriod
   became-lost e =
       record {
         pitch = sym (tracked-lost g x (v .rate) (v .tracker .low) (v .tracker .last) (not-false _ (sym (s .kept) ∙ e)));
@@ -91,7 +91,7 @@ module _ {g : Settings} {x : Sound} (v : Voice) {r : Tracked} (s : Stepped g x (
               paced = withPeriod (u .rateFrom) (u .rateTo) (s .from e) (s .upto e);
               noted = λ h. (u .noteFrom, u .noteTo);
               lags = λ t. record { from = s .low-from e; upto = s .low-upto e; lastFrom = s .last-from e; lastUpto = s .last-upto e; sums = s .sums e };
-              unpitched = λ t. absurd (yes-and-no refl t);
+              whileSearching = λ t. absurd (yes-and-no refl t);
             };
       }
 
@@ -104,7 +104,7 @@ module _ (g : Settings) (x : Sound) (v : Voice) (f : Found) {e : List ℕ} {h : 
   unfolding searched
   searched-none q r = record { voiced = r; pitch = λ y k. ap (searched (pitchOf v)) (sym q ∙ finds y k) }
 
-  pub searched-some : {w : Voice} (lag : ℕ) → lagOf f ≡ some lag → Became x (unpitched (tracking (lag - 3) lag)) w → Searched g x e h v w
+  pub searched-some : {w : Voice} (lag : ℕ) → lagOf f ≡ some lag → Became x (noPeriod (tracking (lag - 3) lag)) w → Searched g x e h v w
   unfolding searched
   searched-some lag q b = record { voiced = b .voiced; pitch = λ y k. b .pitch ∙ ap (searched (pitchOf v)) (sym q ∙ finds y k) }
 

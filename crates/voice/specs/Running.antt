@@ -8,14 +8,16 @@ use lib.IntN.{ℤ, pos, _-ℤ_}
 use lib.ListN.{length, getD, take, drop, set, replicate, length-replicate}
 use Rattle.rules.specs.declared.Settings.{Settings}
 use Rattle.rules.specs.Rules.{Sound, Take, Given, Step, Pitch, Growth, inputAt, heard, eighthsAfter, listened, growth, reading, after, gives, stepped, samplesOut, allRepeated, allDropped}
-use Rattle.ages.specs.Ages.{at, ago, ago-next, ago-fits}
+use Rattle.ages.specs.Ages.{ago, ago-next, ago-fits}
+use Rattle.rules.specs.Facts.{valueAt}
+use Rattle.voice.specs.Pitches.{pitchOf}
 use Rattle.finding.specs.Finding.{Long}
 use Rattle.reading.specs.Grown.{Grown}
 use Rattle.reading.specs.declared.Growth.{Growth as Moved}
 use Rattle.voice.specs.declared.Progress.{Progress}
 use Rattle.voice.specs.declared.Voice.{Voice}
 use Rattle.voice.specs.Eighths.{Eighths, Heard}
-use Rattle.voice.specs.Voices.{Voiced, Eighth, Listened, takeOf, pitchOf}
+use Rattle.voice.specs.Voices.{Voiced, Eighth, Listened, takeSoFar}
 
 -- between two samples: the first m of the store s are heard
 pub record Ready (s : List ℤ) (m : ℕ) (y : List ℤ) (e : List ℕ) (h : List ℤ) (p : Progress) : Type 0 where
@@ -35,8 +37,8 @@ pub record Room (p : Progress) : Type 0 where
 pub record Did (g : Settings) (t : Take) (new : ℤ) (t′ : Take) (outs : List ℤ) (i : ℕ) (outs′ : List ℤ) (p r : Progress) : Type 0 where
   pub take : t′ ≡ stepped g t new .next
   pub out : outs′ ≡ set outs i (stepped g t new .given .out)
-  pub repeated : r .repeated ≡ p .repeated + length (stepped g t new .given .repeated)
-  pub dropped : r .dropped ≡ p .dropped + length (stepped g t new .given .dropped)
+  pub repeated : r .repeated ≡ p .repeated + length (stepped g t new .given .repeats)
+  pub dropped : r .dropped ≡ p .dropped + length (stepped g t new .given .drops)
   pub few : (r .repeated ≤ p .repeated + 1) × (r .dropped ≤ p .dropped + 1)
   pub count : r .count ≡ p .count + 1
   pub phase : (f : ℕ) → p .places + f ≡ 224 + p .count / 8 → r .places + f ≡ 224 + r .count / 8
@@ -74,7 +76,7 @@ stepped-is : (g : Settings) (t : Take) (new : ℤ) (x y : Sound) (v : Pitch) (b 
     → b ≡ growth (suc (t .count)) (v .rate) (v .period) (t .position)
     → stepped g t new ≡ record {
       next = record { count = suc (t .count); sound = x; eighths = y; pitch = v; position = b .position };
-      given = record { out = reading x (suc (t .count)) (b .position); repeated = b .repeated; dropped = b .dropped };
+      given = record { out = reading x (suc (t .count)) (b .position); repeats = b .repeats; drops = b .drops };
     }
 unfolding stepped
 stepped-is g t new x y v b ex ey ev eb = rw (eb, ev, ey, ex)
@@ -82,7 +84,7 @@ stepped-is g t new x y v b ex ey ev eb = rw (eb, ev, ey, ex)
 module _ (g : Settings) (s : List ℤ) (m : ℕ) (y : List ℤ) (p : Progress) {y′ : List ℤ} {e : List ℕ} {h : List ℤ} {q : ℕ} (v : Voice) (r : Moved) (l : m < length s)
     (hd : Heard (p .count + 1) (ago s (m + 1)) y (p .places) y′ q e h) (ls : Listened g (p .count + 1) (ago s (m + 1)) e h (p .voice) v)
     (gr : Grown (p .behind) (v .rate) (v .period) r) where
-  one-step : stepped g (takeOf s m y p) (at s m) ≡ record {
+  one-step : stepped g (takeSoFar s m y p) (valueAt s m) ≡ record {
     next =
         record {
           count = suc (p .count);
@@ -94,26 +96,26 @@ module _ (g : Settings) (s : List ℤ) (m : ℕ) (y : List ℤ) (p : Progress) {
     given =
         record {
           out = reading (ago s (m + 1)) (suc (p .count)) (inputAt (suc (p .count)) -ℤ pos (r .behind));
-          repeated = replicate (r .repeated) (v .period);
-          dropped = replicate (r .dropped) (v .period);
+          repeats = replicate (r .repeated) (v .period);
+          drops = replicate (r .dropped) (v .period);
         };
   }
   one-step =
-      stepped-is g (takeOf s m y p) (at s m) (ago s (m + 1)) (ago y′ q) (pitchOf v) _ (ago-next s m l)
+      stepped-is g (takeSoFar s m y p) (valueAt s m) (ago s (m + 1)) (ago y′ q) (pitchOf v) _ (ago-next s m l)
       (hd .sound ∙ ap (λ (n : ℕ). eighthsAfter n (ago s (m + 1)) (ago y (p .places))) (add-one (p .count)))
       (ls .pitch (ago y′ q) (hd .eighths .sums) ∙ ap (λ (n : ℕ). listened g n (ago s (m + 1)) (ago y′ q) (pitchOf (p .voice))) (add-one (p .count)))
       (sym (gr .grows (p .count)))
 
   pub did : (outs : List ℤ) (i : ℕ) {o : ℤ} → ((n : ℕ) → o ≡ reading (ago s (m + 1)) n (inputAt n -ℤ pos (r .behind)))
-      → Did g (takeOf s m y p) (at s m) (takeOf s (m + 1) y′ (nextOf p q v r)) outs i (set outs i o) p (nextOf p q v r)
+      → Did g (takeSoFar s m y p) (valueAt s m) (takeSoFar s (m + 1) y′ (nextOf p q v r)) outs i (set outs i o) p (nextOf p q v r)
   did outs i rd =
       record {
         take =
             (λ j. record { count = add-one (p .count) j; sound = ago s (m + 1); eighths = ago y′ q; pitch = pitchOf v; position = inputAt (add-one (p .count) j) -ℤ pos (r .behind) })
             ∙ sym (ap (λ (d : Step). d .next) one-step);
         out = ap (set outs i) (rd (suc (p .count)) ∙ sym (ap (λ (d : Step). d .given .out) one-step));
-        repeated = ap (λ (n : ℕ). p .repeated + n) (sym (ap (λ (d : Step). length (d .given .repeated)) one-step ∙ length-replicate (r .repeated) (v .period)));
-        dropped = ap (λ (n : ℕ). p .dropped + n) (sym (ap (λ (d : Step). length (d .given .dropped)) one-step ∙ length-replicate (r .dropped) (v .period)));
+        repeated = ap (λ (n : ℕ). p .repeated + n) (sym (ap (λ (d : Step). length (d .given .repeats)) one-step ∙ length-replicate (r .repeated) (v .period)));
+        dropped = ap (λ (n : ℕ). p .dropped + n) (sym (ap (λ (d : Step). length (d .given .drops)) one-step ∙ length-replicate (r .dropped) (v .period)));
         few = (omega (arith, gr .repeated-one), omega (arith, gr .dropped-one));
         count = refl;
         phase = λ f k. hd .phase f (p .count) refl k;

@@ -7,7 +7,7 @@ use lib.IntN.{ℤ, pos}
 use lib.ListN.{getD}
 use Rattle.rules.specs.Rules.{Sound, heard}
 use Rattle.rules.specs.Energies.{no-energy, E-same, H-same}
-use Rattle.sums.specs.Kept.{Right}
+use Rattle.rules.specs.Facts.{Right}
 
 -- 0 heard after n samples of 0
 zero-more : (x : Sound) (n : ℕ) → ((k : ℕ) → k < n → x k ≡ pos 0) → (k : ℕ) → k < n → x k ≡ heard (pos 0) x k

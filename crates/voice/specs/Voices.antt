@@ -1,9 +1,8 @@
 -- What the code keeps of a take, as the rules' own records; when it is right; and what searching and tracking leave of it.
-use mathlib.Core.Path.{_≡_, refl, sym, ap, _∙_}
-use mathlib.Core.Bool.{Bool, true, false, not, cond}
+use mathlib.Core.Path.{_≡_}
+use mathlib.Core.Bool.{true, false}
 use mathlib.Core.List.{List}
-use mathlib.Core.Option.{Option, none, some}
-use Prim.Native.Nat.{ℕ, _+_, _-_, _/_, _%_, _≤_, _<_}
+use Prim.Native.Nat.{ℕ, _-_, _%_, _≤_, _<_}
 use native.Mathlib.Omega.{arith}
 use borrow.Author.Tests.{ne-eqb}
 use lib.IntN.{ℤ, pos, _-ℤ_}
@@ -11,42 +10,27 @@ use mir.Syntax.{w16}
 use mir.Val.{SFits}
 use Rattle.whole.specs.Tests.{cond-yes, cond-no, yes-and-no}
 use Rattle.rules.specs.declared.Settings.{Settings}
-use Rattle.rules.specs.Rules.{Sound, Mode, searching, tracking, Pitch, Take, inputAt, unpitched, searched, found, tracked, tuned, eighthDue, stepDue, listenedIn, listened, best, period, moved, isLost}
+use Rattle.rules.specs.Rules.{Sound, searching, tracking, Pitch, Take, inputAt, searched, found, tracked, eighthDue, stepDue, listenedIn, listened, period}
 use Rattle.rules.specs.Position.{Paced, withoutPeriod}
 use Rattle.ages.specs.Ages.{ago}
-use Rattle.sums.specs.Kept.{Right, Kept}
-use Rattle.tracking.specs.declared.Tracker.{Tracker}
+use Rattle.sums.specs.Kept.{Kept}
+use Rattle.rules.specs.Facts.{Right}
 use Rattle.voice.specs.declared.Voice.{Voice}
 use Rattle.voice.specs.declared.Progress.{Progress}
+use Rattle.voice.specs.Pitches.{pitchOf, Lags}
 
 -- ---- definitions
-
--- searching, or tracking the eight lags from low on
-abbrev pub modeOf : Voice → Mode
-modeOf v = cond (v .tracking) (tracking (v .tracker .low) (v .tracker .last)) searching
-
--- what the sound was found to be
-abbrev pub pitchOf : Voice → Pitch
-pitchOf v = record { mode = modeOf v; period = v .period; note = v .note; rate = v .rate }
-
--- the eight lags: in their range, the last best among them, their sums the direct ones over the sound x
-pub record Lags (x : Sound) (t : Tracker) : Type 0 where
-  pub from : 16 ≤ t .low
-  pub upto : t .low ≤ 873
-  pub lastFrom : t .low ≤ t .last
-  pub lastUpto : t .last ≤ t .low + 7
-  pub sums : Right x (t .low) 8 (t .e) (t .h)
 
 -- a voice that is right over the sound x
 pub record Voiced (x : Sound) (v : Voice) : Type 0 where
   pub paced : Paced (v .rate) (v .period)
   pub noted : 0 < v .period → (32 ≤ v .note) × (v .note ≤ 100)
   pub lags : v .tracking ≡ true → Lags x (v .tracker)
-  pub unpitched : v .tracking ≡ false → v .period ≡ 0
+  pub whileSearching : v .tracking ≡ false → v .period ≡ 0
 
 -- the take after the first m samples of the store s, with the eighth-rate samples stored in y
-abbrev pub takeOf : List ℤ → ℕ → List ℤ → Progress → Take
-takeOf s m y p =
+abbrev pub takeSoFar : List ℤ → ℕ → List ℤ → Progress → Take
+takeSoFar s m y p =
     record {
       count = p .count;
       sound = ago s m;
@@ -81,11 +65,11 @@ kept-of k = record { sound = k .sound; fits = k .fits; low = 2; upto = omega ari
 
 -- a searching voice is right over any sound
 pub still-searching : {x z : Sound} {v : Voice} → v .tracking ≡ false → Voiced x v → Voiced z v
-still-searching e r = record { paced = r .paced; noted = r .noted; lags = λ t. absurd (yes-and-no t e); unpitched = r .unpitched }
+still-searching e r = record { paced = r .paced; noted = r .noted; lags = λ t. absurd (yes-and-no t e); whileSearching = r .whileSearching }
 
 -- no period, and the rate 65536
 pub no-pitch : {x : Sound} {v : Voice} → v .rate ≡ 65536 → v .period ≡ 0 → (v .tracking ≡ true → Lags x (v .tracker)) → Voiced x v
-no-pitch r p l = record { paced = withoutPeriod r p; noted = λ h. absurd (omega arith); lags = l; unpitched = λ e. p }
+no-pitch r p l = record { paced = withoutPeriod r p; noted = λ h. absurd (omega arith); lags = l; whileSearching = λ e. p }
 
 -- ---- laws of listening, by how the tests came out
 module _ (g : Settings) (n : ℕ) (x y : Sound) (v : Voice) where

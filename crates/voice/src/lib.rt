@@ -7,13 +7,14 @@ ghost use mathlib.Core.Bool.{true, false};
 ghost use Prim.Native.Nat.{ℕ, _+_, _-_, _%_, _≤_, _<_};
 ghost use lib.IntN.{pos};
 ghost use lib.ListN.{length, getD, set, take, drop};
-ghost use Rattle.rules.specs.Rules.{Sound, eighthSample, older, unpitched, tracked};
+ghost use Rattle.rules.specs.Rules.{Sound, eighthSample, older, noPeriod, tracked};
 ghost use Rattle.rules.specs.Rules as rules;
-ghost use Rattle.rules.specs.Ranges.{InRange};
-ghost use Rattle.ages.specs.Ages.{at, ago, Samples};
+ghost use Rattle.rules.specs.Facts.{InRange, valueAt};
+ghost use Rattle.voice.specs.Pitches.{pitchOf};
+ghost use Rattle.ages.specs.Ages.{ago, Samples};
 ghost use Rattle.finding.specs.Finding.{Long};
 ghost use Rattle.voice.specs.Eighths.{Eighths, Heard};
-ghost use Rattle.voice.specs.Voices.{Voiced, Eighth, Became, Searched, Listened, pitchOf, takeOf};
+ghost use Rattle.voice.specs.Voices.{Voiced, Eighth, Became, Searched, Listened, takeSoFar};
 ghost use Rattle.voice.specs.Running.{Ready, Room, Did, Ran, Begins, Ended};
 
 // What the sound was found to be: searching, or tracking the eight lags; period and note 0 where there is none.
@@ -86,7 +87,7 @@ fn hear(
 // A lag was found.
 fn locked(lag: usize, s: &[i16], m: usize) -> Voice
     requires { ⌜ (24 ≤ lag) × (lag ≤ 872) × Long (now s) m ⌝ }
-    ensures { λ r. ⌜ Became (ago (now (s .entry)) m) (unpitched (rules.tracking (lag - 3) lag)) r ⌝ }
+    ensures { λ r. ⌜ Became (ago (now (s .entry)) m) (noPeriod (rules.tracking (lag - 3) lag)) r ⌝ }
 {
     let l = lag as u32;
     let t = Tracker::at(l - 3, l, s, m);
@@ -209,7 +210,7 @@ fn step(
     i: usize,
 ) -> Progress
     requires { ⌜ InRange g × Long (now s) m × (m < length (now s)) × (i < 512) × Ready (now s) m (now y) (now e) (now h) p × Room p ⌝ }
-    ensures { λ r. ⌜ Ready (now (s .entry)) (m + 1) (now (y .exit)) (now (e .exit)) (now (h .exit)) r × Did g (takeOf (now (s .entry)) m (now (y .entry)) p) (at (now (s .entry)) m) (takeOf (now (s .entry)) (m + 1) (now (y .exit)) r) (now (out .entry)) i (now (out .exit)) p r ⌝ }
+    ensures { λ r. ⌜ Ready (now (s .entry)) (m + 1) (now (y .exit)) (now (e .exit)) (now (h .exit)) r × Did g (takeSoFar (now (s .entry)) m (now (y .entry)) p) (valueAt (now (s .entry)) m) (takeSoFar (now (s .entry)) (m + 1) (now (y .exit)) r) (now (out .entry)) i (now (out .exit)) p r ⌝ }
 {
     let n = p.count + 1;
     let heard = m + 1;
@@ -244,7 +245,7 @@ pub fn run(
     out: &mut [i16; 512],
 ) -> Progress
     requires { ⌜ InRange g × Long (now s) m × (m + b ≤ length (now s)) × (b ≤ 512) × Ready (now s) m (now y) (now e) (now h) p × Begins b p × (length (now out) ≡ 512) ⌝ }
-    ensures { λ r. ⌜ Ready (now (s .entry)) (m + b) (now (y .exit)) (now (e .exit)) (now (h .exit)) r × Ran g (takeOf (now (s .entry)) m (now (y .entry)) p) (take b (drop m (now (s .entry)))) (takeOf (now (s .entry)) (m + b) (now (y .exit)) r) (now (out .entry)) (now (out .exit)) p r × Ended b p r ⌝ }
+    ensures { λ r. ⌜ Ready (now (s .entry)) (m + b) (now (y .exit)) (now (e .exit)) (now (h .exit)) r × Ran g (takeSoFar (now (s .entry)) m (now (y .entry)) p) (take b (drop m (now (s .entry)))) (takeSoFar (now (s .entry)) (m + b) (now (y .exit)) r) (now (out .entry)) (now (out .exit)) p r × Ended b p r ⌝ }
 {
     let mut q = p;
     let mut i: usize = 0;

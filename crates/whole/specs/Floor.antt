@@ -1,28 +1,15 @@
 -- Division rounded down, toward minus infinity, by a natural number above 0; the nearest whole number, halves up; what they are.
-use mathlib.Core.Path.{_≡_, refl, sym, ap, _∙_, subst}
+use mathlib.Core.Path.{_≡_, refl, sym, ap, _∙_}
 use mathlib.Core.List.{[], _∷_}
 use Prim.Native.Nat.{ℕ, zero, suc, _+_, _*_, _-_, _/_, _%_, _≤_, _<_}
 use native.Mathlib.Nat.{div-add-mod', mod-lt, suc-mul, div-lt-iff-lt-mul}
 use native.Mathlib.Omega.{arith}
 use lib.Dec.{ltb→lt}
 use lib.IntN.{ℤ, pos, negsuc, negℤ, natAbs, subℕ, _+ℤ_, _-ℤ_, _*ℤ_}
-use lib.Signed.{mag, quotZ, shrZ, _<ℤ_, _≤ℤ_}
+use lib.Signed.{mag, quotZ, _<ℤ_, _≤ℤ_}
 use Rattle.whole.specs.Bounds.{subℕ-ge, subℕ-lt, pos-minus-pos, natAbs-subℕ, natAbs-mul, natAbs-zero}
-use Rattle.whole.specs.Ring.{Expr, var, con, _⊕_, _⊖_, _⊗_, solve}
-
--- z by m, rounded down: the machine's shift to the right, and its division with the sign mended
-abbrev pub floorDiv : ℤ → ℕ → ℤ
-floorDiv z m = shrZ z m
-
--- z by m to the nearest whole number, halves up: rounded down after a half is added
-abbrev pub nearestDiv : ℤ → ℕ → ℤ
-nearestDiv z m = floorDiv (pos 2 *ℤ z +ℤ pos m) (2 * m)
-
--- q is z by m rounded down: z is q times m and a rest from 0 to m - 1
-pub record Floor (z : ℤ) (m : ℕ) (q : ℤ) : Type 0 where
-  pub rest : ℕ
-  pub small : rest < m
-  pub whole : z ≡ q *ℤ pos m +ℤ pos rest
+use Rattle.whole.specs.Ring.{var, con, _⊕_, _⊖_, _⊗_, solve}
+use Rattle.whole.specs.Numbers.{floorDiv, Floor}
 
 neg-mul : (q m : ℕ) → 0 < m → negsuc q *ℤ pos m ≡ negsuc (q * m + (m - 1))
 neg-mul q zero h = absurd (omega arith)

@@ -1,3 +1,4 @@
+pub mod Numbers
 pub mod Tests
 pub mod Lists
 pub mod RingLaws
@@ -7,4 +8,4 @@ pub mod Order
 pub mod Words
 pub mod Floor
 pub mod Sums
-pub mod Running
+pub mod Adding

@@ -1,15 +1,11 @@
 -- The list f 0, .., f (n - 1), and that a list with these elements is it.
 use mathlib.Core.Path.{_≡_, refl, sym, ap, _∙_}
-use mathlib.Core.List.{List, [], _∷_}
+use mathlib.Core.List.{List}
 use Prim.Native.Nat.{ℕ, zero, suc, _<_}
 use native.Mathlib.Omega.{arith}
 use lib.ListN.{length, getD}
 use lib.Seq.{ext-getD}
-
--- f 0, .., f (n - 1)
-unfoldable pub listOf : {A : Type 0} → (ℕ → A) → ℕ → List A
-listOf f zero = []
-listOf f (suc n) = f 0 ∷ listOf (λ (k : ℕ). f (suc k)) n
+use Rattle.whole.specs.Numbers.{listOf}
 
 module _ {A : Type 0} where
   pub length-listOf : (f : ℕ → A) (n : ℕ) → length (listOf f n) ≡ n

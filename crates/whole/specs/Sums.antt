@@ -8,22 +8,10 @@ use native.Mathlib.Numerals.{add-one}
 use borrow.Author.Tests.{ltb-true, ltb-false}
 use lib.Dec.{ltb}
 use lib.Signed.{mag}
-use lib.IntN.{ℤ, pos, natAbs, _+ℤ_, _-ℤ_, +ℤ-assoc, +ℤ-comm, +ℤ-idl, +ℤ-negℤ-cancel}
+use lib.IntN.{ℤ, pos, _+ℤ_, _-ℤ_, +ℤ-assoc, +ℤ-comm, +ℤ-idl, +ℤ-negℤ-cancel}
 use Rattle.whole.specs.Tests.{by}
 use Rattle.whole.specs.Bounds.{Within, natAbs-add, mag-add}
-
--- z, and f 0 to f (n - 1) added to it one after the other
-unfoldable pub fold : {A : Type 0} → A → (A → A → A) → (ℕ → A) → ℕ → A
-fold z add f zero = z
-fold z add f (suc n) = add (fold z add f n) (f n)
-
--- the sum of the natural numbers f 0 to f (n - 1)
-abbrev pub total : (ℕ → ℕ) → ℕ → ℕ
-total f n = fold 0 _+_ f n
-
--- the sum of the signed numbers f 0 to f (n - 1)
-abbrev pub sum : (ℕ → ℤ) → ℕ → ℤ
-sum f n = fold (pos 0) _+ℤ_ f n
+use Rattle.whole.specs.Numbers.{fold, total, sum}
 
 pub record Adds {A : Type 0} (z : A) (add : A → A → A) : Type 0 where
   pub assoc : (a b c : A) → add (add a b) c ≡ add a (add b c)

@@ -7,6 +7,7 @@ use native.Mathlib.Omega.{arith}
 use borrow.Author.Tests.{not-true, not-false, leb-true, leb-false, eqb-true, eqb-false}
 use lib.Dec.{T, leb, eqb}
 use lib.ListN.{getD}
+use Rattle.whole.specs.Numbers.{allb}
 
 -- by how a test came out
 pub by : {P : Type 0} (b : Bool) → (b ≡ true → P) → (b ≡ false → P) → P
@@ -45,11 +46,6 @@ T-true {b = false} t = absurd t
 
 pub true-T : {b : Bool} → b ≡ true → T b
 true-T e = subst T (sym e) tt
-
--- several tests at once
-abbrev pub allb : List Bool → Bool
-allb [] = true
-allb (b ∷ bs) = b && allb bs
 
 -- each of several tests that held
 pub each-of : (bs : List Bool) → allb bs ≡ true → (i : ℕ) → getD bs i true ≡ true

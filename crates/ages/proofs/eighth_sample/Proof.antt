@@ -9,9 +9,8 @@ use mir.Val.{SFits, toZ, ofZ}
 use mir.Facts.{toZ-ofZ}
 use lib.IntN.{ℤ, natAbs}
 use Rattle.whole.specs.Words.{Bits, arg, cast, cast-ok, shr, loop, fit, is, ok-of}
-use Rattle.whole.specs.Running.{Running, run-start, run, run-ok}
-use Rattle.whole.specs.Floor.{floorDiv}
-use Rattle.whole.specs.Sums.{sum}
+use Rattle.whole.specs.Adding.{Added, run-start, run, run-ok}
+use Rattle.whole.specs.Numbers.{floorDiv, sum}
 use Rattle.rules.specs.Rules.{eighthSample}
 use Rattle.rules.specs.Hearing.{eighth-fits}
 use Rattle.ages.specs.Ages.{ago, ago-fits}
@@ -20,7 +19,7 @@ use Rattle.ages.proofs.eighth_sample.Tie as tie
 use Rattle.ages.proofs.back.Reads as back-reads
 
 abbrev Inv-loop : tie.InvT-loop
-Inv-loop s m sum₀ k₀ sum k = (k ≤ 8) × Running w32 (2 ^ 15) (ago s m) k sum
+Inv-loop s m sum₀ k₀ sum k = (k ≤ 8) × Added w32 (2 ^ 15) (ago s m) k sum
 
 abbrev μ-loop : tie.MeasureT-loop
 μ-loop s m sum₀ k₀ sum k = 8 - k

@@ -11,8 +11,7 @@ use mir.Syntax.{w64}
 use mir.Val.{toZ, ofZ}
 use mir.Facts.{toZ-ofZ}
 use Rattle.rules.specs.Rules.{Sound, D}
-use Rattle.ages.specs.Ages.{at}
-use Rattle.sums.specs.Kept.{Right}
+use Rattle.rules.specs.Facts.{valueAt, Right}
 use Rattle.finding.specs.Finding.{one-of}
 use Rattle.finding.proofs.distances.Statement.{statement}
 use Rattle.finding.proofs.distances.Tie as tie
@@ -41,8 +40,8 @@ shared-slice-copy-out-b c = omega (arith, c .before .before .before .before .bef
 
 -- the correlation read is the one kept
 kept : (c : tie.After-b Inv-loop μ-loop)
-    → toZ w64 (ofZ w64 (at (c .before .before .before .before .before .before .args .h .now) (c .before .before .before .loop .i)))
-    ≡ at (c .before .before .before .before .before .before .args .h .now) (c .before .before .before .loop .i)
+    → toZ w64 (ofZ w64 (valueAt (c .before .before .before .before .before .before .args .h .now) (c .before .before .before .loop .i)))
+    ≡ valueAt (c .before .before .before .before .before .before .args .h .now) (c .before .before .before .loop .i)
 kept c = toZ-ofZ {w = w64} (sfits-of (c .b .given))
 
 distance-requires : tie.Need-distance-requires Inv-loop μ-loop

@@ -7,8 +7,8 @@ use mathlib.Core.List.{List, _∷_, _++_}
 use Prim.Native.Nat.{ℕ, _+_, _*_, _≤_, _<_}
 use lib.ListN.{length, take, length-append, length-set}
 use lib.Seq.{length-take-le}
-use Rattle.text.specs.Text.{decimal, sampleFields}
-use Rattle.text.specs.Places.{Put, put-then, put-length, put-end}
+use Rattle.text.specs.Text.{decimal, sampleFields, Put}
+use Rattle.text.specs.Places.{put-then, put-length, put-end}
 use Rattle.text.specs.Spelling.{decimal-short, fields-short}
 use Rattle.lines.specs.Saying.{Written, kept, so-far, written-more, number-written, field-short, samples-short}
 use Rattle.lines.proofs.say_block.Statement.{statement}

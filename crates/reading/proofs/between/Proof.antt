@@ -9,7 +9,7 @@ use mir.Val.{SFits, toZ, ofZ}
 use mir.Facts.{toZ-ofZ}
 use lib.IntN.{ℤ, pos, _*ℤ_, _+ℤ_}
 use Rattle.whole.specs.Words.{Bits, arg, num, shr, fit, cast, cast-ok, add, add-ok, mul, mul-ok, ok-of}
-use Rattle.whole.specs.Floor.{floorDiv}
+use Rattle.whole.specs.Numbers.{floorDiv}
 use Rattle.rules.specs.Rules.{between}
 use Rattle.rules.specs.Position.{between-fits}
 use Rattle.reading.proofs.between.Statement.{statement}

@@ -11,7 +11,8 @@ use mir.Val.{toZ, ofZ}
 use mir.Facts.{toZ-ofZ}
 use Rattle.whole.specs.Tests.{yes-and-no, refused}
 use Rattle.rules.specs.Rules.{E}
-use Rattle.ages.specs.Ages.{at, ago}
+use Rattle.ages.specs.Ages.{ago}
+use Rattle.rules.specs.Facts.{valueAt}
 use Rattle.sums.specs.Direct.{E-squares}
 use Rattle.sums.specs.Sweep.{room-at, RightIn, right-all}
 use Rattle.sums.proofs.all_right.Statement.{statement}
@@ -82,7 +83,7 @@ loop-again c =
     let a = c .before .before .before .before .before .before .before .before .before .before .args in
     let l = c .before .before .before .before .before .before .before .loop in
     let r = c .before .before .correlation in
-    let z = at (a .h .now) (l .i) in (
+    let z = valueAt (a .h .now) (l .i) in (
       omega arith,
       c .one-lag-more .ensures ∙ ap (E (ago (a .s .now) (a .m))) (omega arith),
       below-more _ (l .i) (l .inv .2)

@@ -10,18 +10,18 @@ use mir.Syntax.{w16, w32, w64}
 use mir.Val.{toZ, ofZ}
 use mir.Facts.{toZ-ofZ}
 use Rattle.whole.specs.Words.{Bits, arg≤, lit, loop, cast, cast-ok, add, add-ok, mul, mul-ok, is}
-use Rattle.whole.specs.Running.{Running, run-start, run, run-ok}
-use Rattle.whole.specs.Sums.{sum}
-use Rattle.ages.specs.Ages.{at}
+use Rattle.whole.specs.Adding.{Added, run-start, run, run-ok}
+use Rattle.whole.specs.Numbers.{sum}
+use Rattle.rules.specs.Facts.{valueAt}
 use Rattle.sums.specs.Direct.{highOf, lowOf, parts, oldest-products}
 use Rattle.sums.proofs.correlation.Statement.{statement}
 use Rattle.sums.proofs.correlation.Tie as tie
 
 abbrev pair : List ℤ → ℕ → ℕ → ℕ → ℤ
-pair s to from k = at s (to + k) *ℤ at s (from + k)
+pair s to from k = valueAt s (to + k) *ℤ valueAt s (from + k)
 
 abbrev Inv-loop : tie.InvT-loop
-Inv-loop s m lag from to highs₀ lows₀ i₀ highs lows i = Running w32 16385 (λ (k : ℕ). highOf (pair s to from k)) i highs × Running w32 65536 (λ (k : ℕ). lowOf (pair s to from k)) i lows × (i ≤ lag)
+Inv-loop s m lag from to highs₀ lows₀ i₀ highs lows i = Added w32 16385 (λ (k : ℕ). highOf (pair s to from k)) i highs × Added w32 65536 (λ (k : ℕ). lowOf (pair s to from k)) i lows × (i ≤ lag)
 
 abbrev μ-loop : tie.MeasureT-loop
 μ-loop s m lag from to highs₀ lows₀ i₀ highs lows i = lag - i
@@ -77,7 +77,7 @@ module _ (c : tie.After-product Inv-loop μ-loop) where
   term =
       toZ-ofZ {w = w32} {z = c .product .result} (sfits-of (c .product .ok))
       ∙ c .product .ensures .0
-      ∙ (λ j. toZ-ofZ {w = w16} {z = at store (newer + turn)} (sfits-of (c .before .before .product-arg .given)) j *ℤ toZ-ofZ {w = w16} {z = at store (older + turn)} (sfits-of (c .before .product-arg2 .given)) j)
+      ∙ (λ j. toZ-ofZ {w = w16} {z = valueAt store (newer + turn)} (sfits-of (c .before .before .product-arg .given)) j *ℤ toZ-ofZ {w = w16} {z = valueAt store (older + turn)} (sfits-of (c .before .product-arg2 .given)) j)
 
 top : (c : tie.After-high-part Inv-loop μ-loop) → Bits w32 16385 (ofZ w32 (c .high-part .result)) (highOf (pair (store (c .before)) (newer (c .before)) (older (c .before)) (turn (c .before))))
 top c = is (c .high-part .ensures .0 ∙ ap highOf (term (c .before))) (arg≤ (c .high-part .ensures .1) (sfits-of (c .high-part .ok)))

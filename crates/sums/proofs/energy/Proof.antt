@@ -6,15 +6,16 @@ use native.Mathlib.Omega.{arith}
 use borrow.Author.Needs.{needs, sfits-of}
 use mir.Syntax.{w16}
 use mir.Facts.{toZ-ofZ}
-use Rattle.whole.specs.Sums.{total, adds, fold-zero, fold-step}
+use Rattle.whole.specs.Sums.{adds, fold-zero, fold-step}
+use Rattle.whole.specs.Numbers.{total}
+use Rattle.rules.specs.Facts.{valueAt}
 use Rattle.rules.specs.Rules.{sq}
-use Rattle.ages.specs.Ages.{at}
 use Rattle.sums.specs.Direct.{oldest-squares}
 use Rattle.sums.proofs.energy.Statement.{statement}
 use Rattle.sums.proofs.energy.Tie as tie
 
 abbrev Inv-loop : tie.InvT-loop
-Inv-loop s m count from sum₀ i₀ sum i = (sum ≡ total (λ (k : ℕ). sq (at s (from + k))) i) × (sum ≤ 2 ^ 30 * i) × (i ≤ count)
+Inv-loop s m count from sum₀ i₀ sum i = (sum ≡ total (λ (k : ℕ). sq (valueAt s (from + k))) i) × (sum ≤ 2 ^ 30 * i) × (i ≤ count)
 
 abbrev μ-loop : tie.MeasureT-loop
 μ-loop s m count from sum₀ i₀ sum i = count - i
@@ -50,15 +51,15 @@ loop-again : tie.Need-loop-again Inv-loop μ-loop
 loop-again c =
     let l = c .before .before .before .loop in
     let a = c .before .before .before .before .args in
-    let e : c .square .result ≡ sq (at (a .s .now) (a .m - a .count + l .i)) =
-    c .square .ensures .0 ∙ ap sq (toZ-ofZ {w = w16} {z = at (a .s .now) (a .m - a .count + l .i)} (sfits-of (c .before .square-arg .given)))
-    in ((λ j. l .inv .0 j + e j) ∙ sym (fold-step adds (λ (k : ℕ). sq (at (a .s .now) (a .m - a .count + k))) (l .i)), omega arith, omega arith)
+    let e : c .square .result ≡ sq (valueAt (a .s .now) (a .m - a .count + l .i)) =
+    c .square .ensures .0 ∙ ap sq (toZ-ofZ {w = w16} {z = valueAt (a .s .now) (a .m - a .count + l .i)} (sfits-of (c .before .square-arg .given)))
+    in ((λ j. l .inv .0 j + e j) ∙ sym (fold-step adds (λ (k : ℕ). sq (valueAt (a .s .now) (a .m - a .count + k))) (l .i)), omega arith, omega arith)
 
 returns : tie.Need-returns Inv-loop μ-loop
 returns c =
     let a = c .before .before .args in
     c .before .loop .inv .0
-    ∙ ap (total (λ (k : ℕ). sq (at (a .s .now) (a .m - a .count + k)))) (omega arith)
+    ∙ ap (total (λ (k : ℕ). sq (valueAt (a .s .now) (a .m - a .count + k)))) (omega arith)
     ∙ oldest-squares (a .s .now) (a .m) (a .count) (omega arith) (omega arith)
 
 pub energy-spec : {M : Type 1} → statement M

@@ -4,8 +4,7 @@ use native.Mathlib.Omega.{arith}
 use borrow.Author.Needs.{needs}
 use mathlib.Core.Path.{_≡_, sym, ap, _∙_}
 use Prim.Native.Nat.{ℕ, _+_}
-use Rattle.text.specs.Text.{places, digits, decimal}
-use Rattle.text.specs.Places.{put}
+use Rattle.text.specs.Text.{places, digits, decimal, put}
 use Rattle.text.specs.Spelling.{decimal-length}
 use Rattle.text.proofs.put_number.Statement.{statement}
 use Rattle.text.proofs.put_number.Tie as tie

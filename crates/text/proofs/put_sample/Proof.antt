@@ -8,9 +8,9 @@ use lib.IntN.{ℤ}
 use mir.Syntax.{w16}
 use mir.Val.{toZ, ofZ}
 use mir.Facts.{toZ-ofZ}
-use Rattle.text.specs.Text.{signed}
+use Rattle.text.specs.Text.{signed, Put}
 use lib.ListN.{length-set}
-use Rattle.text.specs.Places.{Put, put-byte, put-length}
+use Rattle.text.specs.Places.{put-byte, put-length}
 use Rattle.text.specs.Spelling.{signed-short}
 use Rattle.text.proofs.put_sample.Statement.{statement}
 use Rattle.text.proofs.put_sample.Tie as tie

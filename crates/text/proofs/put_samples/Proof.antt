@@ -12,8 +12,8 @@ use mir.Syntax.{w16}
 use mir.Val.{SFits, toZ, ofZ}
 use mir.Facts.{toZ-ofZ}
 use borrow.Author.Needs.{sfits-of}
-use Rattle.text.specs.Text.{sampleFields, signed}
-use Rattle.text.specs.Places.{Put, put-none, put-length}
+use Rattle.text.specs.Text.{sampleFields, signed, Put}
+use Rattle.text.specs.Places.{put-none, put-length}
 use Rattle.text.specs.Spelling.{fields-short, signed-short, fields-put}
 use Rattle.text.proofs.put_samples.Statement.{statement}
 use Rattle.text.proofs.put_samples.Tie as tie

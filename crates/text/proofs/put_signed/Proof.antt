@@ -10,8 +10,8 @@ use lib.ListN.{length, length-set}
 use mir.Syntax.{w16}
 use mir.Facts.{toZ-ofZ}
 use Rattle.whole.specs.Words.{arg, lit, lt-yes, lt-no}
-use Rattle.text.specs.Text.{decimal}
-use Rattle.text.specs.Places.{Put, put-byte, put-length}
+use Rattle.text.specs.Text.{decimal, Put}
+use Rattle.text.specs.Places.{put-byte, put-length}
 use Rattle.text.specs.Signs.{signed-below, signed-above}
 use Rattle.text.specs.Spelling.{decimal-short}
 use Rattle.text.proofs.put_signed.Statement.{statement}

@@ -10,7 +10,8 @@ use mir.Syntax.{w64}
 use mir.Val.{SFits, toZ, ofZ}
 use mir.Facts.{toZ-ofZ}
 use Rattle.whole.specs.Words.{arg, num, lit, ok-of, lt-yes, lt-no}
-use Rattle.whole.specs.Floor.{floorDiv, flip, flip-back, floor-neg, floor-pos}
+use Rattle.whole.specs.Floor.{flip, flip-back, floor-neg, floor-pos}
+use Rattle.whole.specs.Numbers.{floorDiv}
 use Rattle.tracking.proofs.floor_div.Statement.{statement}
 use Rattle.tracking.proofs.floor_div.Tie as tie
 

@@ -8,7 +8,7 @@ use mir.Syntax.{w64}
 use mir.Val.{toZ, ofZ}
 use mir.Facts.{toZ-ofZ}
 use Rattle.whole.specs.Words.{Bits, num, lit, add, add-ok, sub, sub-ok, mul, mul-ok}
-use Rattle.whole.specs.Floor.{floorDiv}
+use Rattle.whole.specs.Numbers.{floorDiv}
 use Rattle.rules.specs.Rules.{offset}
 use Rattle.rules.specs.Periods.{offset-within}
 use Rattle.tracking.proofs.vertex.Statement.{statement}

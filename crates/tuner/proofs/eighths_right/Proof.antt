@@ -5,12 +5,12 @@ use Prim.Native.Nat.{ℕ, _+_, _/_, _<_}
 use borrow.Author.Needs.{needs}
 use lib.IntN.{pos}
 use Rattle.whole.specs.Tests.{Decides, refused, passed, failed, decides-as}
-use Rattle.ages.specs.Ages.{at}
+use Rattle.rules.specs.Facts.{valueAt}
 use Rattle.tuner.specs.Goods.{silent-of, right-of}
 use Rattle.tuner.proofs.eighths_right.Statement.{statement}
 use Rattle.tuner.proofs.eighths_right.Tie as tie
 
-before-take : (c : tie.After-silent) → Decides (c .silent .result) ((i : ℕ) → i + c .before .before .before .args .count / 8 < 224 → at (c .before .before .before .args .y .now) i ≡ pos 0)
+before-take : (c : tie.After-silent) → Decides (c .silent .result) ((i : ℕ) → i + c .before .before .before .args .count / 8 < 224 → valueAt (c .before .before .before .args .y .now) i ≡ pos 0)
 before-take c = silent-of (c .before .before .before .args .y .now) 224 _ _ (c .before .before2 .ensures) (c .silent .ensures)
 
 before-requires : tie.Need-before-requires

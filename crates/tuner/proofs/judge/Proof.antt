@@ -20,7 +20,7 @@ good-here : (c : tie.Else1) → Good (c .before .before .args .t1)
 good-here c = passed (c .before .good2 .ensures) (c .if1 .left)
 
 fits-here : (c : tie.Else4) → let a = c .before .before .before .before .before .args in Fits (a .t1) (a .samples .now) (a .room)
-fits-here c = record { good = good-here (c .before .before .before); some = omega arith; most = omega arith; written = omega arith }
+fits-here c = record { good = good-here (c .before .before .before); nonempty = omega arith; most = omega arith; written = omega arith }
 
 returns : tie.Need-returns
 returns c = record-out-of-range (failed (c .before .good2 .ensures) (c .if1 .taken))

@@ -13,12 +13,12 @@ use mir.Syntax.{w16}
 use mir.Val.{toZ, ofZ}
 use mir.Facts.{toZ-ofZ}
 use Rattle.whole.specs.Tests.{refused, granted}
-use Rattle.ages.specs.Ages.{at}
+use Rattle.rules.specs.Facts.{valueAt}
 use Rattle.tuner.proofs.same.Statement.{statement}
 use Rattle.tuner.proofs.same.Tie as tie
 
 abbrev Inv-loop : tie.InvT-loop
-Inv-loop samples store from i₀ i = (i ≤ length samples) × ((k : ℕ) → k < i → at samples k ≡ at store (from + k))
+Inv-loop samples store from i₀ i = (i ≤ length samples) × ((k : ℕ) → k < i → valueAt samples k ≡ valueAt store (from + k))
 
 abbrev μ-loop : tie.MeasureT-loop
 μ-loop samples store from i₀ i = length samples - i
@@ -45,7 +45,7 @@ returns : tie.Need-returns Inv-loop μ-loop
 returns c =
     let l = c .before .before .before .before .loop in
     let a = c .before .before .before .before .before .args in
-    refused (λ e. c .if1 .taken (ap (ofZ w16) (ap (λ (xs : List ℤ). at xs (l .i)) e ∙ getD-drop (a .from) (a .store .now) (l .i) (pos 0))))
+    refused (λ e. c .if1 .taken (ap (ofZ w16) (ap (λ (xs : List ℤ). valueAt xs (l .i)) e ∙ getD-drop (a .from) (a .store .now) (l .i) (pos 0))))
 
 add-i : tie.Need-add-i Inv-loop μ-loop
 add-i c = omega arith

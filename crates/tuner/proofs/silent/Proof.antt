@@ -10,12 +10,12 @@ use mir.Syntax.{w16}
 use mir.Val.{toZ, ofZ}
 use mir.Facts.{toZ-ofZ}
 use Rattle.whole.specs.Tests.{refused, granted}
-use Rattle.ages.specs.Ages.{at}
+use Rattle.rules.specs.Facts.{valueAt}
 use Rattle.tuner.proofs.silent.Statement.{statement}
 use Rattle.tuner.proofs.silent.Tie as tie
 
 abbrev Inv-loop : tie.InvT-loop
-Inv-loop s n i₀ i = (i ≤ n) × ((k : ℕ) → k < i → at s k ≡ pos 0)
+Inv-loop s n i₀ i = (i ≤ n) × ((k : ℕ) → k < i → valueAt s k ≡ pos 0)
 
 abbrev μ-loop : tie.MeasureT-loop
 μ-loop s n i₀ i = n - i

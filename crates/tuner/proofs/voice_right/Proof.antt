@@ -6,12 +6,12 @@ use borrow.Author.Tests.{not-true, not-false}
 use borrow.Author.Needs.{needs}
 use lib.IntN.{pos}
 use Rattle.whole.specs.Tests.{Decides, yes-and-no, refused, granted, passed, failed, decides-as}
-use Rattle.ages.specs.Ages.{at}
+use Rattle.rules.specs.Facts.{valueAt}
 use Rattle.tuner.specs.Goods.{silent-of}
 use Rattle.tuner.proofs.voice_right.Statement.{statement}
 use Rattle.tuner.proofs.voice_right.Tie as tie
 
-before-take : (c : tie.After-silent) → Decides (c .silent .result) ((i : ℕ) → i + c .before .before .args .count < 1764 → at (c .before .before .args .s .now) i ≡ pos 0)
+before-take : (c : tie.After-silent) → Decides (c .silent .result) ((i : ℕ) → i + c .before .before .args .count < 1764 → valueAt (c .before .before .args .s .now) i ≡ pos 0)
 before-take c = silent-of (c .before .before .args .s .now) 1764 _ _ (c .before .before2 .ensures) (c .silent .ensures)
 
 before-requires : tie.Need-before-requires

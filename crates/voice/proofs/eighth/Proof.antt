@@ -12,7 +12,7 @@ use mir.Facts.{toZ-ofZ}
 use Rattle.rules.specs.Rules.{eighthSample}
 use Rattle.rules.specs.Hearing.{eighth-fits}
 use Rattle.ages.specs.Ages.{ago, ago-fits}
-use Rattle.sums.specs.Kept.{Room}
+use Rattle.sums.specs.Kept.{Enough}
 use Rattle.voice.specs.Eighths.{Eighths, put-room, put-older, put-eighths, put-silence, as-many}
 use Rattle.voice.proofs.eighth.Statement.{statement}
 use Rattle.voice.proofs.eighth.Tie as tie
@@ -63,7 +63,7 @@ next-all-requires c κs =
     let p = k .before .pre in
     let v = toZ w16 (ofZ w16 (k .eighth-sample .result)) in
     let n : 109 ≡ length (a .e .now) = sym (p .5 .sums .energies) in (
-      subst (Room (set (a .y .now) (a .places) v) (a .places + 1) 2) n (put-room (a .y .now) (a .places) v (p .5) (fits k) (p .3) (p .4)),
+      subst (Enough (set (a .y .now) (a .places) v) (a .places + 1) 2) n (put-room (a .y .now) (a .places) v (p .5) (fits k) (p .3) (p .4)),
       as-many n (put-older (a .y .now) (a .places) v (p .5) (fits k) (p .3) (p .4)),
     )
 

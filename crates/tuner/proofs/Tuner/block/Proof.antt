@@ -48,7 +48,7 @@ after-block-requires : tie.Need-after-block-requires
 after-block-requires c κs =
     let f = fits-here (c .before) in
     let a = c .before .before .before .args in
-    (f .good, f .some, f .most, verdict-zero (subst (λ (v : ℕ). Verdict (a .self) (a .number) (a .samples .now) (length (a .out .now)) v) (c .if2 .taken) (c .before .before .judge .ensures)))
+    (f .good, f .nonempty, f .most, verdict-zero (subst (λ (v : ℕ). Verdict (a .self) (a .number) (a .samples .now) (length (a .out .now)) v) (c .if2 .taken) (c .before .before .judge .ensures)))
 
 give-requires : tie.Need-give-requires
 give-requires c κs =

@@ -3,7 +3,8 @@
 use mathlib.Core.Path.{refl}
 use borrow.Author.Needs.{needs}
 use Rattle.whole.specs.Tests.{passed, failed}
-use Rattle.tuner.specs.Meters.{record-out-of-range, read, readable}
+use Rattle.tuner.specs.Meters.{record-out-of-range, read}
+use Rattle.tuner.specs.Metering.{readable}
 use Rattle.tuner.proofs.Tuner.meter.Statement.{statement}
 use Rattle.tuner.proofs.Tuner.meter.Tie as tie
 

@@ -9,8 +9,8 @@ use Rattle.tuner.proofs.Tuner.reset.Tie as tie
 good-requires : tie.Need-good-requires
 good-requires c κs = search needs
 
-fresh-requires : tie.Need-fresh-requires
-fresh-requires c κs = search needs
+fresh-tuner-requires : tie.Need-fresh-tuner-requires
+fresh-tuner-requires c κs = search needs
 
 plain-requires : tie.Need-plain-requires
 plain-requires c κs = search needs
@@ -21,7 +21,7 @@ returns c =
     record {
       number = 0;
       verdict = begun-again (g .before .good2 .ensures .yes (g .if1 .taken));
-      tuner = c .before .fresh .ensures;
+      tuner = c .before .fresh-tuner .ensures;
       answer = c .plain .ensures;
     }
 
@@ -40,4 +40,4 @@ returns-2 c =
 pub reset-spec : {M : Type 1} → statement M
 reset-spec =
     tie.close
-    (tie.spec good-requires fresh-requires plain-requires returns plain-requires-2 returns-2)
+    (tie.spec good-requires fresh-tuner-requires plain-requires returns plain-requires-2 returns-2)
