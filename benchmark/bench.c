@@ -10,7 +10,7 @@
 
    Of two runs with different COUNT the counts of executed instructions differ by the calls alone: the sound is always made whole, and the sum
    always taken over a minute. */
-#include "library.h"
+#include "daxfolin.h"
 #include "plain.h"
 #include "sounds.h"
 
@@ -22,8 +22,10 @@ int getrusage(int, void *);
 enum { MINUTE = 60 * 44100 };
 static int16_t in[MINUTE], out[MINUTE];
 
-static daxfolin_tuner tuner;
+static daxfolin_record tuner;
 static plain_tuner plain;
+static uint16_t number;
+static uint64_t repeated, dropped, failures, checked;
 
 /* An answer, as both programs give it. */
 typedef plain_answer answer;
@@ -35,7 +37,7 @@ typedef struct {
     answer (*block)(uint16_t, const int16_t *, size_t, int16_t *, size_t);
 } program;
 
-static void library_start(void) { daxfolin_start_default(&tuner); }
+static void library_start(void) { failures += daxfolin_start_default(&tuner) != DAXFOLIN_TAKEN; }
 
 static answer library_block(uint16_t number, const int16_t *samples, size_t n, int16_t *to, size_t room)
 {
@@ -51,12 +53,9 @@ static answer plain_take(uint16_t number, const int16_t *samples, size_t n, int1
 }
 
 static const program programs[2] = {
-    {"library", sizeof(daxfolin_tuner), library_start, library_block},
+    {"library", sizeof(daxfolin_record), library_start, library_block},
     {"plain", sizeof(plain_tuner), plain_start, plain_take},
 };
-
-static uint16_t number;
-static uint64_t repeated, dropped, failures, checked;
 
 static void take(const program *p, size_t from, size_t to, size_t block)
 {

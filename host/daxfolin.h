@@ -4,8 +4,10 @@
  * does nothing undefined, and answers as said here. It takes no memory of its own but under 32 KB of stack, has no state outside the
  * record, and calls nothing but memcpy and memset. The archive is for x86-64 Linux:
  *
- *     rt staticlib host                             makes target/staticlib/libhost.a
- *     cc -std=c11 program.c target/staticlib/libhost.a
+ *     tools/library                                 proves it and writes target/staticlib/libhost.a
+ *     cc -std=c11 -Ihost program.c target/staticlib/libhost.a
+ *
+ * or host/build program.c OUT for both, also where the processor is another one (docs/HOST.md).
  *
  * What the proof takes for granted of the caller, as C cannot say it:
  * - a record is lent at an address that is a multiple of 8, all its 6928 bytes readable and, but for daxfolin_meter, writable;
@@ -23,10 +25,12 @@
 extern "C" {
 #endif
 
-#define DAXFOLIN_VERSION 2u       /* of these calls: what daxfolin_version() answers */
-#define DAXFOLIN_LONGEST_BLOCK 512u
+#define DAXFOLIN_VERSION 2u                /* of these calls: what daxfolin_version() answers */
+#define DAXFOLIN_LONGEST_BLOCK 512u        /* samples of a block */
+#define DAXFOLIN_LONGEST_TAKE 1000000000u  /* samples of a take */
 
-/* The answers. After 2 to 9 the record is as it was, and so is every sample of the output. */
+/* The answers. After 2 to 9 the record is as it was, and so is every sample of the output; but a start that is refused (8) leaves
+ * the default tuner in the record, and what that held is gone. */
 enum {
     DAXFOLIN_TAKEN = 0,                /* taken: start, change, block or reset */
     DAXFOLIN_GIVEN_AGAIN = 1,          /* the last block's number, length and samples: the same counts and output again, record unchanged */
@@ -36,7 +40,7 @@ enum {
     DAXFOLIN_NUMBER_NEITHER = 5,       /* neither the next number nor the last taken */
     DAXFOLIN_OTHER_SAMPLES = 6,        /* the last taken number, other length or samples */
     DAXFOLIN_TAKE_FULL = 7,            /* the take would pass 1,000,000,000 samples */
-    DAXFOLIN_SETTING_OUT_OF_RANGE = 8, /* scale 0 is */
+    DAXFOLIN_SETTING_OUT_OF_RANGE = 8, /* scale 0 is; a change leaves the record as it was, a start the default tuner */
     DAXFOLIN_RECORD_OUT_OF_RANGE = 9   /* a number of the record is out of its range (docs/RANGES.md), or `tracking` over 1 */
 };
 
@@ -117,7 +121,7 @@ DAXFOLIN_SAME(sizeof(size_t), 8);
 /* The version of these calls: DAXFOLIN_VERSION. */
 uint32_t daxfolin_version(void);
 
-/* A fresh tuner. 0; or 8, and the record is the default tuner. */
+/* A fresh tuner with these settings. 0; or 8, and the record is not as it was: it is the default tuner. */
 uint32_t daxfolin_start(daxfolin_record *record, daxfolin_settings settings);
 
 /* A fresh tuner with the default settings. 0. */

@@ -1,41 +1,105 @@
 /* Tunes a raw recording: mono, 16-bit signed samples, low byte first, 44,100 a second.
  *
- *     cc -std=c11 -Ihost host/example.c target/staticlib/libhost.a -o example
- *     ./example sung.raw tuned.raw
- */
+ *     host/build host/example.c target/example
+ *     tools/run target/example sung.raw tuned.raw
+ *
+ * The whole take is read and tuned before OUT is opened, so OUT may be IN, and OUT is as it was where the take is refused.
+ * Status 0; 1 where a file cannot be read, tuned or written; 2 where the words are wrong. */
 #include "daxfolin.h"
+#include <errno.h>
 #include <stdio.h>
+#include <stdlib.h>
+#include <string.h>
 
-static int fail(const char *what) {
-    fprintf(stderr, "example: %s\n", what);
+static const char usage[] = "usage: example IN OUT\n"
+                            "Tunes IN, raw samples (mono, 16 bits, low byte first, 44,100 a second), to the nearest notes, and writes OUT.\n";
+
+static int fail(const char *file, const char *what) {
+    fprintf(stderr, "example: %s: %s\n", file, what);
     return 1;
 }
 
+static void *no(const char *file, const char *what) {
+    fail(file, what);
+    return NULL;
+}
+
+/* All samples of a file, which the caller frees; or NULL, and why is said. */
+static int16_t *read_all(const char *file, size_t *count) {
+    FILE *in = fopen(file, "rb");
+    if (!in) return no(file, strerror(errno));
+    unsigned char *bytes = NULL;
+    size_t size = 0, room = 0, n;
+    const char *why = NULL;
+    do {
+        if (size == room) {
+            room = room ? 2 * room : 1 << 16;
+            unsigned char *more = realloc(bytes, room);
+            if (!more) {
+                why = "no memory for so many samples";
+                break;
+            }
+            bytes = more;
+        }
+        n = fread(bytes + size, 1, room - size, in);
+        size += n;
+    } while (n > 0 && size <= 2 * (size_t)DAXFOLIN_LONGEST_TAKE);
+    if (ferror(in)) why = strerror(errno);
+    fclose(in);
+    if (!why && size == 0) why = "no samples in it";
+    if (!why && size % 2) why = "an odd number of bytes: its last sample is cut in two";
+    if (!why && size > 2 * (size_t)DAXFOLIN_LONGEST_TAKE) why = "more than 1,000,000,000 samples";
+    if (why) {
+        free(bytes);
+        return no(file, why);
+    }
+    *count = size / 2;
+    return (int16_t *)bytes;
+}
+
+static int write_all(const char *file, const int16_t *samples, size_t count) {
+    FILE *to = fopen(file, "wb");
+    if (!to) return fail(file, strerror(errno));
+    if (fwrite(samples, sizeof *samples, count, to) != count) {
+        int why = errno;
+        fclose(to);
+        return fail(file, strerror(why));
+    }
+    if (fclose(to)) return fail(file, strerror(errno));
+    return 0;
+}
+
 int main(int argc, char **argv) {
-    if (argc != 3) return fail("usage: example IN OUT");
-    FILE *in = fopen(argv[1], "rb"), *to = fopen(argv[2], "wb");
-    if (!in || !to) return fail("cannot open the files");
+    if (argc == 2 && !strcmp(argv[1], "--help")) return fputs(usage, stdout) < 0 || fflush(stdout) ? 1 : 0;
+    if (argc != 3) {
+        fputs(usage, stderr);
+        return 2;
+    }
+    if (daxfolin_version() != DAXFOLIN_VERSION) return fail("libhost.a", "another version than daxfolin.h");
+
+    size_t count;
+    int16_t *take = read_all(argv[1], &count);
+    if (!take) return 1;
 
     static daxfolin_record tuner;
-    int16_t samples[DAXFOLIN_LONGEST_BLOCK], tuned[DAXFOLIN_LONGEST_BLOCK];
-    unsigned long total = 0, repeated = 0, dropped = 0;
-    uint16_t number = 0;
-    size_t n;
-
-    if (daxfolin_version() != DAXFOLIN_VERSION) return fail("another version of the library");
-    daxfolin_start_default(&tuner);
-    while ((n = fread(samples, sizeof *samples, DAXFOLIN_LONGEST_BLOCK, in)) > 0) {
-        daxfolin_answer answer = daxfolin_block(&tuner, number++, samples, n, tuned, n);
-        if (answer.number != DAXFOLIN_TAKEN) return fail("a block is refused");
-        if (fwrite(tuned, sizeof *tuned, n, to) != n) return fail("cannot write");
-        total += answer.written;
+    unsigned long repeated = 0, dropped = 0;
+    if (daxfolin_start_default(&tuner) != DAXFOLIN_TAKEN) return fail(argv[1], "the tuner does not start");
+    daxfolin_stretch part;
+    for (size_t k = 0; (part = daxfolin_cut(count, k)).count > 0; k++) {
+        int16_t tuned[DAXFOLIN_LONGEST_BLOCK];
+        daxfolin_answer answer = daxfolin_block(&tuner, (uint16_t)k, take + part.from, part.count, tuned, part.count);
+        if (answer.number != DAXFOLIN_TAKEN) return fail(argv[1], "a block is refused");
+        memcpy(take + part.from, tuned, part.count * sizeof *tuned);
         repeated += answer.repeated;
         dropped += answer.dropped;
     }
-    if (fclose(to)) return fail("cannot write");
+    if (write_all(argv[2], take, count)) return 1;
+    free(take);
+
     daxfolin_shown meter = daxfolin_meter(&tuner);
-    printf("%lu samples, %lu cycles repeated, %lu dropped; ", total, repeated, dropped);
+    printf("%zu samples, %lu cycles repeated, %lu dropped; ", count, repeated, dropped);
     if (meter.state == DAXFOLIN_PITCHED) printf("period %.3f, wanted %.3f, rate %.5f\n", meter.period, meter.wanted, meter.rate);
     else printf("%s\n", meter.state == DAXFOLIN_LOCKING ? "locking" : "searching");
+    if (fflush(stdout)) return fail("standard output", strerror(errno));
     return 0;
 }

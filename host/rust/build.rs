@@ -1,4 +1,4 @@
-//! Links the archive that `rt staticlib host` makes: from the folder DAXFOLIN_LIB, or from the repository's target/staticlib.
+//! Links the archive that `tools/library` makes: from the folder DAXFOLIN_LIB, or from the repository's target/staticlib.
 
 use std::path::PathBuf;
 
@@ -16,7 +16,7 @@ fn main() {
     let archive = folder.join("libhost.a");
     assert!(
         archive.is_file(),
-        "no {}: run `rt staticlib host`, or set DAXFOLIN_LIB to its folder",
+        "no {}: run `tools/library` (rt staticlib host), or set DAXFOLIN_LIB to its folder",
         archive.display()
     );
     println!("cargo:rerun-if-changed={}", archive.display());

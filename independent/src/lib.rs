@@ -15,6 +15,7 @@ pub mod settings;
 pub mod statistics;
 pub mod table;
 pub mod tuner;
+pub mod words;
 
 #[cfg(test)]
 mod spoiled;

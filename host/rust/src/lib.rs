@@ -29,8 +29,10 @@ pub const LONGEST_BLOCK: usize = 512;
 pub const TAKEN: u32 = 0;
 /// The last block's number, length and samples: the same counts and output again, the record unchanged.
 pub const GIVEN_AGAIN: u32 = 1;
-/// From here to 9 a call is refused: the record and the output are as they were.
+/// The block has no samples. From here to 9 a call is refused: the record and the output are as they were, but for a start, which
+/// hands back the default tuner beside 8.
 pub const BLOCK_EMPTY: u32 = 2;
+/// The block has more than 512 samples.
 pub const BLOCK_OVER_512: u32 = 3;
 /// The output is shorter than the block.
 pub const OUTPUT_SHORT: u32 = 4;
@@ -40,7 +42,7 @@ pub const NUMBER_NEITHER: u32 = 5;
 pub const OTHER_SAMPLES: u32 = 6;
 /// The take would pass 1,000,000,000 samples.
 pub const TAKE_FULL: u32 = 7;
-/// A setting is out of its range; scale 0 is.
+/// A setting is out of its range; scale 0 is. A change leaves the record as it was, a start hands back the default tuner.
 pub const SETTING_OUT_OF_RANGE: u32 = 8;
 /// A number of the record is out of its range.
 pub const RECORD_OUT_OF_RANGE: u32 = 9;
@@ -177,7 +179,7 @@ impl Record {
         }
     }
 
-    /// A fresh tuner and 0, or the default tuner beside 8.
+    /// A fresh tuner with these settings and 0; or, where a setting is out of its range, the default tuner beside 8.
     pub fn start(settings: Settings) -> (u32, Record) {
         let mut record = Record::blank();
         // SAFETY: the record is a reference's.

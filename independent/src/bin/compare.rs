@@ -4,9 +4,12 @@
 use independent::comparison::{compare, Equal, Host, Unequal};
 use independent::generator::kinds::KINDS;
 use independent::generator::script::script;
+use independent::words::{words, wrong};
 use std::ops::RangeInclusive;
 use std::process::ExitCode;
 use std::time::Instant;
+
+const USAGE: &str = "compare [--waiting] FIRST_SEED SEEDS SAMPLES -- COMMAND ARG..";
 
 struct Task {
     host: Host,
@@ -37,10 +40,8 @@ fn task(arguments: &[String]) -> Option<Task> {
 }
 
 fn main() -> ExitCode {
-    let arguments: Vec<String> = std::env::args().skip(1).collect();
-    let Some(task) = task(&arguments) else {
-        eprintln!("usage: compare [--waiting] FIRST_SEED SEEDS SAMPLES -- COMMAND ARG..");
-        return ExitCode::from(2);
+    let Some(task) = task(&words(USAGE)) else {
+        wrong(USAGE)
     };
     let began = Instant::now();
     let mut all = Equal::default();

@@ -4,11 +4,15 @@
 use independent::generator::kinds::{kind_named, KINDS};
 use independent::generator::script::write_script;
 use independent::rules::LONGEST_BLOCK;
+use independent::words::{words, wrong};
 use std::io::{self, BufWriter};
 use std::process::ExitCode;
 
+const USAGE: &str = "generate KIND SEED SAMPLES [LENGTH of blocks, 1 to 512]
+       generate --kinds";
+
 fn main() -> ExitCode {
-    let arguments: Vec<String> = std::env::args().skip(1).collect();
+    let arguments = words(USAGE);
     let written = match arguments.iter().map(String::as_str).collect::<Vec<_>>()[..] {
         ["--kinds"] => {
             for kind in KINDS {
@@ -26,11 +30,7 @@ fn main() -> ExitCode {
             eprintln!("generate: {error}");
             ExitCode::FAILURE
         }
-        None => {
-            eprintln!("usage: generate KIND SEED SAMPLES [LENGTH of blocks, 1 to 512]");
-            eprintln!("       generate --kinds");
-            ExitCode::from(2)
-        }
+        None => wrong(USAGE),
     }
 }
 

@@ -1,18 +1,17 @@
 //! `lines [--statistics]`: the line program, standard input to standard output.
 
 use independent::lines::Program;
+use independent::words::{words, wrong};
 use std::io::{self, Read, Write};
 use std::process::ExitCode;
 
+const USAGE: &str = "lines [--statistics]";
+
 fn main() -> ExitCode {
-    let arguments: Vec<String> = std::env::args().skip(1).collect();
-    let statistics = match arguments.as_slice() {
+    let statistics = match words(USAGE).as_slice() {
         [] => false,
         [switch] if switch == "--statistics" => true,
-        _ => {
-            eprintln!("usage: lines [--statistics]");
-            return ExitCode::from(2);
-        }
+        _ => wrong(USAGE),
     };
     match run(statistics) {
         Ok(()) => ExitCode::SUCCESS,

@@ -3,14 +3,21 @@
 
 use independent::play::{play, script, RECORD};
 use independent::tuner::Tuner;
+use independent::words::{words, wrong};
 use std::io::{Read, Write};
+
+const USAGE: &str = "play [--script]";
 
 fn main() {
     let mut out = std::io::stdout().lock();
-    if std::env::args().any(|word| word == "--script") {
-        out.write_all(&script())
-            .expect("standard output takes the script");
-        return;
+    match words(USAGE).as_slice() {
+        [] => {}
+        [switch] if switch == "--script" => {
+            return out
+                .write_all(&script())
+                .expect("standard output takes the script");
+        }
+        _ => wrong(USAGE),
     }
     let mut bytes = Vec::new();
     std::io::stdin()

@@ -5,7 +5,10 @@ use independent::generator::cases::sung;
 use independent::rules::LONGEST_BLOCK;
 use independent::statistics::Statistics;
 use independent::tuner::{Answer, Tuner};
+use independent::words::{words, wrong};
 use std::io::{Read, Write};
+
+const USAGE: &str = "raw [--sung]";
 
 fn main() {
     let bytes_of = |samples: &[i16]| -> Vec<u8> {
@@ -15,10 +18,14 @@ fn main() {
             .collect()
     };
     let mut out = std::io::stdout().lock();
-    if std::env::args().any(|word| word == "--sung") {
-        out.write_all(&bytes_of(&sung()))
-            .expect("standard output takes the take");
-        return;
+    match words(USAGE).as_slice() {
+        [] => {}
+        [switch] if switch == "--sung" => {
+            return out
+                .write_all(&bytes_of(&sung()))
+                .expect("standard output takes the take");
+        }
+        _ => wrong(USAGE),
     }
     let mut bytes = Vec::new();
     std::io::stdin()

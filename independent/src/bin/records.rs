@@ -8,9 +8,12 @@
 
 use independent::generator::cases::Cases;
 use independent::record::{made, Call, Left, Record, SIZE};
+use independent::words::{words, wrong};
 use std::collections::BTreeMap;
 use std::io::{Read, Write};
 use std::process::{Command, Stdio};
+
+const USAGE: &str = "records CASES SEED PROGRAM WORDS..";
 
 fn asked(bytes: &[u8; SIZE], call: &Call) -> Vec<u8> {
     let mut words = [0u32; 8];
@@ -93,13 +96,12 @@ fn name(call: &Call) -> &'static str {
 }
 
 fn main() {
-    let words: Vec<String> = std::env::args().skip(1).collect();
-    let usage = "usage: records CASES SEED PROGRAM WORDS..";
+    let words = words(USAGE);
     let [cases, seed, program, rest @ ..] = &words[..] else {
-        panic!("{usage}")
+        wrong(USAGE)
     };
-    let cases: u64 = cases.parse().expect(usage);
-    let mut source = Cases::seeded(seed.parse().expect(usage));
+    let whole = |word: &String| word.parse::<u64>().unwrap_or_else(|_| wrong(USAGE));
+    let (cases, mut source) = (whole(cases), Cases::seeded(whole(seed)));
     let mut other = Command::new(program)
         .args(rest)
         .stdin(Stdio::piped())

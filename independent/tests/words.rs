@@ -1,0 +1,43 @@
+//! What the commands say of their words.
+
+use std::process::{Command, Output, Stdio};
+
+const COMMANDS: [(&str, &str); 7] = [
+    ("compare", env!("CARGO_BIN_EXE_compare")),
+    ("generate", env!("CARGO_BIN_EXE_generate")),
+    ("lines", env!("CARGO_BIN_EXE_lines")),
+    ("night", env!("CARGO_BIN_EXE_night")),
+    ("play", env!("CARGO_BIN_EXE_play")),
+    ("raw", env!("CARGO_BIN_EXE_raw")),
+    ("records", env!("CARGO_BIN_EXE_records")),
+];
+
+fn run(program: &str, words: &[&str]) -> Output {
+    let mut command = Command::new(program);
+    command.args(words).stdin(Stdio::null());
+    command.output().expect("the command starts")
+}
+
+fn begins(said: &[u8], name: &str) -> bool {
+    String::from_utf8_lossy(said).starts_with(&format!("usage: {name}"))
+}
+
+#[test]
+fn help_is_the_usage_on_standard_output() {
+    for (name, program) in COMMANDS {
+        let output = run(program, &["--help"]);
+        assert_eq!(output.status.code(), Some(0), "{name}");
+        assert!(begins(&output.stdout, name), "{name}");
+        assert!(output.stderr.is_empty(), "{name}");
+    }
+}
+
+#[test]
+fn wrong_words_are_status_2_and_the_usage_on_standard_error() {
+    for (name, program) in COMMANDS {
+        let output = run(program, &["such", "words", "are", "not", "taken"]);
+        assert_eq!(output.status.code(), Some(2), "{name}");
+        assert!(output.stdout.is_empty(), "{name}");
+        assert!(begins(&output.stderr, name), "{name}");
+    }
+}
