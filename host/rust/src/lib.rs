@@ -24,6 +24,8 @@ use std::fmt;
 pub const VERSION: u32 = 2;
 /// The most samples of a block.
 pub const LONGEST_BLOCK: usize = 512;
+/// The most samples of a take.
+pub const LONGEST_TAKE: u32 = 1_000_000_000;
 
 /// Taken: a start, a change, a block or a reset.
 pub const TAKEN: u32 = 0;
