@@ -87,8 +87,8 @@ fn serve(t: Tuner, input: &[u8], out: &mut [u8]) -> Served
         let n = r.length;
         if !write_out(&out[..n]) {
             return Served {
-                tuner: u,
-                at: at,
+                tuner: t,
+                at: 0,
                 written: false,
             };
         }

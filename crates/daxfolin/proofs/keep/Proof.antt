@@ -80,7 +80,7 @@ add-b : tie.Need-add-b Inv-loop μ-loop
 add-b c = omega (arith, room c)
 
 slice-read-b : tie.Need-slice-read-b Inv-loop μ-loop
-slice-read-b c = room (c .before)
+slice-read-b c = omega (arith, room (c .before))
 
 slice-write-buf : tie.Need-slice-write-buf Inv-loop μ-loop
 slice-write-buf c = omega (arith, room (c .before))

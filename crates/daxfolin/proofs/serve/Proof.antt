@@ -15,10 +15,10 @@ use Rattle.daxfolin.proofs.serve.Statement.{statement}
 use Rattle.daxfolin.proofs.serve.Tie as tie
 
 abbrev Inv-loop : tie.InvT-loop
-Inv-loop input out₀ u₀ at₀ moved₀ out u at moved = ServedSoFar u₀ input u at moved × (length out ≡ length out₀)
+Inv-loop t input out₀ u₀ at₀ moved₀ out u at moved = ServedSoFar t input u at moved × (length out ≡ length out₀)
 
 abbrev μ-loop : tie.MeasureT-loop
-μ-loop input out₀ u₀ at₀ moved₀ out u at moved = length input - at + cond moved 1 0
+μ-loop t input out₀ u₀ at₀ moved₀ out u at moved = length input - at + cond moved 1 0
 
 -- where lines are answered: within the input and the output
 module _ (c : tie.After-answer-lines Inv-loop μ-loop) where
