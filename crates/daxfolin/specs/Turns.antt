@@ -26,13 +26,13 @@ pub data Turned (t : Tuner) (held : List ℕ) : List (List ℕ) → Tuner → Li
   nothing-read : Turned t held [] t held
   read-once : (new : List ℕ) {at : ℕ} {t′ : Tuner} {text : List ℕ} → AllServed t (held ++ new) t′ at text → Turned t held (new ∷ []) t′ (heldOf (drop at (held ++ new)))
 
--- what was read is answered; or a write failed, there is no more to read, and all is as it was
+-- what was read is answered; or a write failed, so that there is no more to read, and all is as it was
 pub record Answers (t : Tuner) (held new : List ℕ) (r : Turn) (buf′ : List ℕ) : Type 0 where
   pub few : r .held ≤ 8193
   pub turned : Turned t held (cond (r .more) (new ∷ []) []) (r .tuner) (take (r .held) buf′)
 
--- a turn, whatever came of the read
-pub record Turns (t : Tuner) (held : List ℕ) (r : Turn) (buf′ : List ℕ) : Type 0 where
+-- one turn, whatever came of the read
+pub record OneTurn (t : Tuner) (held : List ℕ) (r : Turn) (buf′ : List ℕ) : Type 0 where
   pub few : r .held ≤ 8193
   pub reads : List (List ℕ)
   pub turned : Turned t held reads (r .tuner) (take (r .held) buf′)

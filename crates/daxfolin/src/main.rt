@@ -4,7 +4,7 @@ ghost use Prim.Native.Nat.{_+_, _≤_, _<_};
 ghost use lib.ListN.{length, take, drop};
 ghost use mathlib.Core.Path.{_≡_};
 ghost use mathlib.Core.Bool.{true};
-ghost use Rattle.daxfolin.specs.Turns.{Kept, Serves, Answers, Turns, Working, Finishes};
+ghost use Rattle.daxfolin.specs.Turns.{Kept, Serves, Answers, OneTurn, Working, Finishes};
 use libc::STDIN_FILENO;
 use libc::STDOUT_FILENO;
 use libc::types::timespec;
@@ -147,7 +147,7 @@ fn answer_read(t: Tuner, buf: &mut [u8], held: usize, read: usize, out: &mut [u8
 // Reads once, after the bytes that are held, and answers.
 fn one_turn(t: Tuner, buf: &mut [u8], held: usize, out: &mut [u8]) -> Turn
     requires { ⌜ (held ≤ 8193) × (8193 < length (now buf)) × (4096 ≤ length (now out)) ⌝ }
-    ensures { λ r. ⌜ Turns t (take held (now (buf .entry))) r (now (buf .exit)) ⌝ }
+    ensures { λ r. ⌜ OneTurn t (take held (now (buf .entry))) r (now (buf .exit)) ⌝ }
 {
     let got = libc::read(STDIN_FILENO, &mut buf[held..]);
     if got < 0 {
@@ -186,7 +186,7 @@ fn last_line(t: Tuner, held: &[u8], out: &mut [u8]) -> usize
     r.length
 }
 
-// At the end of the input: some writes fail only when the output is closed.
+// Writes what the end of the input answers, and closes the output: some writes fail only then.
 fn finish(t: Tuner, held: &[u8], out: &mut [u8])
     requires { ⌜ Working t (now held) × (4096 ≤ length (now out)) ⌝ }
 {

@@ -22,7 +22,9 @@ fn main() -> ExitCode {
     let ran = match (words, command) {
         (_, []) => None,
         ([case, line, texts @ ..], _) if case == "late" => Some(input(line, texts, false, command)),
-        ([case, line, texts @ ..], _) if case == "broken" => Some(input(line, texts, true, command)),
+        ([case, line, texts @ ..], _) if case == "broken" => {
+            Some(input(line, texts, true, command))
+        }
         ([case], _) if case == "slow" => Some(slow(command)),
         _ => None,
     };
@@ -49,7 +51,10 @@ fn started(command: &[String], input: Stdio, output: Stdio) -> io::Result<Child>
 
 fn ended(mut child: Child) -> io::Result<u8> {
     let status = child.wait()?;
-    Ok(status.code().and_then(|code| u8::try_from(code).ok()).unwrap_or(255))
+    Ok(status
+        .code()
+        .and_then(|code| u8::try_from(code).ok())
+        .unwrap_or(255))
 }
 
 /// A read of an empty socket that must not wait finds nothing ready.

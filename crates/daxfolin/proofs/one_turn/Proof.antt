@@ -10,7 +10,7 @@ use lib.ListN.{length, take}
 use lib.Seq.{take-at, length-take-le}
 use Rattle.tuner.specs.declared.Tuner.{Tuner}
 use Rattle.daxfolin.specs.declared.Turn.{Turn}
-use Rattle.daxfolin.specs.Turns.{Turned, nothing-read, Answers, Turns}
+use Rattle.daxfolin.specs.Turns.{Turned, nothing-read, Answers, OneTurn}
 use Rattle.daxfolin.proofs.one_turn.Statement.{statement}
 use Rattle.daxfolin.proofs.one_turn.Tie as tie
 
@@ -21,7 +21,7 @@ held-stays buf held after h = take-at (take held buf) after held (length-take-le
 as-before : {t : Tuner} (buf : List ℕ) (held : ℕ) (after : List ℕ) → held ≤ length buf → Turned t (take held buf) [] t (take held (take held buf ++ after))
 as-before {t} buf held after h = subst (λ (l : List ℕ). Turned t (take held buf) [] t l) (sym (held-stays buf held after h)) nothing-read
 
-answered : {t : Tuner} (buf : List ℕ) (held : ℕ) (after : List ℕ) {new : List ℕ} {r : Turn} {buf′ : List ℕ} → held ≤ length buf → Answers t (take held (take held buf ++ after)) new r buf′ → Turns t (take held buf) r buf′
+answered : {t : Tuner} (buf : List ℕ) (held : ℕ) (after : List ℕ) {new : List ℕ} {r : Turn} {buf′ : List ℕ} → held ≤ length buf → Answers t (take held (take held buf ++ after)) new r buf′ → OneTurn t (take held buf) r buf′
 answered {t} buf held after {new} {r} {buf′} h a =
     let reads = cond (r .more) (new ∷ []) [] in
     record { few = a .few; reads = reads; turned = subst (λ (l : List ℕ). Turned t l reads (r .tuner) (take (r .held) buf′)) (held-stays buf held after h) (a .turned) }
