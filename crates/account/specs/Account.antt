@@ -1,5 +1,5 @@
 -- The account: what holds after any series of calls. Definitions only, and two statements (`Theorem`, `SentAgain`); their proofs are `holds` and `again-holds` in Holds.antt.
--- To believe it, read the rules (rules: Rules.antt; the pieces of Accounts.antt; `InBounds` of Position.antt), `Right` (sums: Kept.antt) and the promises of the calls (tuner: Tuners.antt, Meters.antt).
+-- README lists what is to be read before it.
 use mathlib.Core.Path.{_≡_}
 use mathlib.Core.Bool.{true, cond}
 use mathlib.Core.List.{List, [], _∷_, _++_}
