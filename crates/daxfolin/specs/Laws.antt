@@ -1,8 +1,7 @@
 -- Laws of lines served batch after batch, and of turns one after the other.
 use mathlib.Core.Path.{_≡_, refl, sym, ap, _∙_, subst}
 use mathlib.Core.Bool.{Bool, true, false}
-use mathlib.Core.List.{List, [], _∷_, _++_, append-nil, append-assoc}
-use mathlib.Core.Logic.{⊎-elim}
+use mathlib.Core.List.{List, [], _∷_, _++_}
 use Prim.Native.Nat.{ℕ, _+_, _-_, _≤_}
 use native.Mathlib.Omega.{arith}
 use borrow.Author.Tests.{ltb-false}
@@ -14,16 +13,12 @@ use Rattle.rules.specs.Rules.{defaults}
 use Rattle.tuner.specs.declared.Tuner.{Tuner}
 use Rattle.tuner.specs.Tuners.{freshTuner}
 use Rattle.text.specs.Places.{put-none}
+use Rattle.lines.specs.Cutting.{all-said-then, room-left}
 use Rattle.lines.specs.Lines.{Answered, answered, no-room, NoEnd, AllSaid, no-line, line-more, AnsweredAll}
 use Rattle.lines.specs.Serving.{heldOf, AllServed, no-read, one-read, nothing-held, last-line}
 use Rattle.daxfolin.specs.Turns.{Kept, Serves, Turned, nothing-read, read-once, Working, Finishes}
 
 -- ---- lines
-
--- lines one after the other, and then more of them
-pub all-said-then : {t u v : Tuner} {before after x y : List ℕ} → AllSaid t before u x → AllSaid u after v y → AllSaid t (before ++ after) v (x ++ y)
-all-said-then {before = before} {x = x} a no-line = rw (append-nil before, append-nil x) a
-all-said-then a (line-more line b n s) = simp append-assoc (simp append-assoc at (line-more line (all-said-then a b) n s))
 
 -- no line is answered by nothing
 nothing-said : {t u : Tuner} {bytes text : List ℕ} → AllSaid t bytes u text → length bytes ≡ 0 → length text ≡ 0
@@ -57,10 +52,8 @@ module _ {t u : Tuner} {input : List ℕ} {at : ℕ} {moved : Bool} (s : ServedS
     -- where no line was answered there is room for an answer, so that no line ends
     stopped : 4096 ≤ length out → ltb 0 r ≡ false → NoEnd (drop (at + r) input)
     stopped room e =
-        ⊎-elim
-        (λ no-end. subst (λ (l : List ℕ). NoEnd l) (ap (drop r) left-is ∙ drop-drop r at input) no-end)
-        (λ full. absurd (omega (arith, full, room, ltb-false 0 r e, a .put .next, nothing-said (a .said) (omega (arith, length-take-le r left (a .within), ltb-false 0 r e)))))
-        (a .stopped)
+        let none = nothing-said (a .said) (omega (arith, length-take-le r left (a .within), ltb-false 0 r e)) in
+        subst (λ (l : List ℕ). NoEnd l) (ap (drop r) left-is ∙ drop-drop r at input) (room-left a (omega (arith, a .put .next)))
 
     pub served-more : 4096 ≤ length out → ServedSoFar t input v (at + r) (ltb 0 r)
     served-more room =
