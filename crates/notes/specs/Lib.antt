@@ -1,2 +1,1 @@
 pub mod Around
-pub mod Tuned

@@ -1,11 +1,13 @@
 // The wanted note of a scale, and the rate toward it.
-use rules::Settings;
+use rules::Goal;
+use rules::InForce;
+use rules::Tone;
 ghost use mathlib.Core.Path.{_≡_};
 ghost use mathlib.Core.Option.{some};
 ghost use Prim.Native.Nat.{ℕ, _+_, _-_, _%_, _≤_, _<_};
-ghost use Rattle.rules.specs.Rules.{table, notePeriod, ofScale, wanted, rawRate, smooth};
+ghost use Rattle.rules.specs.Rules.{table, notePeriod, ofScale, wanted, rawRate, smooth, leastPeriod, greatestPeriod, greatestRate, goal, tuned};
+ghost use Rattle.rules.specs.Facts.{ForceIn, OfTable, ToneIn};
 ghost use Rattle.notes.specs.Around.{Halving, Longer, LastOfScale, FirstOfScale};
-ghost use Rattle.notes.specs.Tuned.{Tuned};
 
 // Places 0 to 68 are the notes 32 to 100. Each use lays the array out anew: once a search.
 const PERIODS: [u32; 69] = [
@@ -80,14 +82,8 @@ const PERIODS: [u32; 69] = [
     4281,
 ];
 
-// The wanted note of a period, and the new rate.
-pub struct Tone {
-    pub note: u32,
-    pub rate: u32,
-}
-
 pub fn note_period(note: u32) -> u32
-    requires { ⌜ (32 ≤ note) × (note ≤ 100) ⌝ }
+    requires { ⌜ OfTable note ⌝ }
     ensures { λ r. ⌜ r ≡ notePeriod note ⌝ }
 {
     PERIODS[(note - 32) as usize]
@@ -210,18 +206,9 @@ fn nearest(periods: &[u32; 69], scale: u32, period: u32) -> u32
     }
 }
 
-// The wanted note.
-pub fn wanted_note(scale: u32, period: u32) -> u32
-    requires { ⌜ (1 ≤ scale) × (scale ≤ 4095) ⌝ }
-    ensures { λ r. ⌜ wanted scale period ≡ some r ⌝ }
-{
-    let periods = PERIODS;
-    32 + nearest(&periods, scale, period)
-}
-
 // period x 65536 / wanted, nearest, halves up.
 fn raw_rate(period: u32, wanted: u32) -> u32
-    requires { ⌜ (0 < wanted) × (rawRate period wanted ≤ 131072) ⌝ }
+    requires { ⌜ (0 < wanted) × (rawRate period wanted ≤ greatestRate) ⌝ }
     ensures { λ r. ⌜ r ≡ rawRate period wanted ⌝ }
 {
     let p = period as u64;
@@ -231,25 +218,36 @@ fn raw_rate(period: u32, wanted: u32) -> u32
 
 // (decay x rate + (256 - decay) x raw) / 256, rounded down.
 fn smooth(decay: u32, rate: u32, raw: u32) -> u32
-    requires { ⌜ (decay ≤ 255) × (rate ≤ 131072) × (raw ≤ 131072) ⌝ }
+    requires { ⌜ (decay ≤ 255) × (rate ≤ greatestRate) × (raw ≤ greatestRate) ⌝ }
     ensures { λ r. ⌜ r ≡ smooth decay rate raw ⌝ }
 {
     (decay * rate + (256 - decay) * raw) / 256
 }
 
-// The wanted note of the period, and the rate moved toward its raw rate.
-pub fn tune(settings: Settings, rate: u32, period: u32) -> Tone
-    requires { ⌜ (1 ≤ settings .scale) × (settings .scale ≤ 4095) × (settings .decay ≤ 255)
-        × (32768 ≤ rate) × (rate ≤ 131072) × (4096 ≤ period) × (period ≤ 225280) ⌝ }
-    ensures { λ r. ⌜ Tuned settings rate period r ⌝ }
+// The goal of a tracking step that found this period.
+fn goal(f: InForce, period: u32) -> Goal
+    requires { ⌜ ForceIn f × (leastPeriod ≤ period) × (period ≤ greatestPeriod) ⌝ }
+    ensures { λ r. ⌜ r ≡ goal f period ⌝ }
 {
-    let scale = settings.scale;
-    let decay = settings.decay;
+    let scale = f.settings.scale;
     let periods = PERIODS;
     let k = nearest(&periods, scale, period);
     let raw = raw_rate(period, periods[k as usize]);
-    Tone {
+    Goal {
         note: 32 + k,
-        rate: smooth(decay, rate, raw),
+        raw: raw,
+    }
+}
+
+// The tone after a tracking step that found this period.
+pub fn tune(f: InForce, t: Tone, period: u32) -> Tone
+    requires { ⌜ ForceIn f × ToneIn t × (leastPeriod ≤ period) × (period ≤ greatestPeriod) ⌝ }
+    ensures { λ r. ⌜ r ≡ tuned f t period ⌝ }
+{
+    let g = goal(f, period);
+    Tone {
+        period: period,
+        note: g.note,
+        rate: smooth(f.settings.decay, t.rate, g.raw),
     }
 }

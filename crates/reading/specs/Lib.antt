@@ -1,2 +1,1 @@
 pub mod Grown
-pub mod Pace

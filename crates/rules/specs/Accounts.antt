@@ -8,9 +8,9 @@ use native.Mathlib.Omega.{arith}
 use lib.IntN.{ℤ, pos, _+ℤ_, _-ℤ_}
 use lib.ListN.{length, length-append}
 use Rattle.whole.specs.Ring.{var, con, _⊕_, _⊖_, solve}
-use Rattle.rules.specs.declared.Settings.{Settings}
+use Rattle.rules.specs.declared.InForce.{InForce}
 use Rattle.rules.specs.Rules.{Sound, Take, Given, silence, heardAll, cycles, growth, freshTake, stepped, after, gives, gathered, allRepeated, allDropped}
-use Rattle.rules.specs.Facts.{InRange, InBounds}
+use Rattle.rules.specs.Facts.{ForceIn, InBounds}
 use Rattle.rules.specs.Hearing.{heardAll-append}
 use Rattle.rules.specs.Blocks.{after-count, after-sound, gathered-append}
 use Rattle.rules.specs.Sane.{Sane, fresh-sane, after-sane, always-in-bounds}
@@ -25,13 +25,13 @@ accounted at rates gs = at +ℤ pos (totalOf rates) -ℤ pos (cycles (allRepeate
 -- ---- a take made of pieces
 
 -- a change of the settings alone: a piece without samples
-abbrev pub unheard : Settings → Piece
-unheard s = record { settings = s; samples = [] }
+abbrev pub unheard : InForce → Piece
+unheard f = record { inForce = f; samples = [] }
 
--- each piece's settings are in range
+-- what is in force at each piece is in its ranges
 abbrev pub InRanges : List Piece → Type 0
 InRanges [] = Unit
-InRanges (p ∷ ps) = InRange (p .settings) × InRanges ps
+InRanges (p ∷ ps) = ForceIn (p .inForce) × InRanges ps
 
 -- ---- accounts one after the other add up
 total-append : (rs qs : List ℕ) → totalOf (rs ++ qs) ≡ totalOf rs + totalOf qs
@@ -58,27 +58,27 @@ accounted-append at rs qs gs hs e =
     refl)
 
 -- a growth is the account of its sample
-one-accounted : (s : Settings) (t : Take) (x : ℤ)
-    → stepped s t x .next .position ≡ accounted (t .position) (stepped s t x .next .pitch .rate ∷ []) (stepped s t x .given ∷ [])
+one-accounted : (f : InForce) (t : Take) (x : ℤ)
+    → stepped f t x .next .position ≡ accounted (t .position) (stepped f t x .next .pitch .tone .rate ∷ []) (stepped f t x .given ∷ [])
 unfolding stepped growth totalOf gathered
-one-accounted s t x = simp (append-nil, add-zero)
+one-accounted f t x = simp (append-nil, add-zero)
 
-pub position-account : (s : Settings) (t : Take) (xs : List ℤ) → after s t xs .position ≡ accounted (t .position) (ratesUsed s t xs) (gives s t xs)
+pub position-account : (f : InForce) (t : Take) (xs : List ℤ) → after f t xs .position ≡ accounted (t .position) (ratesUsed f t xs) (gives f t xs)
 unfolding after gives ratesUsed
-position-account s t [] = nothing-accounted (t .position)
-position-account s t (x ∷ xs) =
-    let next = stepped s t x .next in
-    position-account s next xs
-    ∙ accounted-append (t .position) (next .pitch .rate ∷ []) (ratesUsed s next xs) (stepped s t x .given ∷ []) (gives s next xs) (one-accounted s t x)
+position-account f t [] = nothing-accounted (t .position)
+position-account f t (x ∷ xs) =
+    let next = stepped f t x .next in
+    position-account f next xs
+    ∙ accounted-append (t .position) (next .pitch .tone .rate ∷ []) (ratesUsed f next xs) (stepped f t x .given ∷ []) (gives f next xs) (one-accounted f t x)
 
 pub pieces-account : (t : Take) (ps : List Piece) → afterPieces t ps .position ≡ accounted (t .position) (ratesPieces t ps) (givesPieces t ps)
 unfolding afterPieces overPieces
 pieces-account t [] = nothing-accounted (t .position)
 pieces-account t (p ∷ ps) =
-    let next = after (p .settings) t (p .samples) in
+    let next = after (p .inForce) t (p .samples) in
     pieces-account next ps
-    ∙ accounted-append (t .position) (ratesUsed (p .settings) t (p .samples)) (ratesPieces next ps) (gives (p .settings) t (p .samples)) (givesPieces next ps)
-    (position-account (p .settings) t (p .samples))
+    ∙ accounted-append (t .position) (ratesUsed (p .inForce) t (p .samples)) (ratesPieces next ps) (gives (p .inForce) t (p .samples)) (givesPieces next ps)
+    (position-account (p .inForce) t (p .samples))
 
 -- the read position equals the sum of all rates used, minus the period of every cycle repeated, plus the period of every cycle dropped
 pub account : (ps : List Piece) → afterPieces freshTake ps .position
@@ -87,23 +87,23 @@ unfolding freshTake
 account ps = rw zero-add at (pieces-account freshTake ps)
 
 -- ---- one rate for each sample; the count; and each sample is heard
-rates-length : (s : Settings) (t : Take) (xs : List ℤ) → length (ratesUsed s t xs) ≡ length xs
+rates-length : (f : InForce) (t : Take) (xs : List ℤ) → length (ratesUsed f t xs) ≡ length xs
 unfolding ratesUsed
-rates-length s t [] = refl
-rates-length s t (x ∷ xs) = ap suc (rates-length s (stepped s t x .next) xs)
+rates-length f t [] = refl
+rates-length f t (x ∷ xs) = ap suc (rates-length f (stepped f t x .next) xs)
 
 pub pieces-rates : (t : Take) (ps : List Piece) → length (ratesPieces t ps) ≡ length (samplesPieces ps)
 unfolding overPieces samplesPieces
 pieces-rates t [] = refl
 pieces-rates t (p ∷ ps) =
-    let rest = pieces-rates (after (p .settings) t (p .samples)) ps in
+    let rest = pieces-rates (after (p .inForce) t (p .samples)) ps in
     simp (length-append, rates-length, rest)
 
 count-from : (t : Take) (ps : List Piece) → afterPieces t ps .count ≡ t .count + length (samplesPieces ps)
 unfolding afterPieces samplesPieces
 count-from t [] = sym (add-zero (t .count))
 count-from t (p ∷ ps) =
-    count-from (after (p .settings) t (p .samples)) ps ∙ rw (length-append, after-count) (add-assoc (t .count) (length (p .samples)) (length (samplesPieces ps)))
+    count-from (after (p .inForce) t (p .samples)) ps ∙ rw (length-append, after-count) (add-assoc (t .count) (length (p .samples)) (length (samplesPieces ps)))
 
 pub pieces-count : (ps : List Piece) → afterPieces freshTake ps .count ≡ length (samplesPieces ps)
 unfolding freshTake
@@ -113,8 +113,8 @@ sound-from : (t : Take) (ps : List Piece) → afterPieces t ps .sound ≡ heardA
 unfolding afterPieces samplesPieces heardAll
 sound-from t [] = refl
 sound-from t (p ∷ ps) =
-    sound-from (after (p .settings) t (p .samples)) ps
-    ∙ ap (λ (x : Sound). heardAll x (samplesPieces ps)) (after-sound (p .settings) t (p .samples))
+    sound-from (after (p .inForce) t (p .samples)) ps
+    ∙ ap (λ (x : Sound). heardAll x (samplesPieces ps)) (after-sound (p .inForce) t (p .samples))
     ∙ sym (heardAll-append (t .sound) (p .samples) (samplesPieces ps))
 
 pub pieces-sound : (ps : List Piece) → afterPieces freshTake ps .sound ≡ heardAll silence (samplesPieces ps)
@@ -125,50 +125,50 @@ pieces-sound ps = sound-from freshTake ps
 pub afterPieces-append : (t : Take) (ps qs : List Piece) → afterPieces t (ps ++ qs) ≡ afterPieces (afterPieces t ps) qs
 unfolding afterPieces
 afterPieces-append t [] qs = refl
-afterPieces-append t (p ∷ ps) qs = afterPieces-append (after (p .settings) t (p .samples)) ps qs
+afterPieces-append t (p ∷ ps) qs = afterPieces-append (after (p .inForce) t (p .samples)) ps qs
 
-module _ {A : Type 0} (part : Settings → Take → List ℤ → List A) where
+module _ {A : Type 0} (part : InForce → Take → List ℤ → List A) where
   pub overPieces-append : (t : Take) (ps qs : List Piece) → overPieces part t (ps ++ qs) ≡ overPieces part t ps ++ overPieces part (afterPieces t ps) qs
   unfolding afterPieces overPieces
   overPieces-append t [] qs = refl
-  overPieces-append t (p ∷ ps) qs = rw (append-assoc, overPieces-append (after (p .settings) t (p .samples)) ps qs)
+  overPieces-append t (p ∷ ps) qs = rw (append-assoc, overPieces-append (after (p .inForce) t (p .samples)) ps qs)
 
 -- one piece more
 module _ (t : Take) (ps : List Piece) (p : Piece) where
-  pub afterPieces-more : afterPieces t (ps ++ (p ∷ [])) ≡ after (p .settings) (afterPieces t ps) (p .samples)
+  pub afterPieces-more : afterPieces t (ps ++ (p ∷ [])) ≡ after (p .inForce) (afterPieces t ps) (p .samples)
   unfolding afterPieces
   afterPieces-more = afterPieces-append t ps (p ∷ [])
 
-  overPieces-more : {A : Type 0} (part : Settings → Take → List ℤ → List A)
-      → overPieces part t (ps ++ (p ∷ [])) ≡ overPieces part t ps ++ part (p .settings) (afterPieces t ps) (p .samples)
+  overPieces-more : {A : Type 0} (part : InForce → Take → List ℤ → List A)
+      → overPieces part t (ps ++ (p ∷ [])) ≡ overPieces part t ps ++ part (p .inForce) (afterPieces t ps) (p .samples)
   unfolding overPieces
   overPieces-more part = overPieces-append part t ps (p ∷ []) ∙ ap (λ l. overPieces part t ps ++ l) (append-nil _)
 
-  pub givesPieces-more : givesPieces t (ps ++ (p ∷ [])) ≡ givesPieces t ps ++ gives (p .settings) (afterPieces t ps) (p .samples)
+  pub givesPieces-more : givesPieces t (ps ++ (p ∷ [])) ≡ givesPieces t ps ++ gives (p .inForce) (afterPieces t ps) (p .samples)
   givesPieces-more = overPieces-more gives
 
-  pub ratesPieces-more : ratesPieces t (ps ++ (p ∷ [])) ≡ ratesPieces t ps ++ ratesUsed (p .settings) (afterPieces t ps) (p .samples)
+  pub ratesPieces-more : ratesPieces t (ps ++ (p ∷ [])) ≡ ratesPieces t ps ++ ratesUsed (p .inForce) (afterPieces t ps) (p .samples)
   ratesPieces-more = overPieces-more ratesUsed
 
 -- a change of the settings alone, anywhere, adds nothing
-module _ (t : Take) (ps : List Piece) (s : Settings) (qs : List Piece) where
-  pub afterPieces-unheard : afterPieces t (ps ++ (unheard s ∷ qs)) ≡ afterPieces t (ps ++ qs)
+module _ (t : Take) (ps : List Piece) (f : InForce) (qs : List Piece) where
+  pub afterPieces-unheard : afterPieces t (ps ++ (unheard f ∷ qs)) ≡ afterPieces t (ps ++ qs)
   unfolding afterPieces after
-  afterPieces-unheard = afterPieces-append t ps (unheard s ∷ qs) ∙ sym (afterPieces-append t ps qs)
+  afterPieces-unheard = afterPieces-append t ps (unheard f ∷ qs) ∙ sym (afterPieces-append t ps qs)
 
-  overPieces-unheard : {A : Type 0} (part : Settings → Take → List ℤ → List A) → ((u : Take) → part s u [] ≡ [])
-      → overPieces part t (ps ++ (unheard s ∷ qs)) ≡ overPieces part t (ps ++ qs)
+  overPieces-unheard : {A : Type 0} (part : InForce → Take → List ℤ → List A) → ((u : Take) → part f u [] ≡ [])
+      → overPieces part t (ps ++ (unheard f ∷ qs)) ≡ overPieces part t (ps ++ qs)
   unfolding overPieces after
   overPieces-unheard part e =
-      overPieces-append part t ps (unheard s ∷ qs)
+      overPieces-append part t ps (unheard f ∷ qs)
       ∙ ap (λ l. overPieces part t ps ++ (l ++ overPieces part (afterPieces t ps) qs)) (e (afterPieces t ps))
       ∙ sym (overPieces-append part t ps qs)
 
-  pub givesPieces-unheard : givesPieces t (ps ++ (unheard s ∷ qs)) ≡ givesPieces t (ps ++ qs)
+  pub givesPieces-unheard : givesPieces t (ps ++ (unheard f ∷ qs)) ≡ givesPieces t (ps ++ qs)
   unfolding gives
   givesPieces-unheard = overPieces-unheard gives (λ u. refl)
 
-  pub ratesPieces-unheard : ratesPieces t (ps ++ (unheard s ∷ qs)) ≡ ratesPieces t (ps ++ qs)
+  pub ratesPieces-unheard : ratesPieces t (ps ++ (unheard f ∷ qs)) ≡ ratesPieces t (ps ++ qs)
   unfolding ratesUsed
   ratesPieces-unheard = overPieces-unheard ratesUsed (λ u. refl)
 
@@ -183,10 +183,10 @@ module _ (ps : List Piece) (r : InRanges ps) where
   pieces-sane = sane-from fresh-sane ps r
 
   -- also within a piece: xs is any beginning of the samples that come next
-  pub pieces-sane-within : {s : Settings} → InRange s → (xs : List ℤ) → Sane (after s (afterPieces freshTake ps) xs)
+  pub pieces-sane-within : {f : InForce} → ForceIn f → (xs : List ℤ) → Sane (after f (afterPieces freshTake ps) xs)
   pieces-sane-within q xs = after-sane q pieces-sane xs
 
   -- never ahead, never over 1,000 samples behind
-  pub pieces-in-bounds : {s : Settings} → InRange s → (xs : List ℤ) → InBounds (length (samplesPieces ps) + length xs) (after s (afterPieces freshTake ps) xs .position)
-  pieces-in-bounds {s} q xs =
-      subst (λ (n : ℕ). InBounds (n + length xs) (after s (afterPieces freshTake ps) xs .position)) (pieces-count ps) (always-in-bounds q pieces-sane xs)
+  pub pieces-in-bounds : {f : InForce} → ForceIn f → (xs : List ℤ) → InBounds (length (samplesPieces ps) + length xs) (after f (afterPieces freshTake ps) xs .position)
+  pieces-in-bounds {f} q xs =
+      subst (λ (n : ℕ). InBounds (n + length xs) (after f (afterPieces freshTake ps) xs .position)) (pieces-count ps) (always-in-bounds q pieces-sane xs)

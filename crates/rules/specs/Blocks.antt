@@ -5,46 +5,46 @@ use Prim.Native.Nat.{ℕ, zero, suc, _+_}
 use native.Mathlib.Nat.{suc-add, add-suc, add-zero}
 use lib.IntN.{ℤ}
 use lib.ListN.{length, length-append}
-use Rattle.rules.specs.declared.Settings.{Settings}
+use Rattle.rules.specs.declared.InForce.{InForce}
 use Rattle.rules.specs.Rules.{Take, Given, heardAll, stepped, after, gives, samplesOut, gathered}
 
 -- ---- samples, and more samples after them
-module _ (s : Settings) where
-  pub after-append : (t : Take) (xs ys : List ℤ) → after s t (xs ++ ys) ≡ after s (after s t xs) ys
+module _ (f : InForce) where
+  pub after-append : (t : Take) (xs ys : List ℤ) → after f t (xs ++ ys) ≡ after f (after f t xs) ys
   unfolding after
   after-append t [] ys = refl
-  after-append t (x ∷ xs) ys = after-append (stepped s t x .next) xs ys
+  after-append t (x ∷ xs) ys = after-append (stepped f t x .next) xs ys
 
-  pub gives-append : (t : Take) (xs ys : List ℤ) → gives s t (xs ++ ys) ≡ gives s t xs ++ gives s (after s t xs) ys
+  pub gives-append : (t : Take) (xs ys : List ℤ) → gives f t (xs ++ ys) ≡ gives f t xs ++ gives f (after f t xs) ys
   unfolding after gives
   gives-append t [] ys = refl
-  gives-append t (x ∷ xs) ys = ap (λ (gs : List Given). stepped s t x .given ∷ gs) (gives-append (stepped s t x .next) xs ys)
+  gives-append t (x ∷ xs) ys = ap (λ (gs : List Given). stepped f t x .given ∷ gs) (gives-append (stepped f t x .next) xs ys)
 
   -- one sample more
-  pub after-more : (t : Take) (xs : List ℤ) (x : ℤ) → after s t (xs ++ (x ∷ [])) ≡ stepped s (after s t xs) x .next
+  pub after-more : (t : Take) (xs : List ℤ) (x : ℤ) → after f t (xs ++ (x ∷ [])) ≡ stepped f (after f t xs) x .next
   unfolding after
   after-more t xs x = after-append t xs (x ∷ [])
 
-  pub gives-more : (t : Take) (xs : List ℤ) (x : ℤ) → gives s t (xs ++ (x ∷ [])) ≡ gives s t xs ++ (stepped s (after s t xs) x .given ∷ [])
+  pub gives-more : (t : Take) (xs : List ℤ) (x : ℤ) → gives f t (xs ++ (x ∷ [])) ≡ gives f t xs ++ (stepped f (after f t xs) x .given ∷ [])
   unfolding gives
   gives-more t xs x = gives-append t xs (x ∷ [])
 
   -- the count grows by each sample, and each is heard
-  pub after-count : (t : Take) (xs : List ℤ) → after s t xs .count ≡ t .count + length xs
+  pub after-count : (t : Take) (xs : List ℤ) → after f t xs .count ≡ t .count + length xs
   unfolding after stepped
   after-count t [] = sym (add-zero (t .count))
-  after-count t (x ∷ xs) = after-count (stepped s t x .next) xs ∙ suc-add (t .count) (length xs) ∙ sym (add-suc (t .count) (length xs))
+  after-count t (x ∷ xs) = after-count (stepped f t x .next) xs ∙ suc-add (t .count) (length xs) ∙ sym (add-suc (t .count) (length xs))
 
-  pub after-sound : (t : Take) (xs : List ℤ) → after s t xs .sound ≡ heardAll (t .sound) xs
+  pub after-sound : (t : Take) (xs : List ℤ) → after f t xs .sound ≡ heardAll (t .sound) xs
   unfolding after stepped heardAll
   after-sound t [] = refl
-  after-sound t (x ∷ xs) = after-sound (stepped s t x .next) xs
+  after-sound t (x ∷ xs) = after-sound (stepped f t x .next) xs
 
   -- a sample out for each sample in
-  pub gives-length : (t : Take) (xs : List ℤ) → length (samplesOut (gives s t xs)) ≡ length xs
+  pub gives-length : (t : Take) (xs : List ℤ) → length (samplesOut (gives f t xs)) ≡ length xs
   unfolding gives samplesOut
   gives-length t [] = refl
-  gives-length t (x ∷ xs) = ap suc (gives-length (stepped s t x .next) xs)
+  gives-length t (x ∷ xs) = ap suc (gives-length (stepped f t x .next) xs)
 
 -- ---- what is given, and more after it
 pub samplesOut-append : (gs hs : List Given) → samplesOut (gs ++ hs) ≡ samplesOut gs ++ samplesOut hs

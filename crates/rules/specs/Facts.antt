@@ -1,4 +1,4 @@
--- What is asked of numbers that are kept: settings in range, a position in bounds, sums that are the direct ones. Definitions only.
+-- What is asked of numbers that are kept: settings and pitch in their ranges, a position in bounds, sums that are the direct ones. Definitions only.
 use mathlib.Core.Path.{_≡_}
 use mathlib.Core.List.{List}
 use Prim.Native.Nat.{ℕ, _+_, _*_, _≤_, _<_}
@@ -6,7 +6,9 @@ use lib.IntN.{ℤ, pos, _-ℤ_}
 use lib.ListN.{length, getD}
 use lib.Signed.{_≤ℤ_}
 use Rattle.rules.specs.declared.Settings.{Settings}
-use Rattle.rules.specs.Rules.{Sound, E, H, inputAt}
+use Rattle.rules.specs.declared.InForce.{InForce}
+use Rattle.rules.specs.declared.Tone.{Tone}
+use Rattle.rules.specs.Rules.{Sound, E, H, inputAt, farthest, lowestLag, highestLag, leastPeriod, greatestPeriod, firstNote, notes, freshRate, leastRate, greatestRate, Mode, searching, tracking, Pitch}
 
 -- each setting in its range
 pub record InRange (s : Settings) : Type 0 where
@@ -17,10 +19,41 @@ pub record InRange (s : Settings) : Type 0 where
   pub floorFrom : 1 ≤ s .floor
   pub floorTo : s .floor ≤ 1000000
 
+-- what is in force, in its ranges
+pub record ForceIn (f : InForce) : Type 0 where
+  pub settings : InRange (f .settings)
+
+-- a note of the table
+pub record OfTable (n : ℕ) : Type 0 where
+  pub from : firstNote ≤ n
+  pub upto : n < firstNote + notes
+
+-- a tone in its ranges: a period, a wanted note of the table and a rate; or no period, and the rate 65536
+pub data ToneIn (t : Tone) : Type 0 where
+  pitched : leastPeriod ≤ t .period → t .period ≤ greatestPeriod → OfTable (t .note) → leastRate ≤ t .rate → t .rate ≤ greatestRate → ToneIn t
+  unpitched : t .period ≡ 0 → t .rate ≡ freshRate → ToneIn t
+
+-- eight lags in their range, and the last best among them
+pub record LagsIn (low last : ℕ) : Type 0 where
+  pub from : lowestLag ≤ low
+  pub upto : low + 7 ≤ highestLag
+  pub lastFrom : low ≤ last
+  pub lastUpto : last ≤ low + 7
+
+abbrev pub ModeIn : Mode → Type 0
+ModeIn searching = Unit
+ModeIn (tracking low last) = LagsIn low last
+
+-- a pitch in its ranges; searching, there is no period
+pub record PitchIn (p : Pitch) : Type 0 where
+  pub tone : ToneIn (p .tone)
+  pub lags : ModeIn (p .mode)
+  pub whileSearching : p .mode ≡ searching → p .tone .period ≡ 0
+
 -- not ahead of the input nor over 1,000 samples behind
 pub record InBounds (n : ℕ) (at : ℤ) : Type 0 where
   pub notAhead : at ≤ℤ inputAt n
-  pub notFar : (inputAt n -ℤ pos (1000 * 65536)) ≤ℤ at
+  pub notFar : (inputAt n -ℤ pos farthest) ≤ℤ at
 
 -- the sample at a place, 0 past the end
 abbrev pub valueAt : List ℤ → ℕ → ℤ

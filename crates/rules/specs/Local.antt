@@ -12,14 +12,16 @@ use lib.IntN.{ℤ, pos, natAbs, _+ℤ_, _-ℤ_}
 use Rattle.whole.specs.Tests.{by, and-right}
 use Rattle.whole.specs.Sums.{addsℤ, fold-below}
 use Rattle.whole.specs.Numbers.{floorDiv}
-use Rattle.rules.specs.Facts.{InRange, InBounds}
+use Rattle.rules.specs.Facts.{ForceIn, ModeIn, InBounds}
 use Rattle.rules.specs.declared.Settings.{Settings}
+use Rattle.rules.specs.declared.InForce.{InForce}
+use Rattle.rules.specs.declared.Tone.{Tone}
 use Rattle.rules.specs.Rules.{Sound, heard, D, eighthSample, eighthDue, passes, isLow, leastFrom, lowAbove, choice, foundBy, found, best, isLost, period, tracked, Mode, searching, tracking, Pitch, listenedIn, listened, inputAt, reading, between, growth, Take, eighthsAfter, stepped, after, gives}
 use Rattle.rules.specs.Energies.{E-same}
 use Rattle.rules.specs.Distance.{D-same}
 use Rattle.rules.specs.Choosing.{low-above, best-first, place-of-same}
 use Rattle.rules.specs.Position.{in-bounds-behind, wholeBehind, fractionBehind, whole-within, reading-behind}
-use Rattle.rules.specs.Sane.{SaneMode, Sane, stepped-sane}
+use Rattle.rules.specs.Sane.{Sane, stepped-sane}
 
 -- how far a step looks: so many of the newest samples, and of the newest at eighth rate
 abbrev pub reach : ℕ
@@ -114,11 +116,11 @@ module _ {x x' : Sound} (same : SameNewest reach x x') (low : ℕ) (within : low
       (λ t. let b = ltb-true at 7 (and-right (ltb 0 at) (ltb at 7) t) in
       rw (D-alike same (low + at - 1) (omega arith), D-alike same (low + at) (omega arith), D-alike same (low + at + 1) (omega arith))))
 
-  tracked-alike : (s : Settings) (rate last : ℕ) → tracked s x rate low last ≡ tracked s x' rate low last
+  tracked-alike : (f : InForce) (t : Tone) (last : ℕ) → tracked f x t low last ≡ tracked f x' t low last
   unfolding tracked
-  tracked-alike s rate last =
+  tracked-alike f t last =
       let inside = best-first x' low .inside in
-      rw (best-alike, lost-alike s (best x' low) last inside, period-alike (best x' low) inside)
+      rw (best-alike, lost-alike (f .settings) (best x' low) last inside, period-alike (best x' low) inside)
 
 -- ---- reading
 reading-alike : {x x' : Sound} → SameNewest reach x x' → (n : ℕ) (at : ℤ) → InBounds n at → reading x n at ≡ reading x' n at
@@ -139,50 +141,51 @@ module _ {x x' y y' : Sound} (same : SameNewest reach x x') (sameEighths : SameN
       (λ t. rw (t, eighth-alike same (omega arith)) (heard-alike sameEighths (eighthSample x')))
       (λ t. rw t sameEighths)
 
-  listened-in-alike : (s : Settings) (m : Mode) (p : Pitch) → SaneMode m → listenedIn m s n x y p ≡ listenedIn m s n x' y' p
+  listened-in-alike : (f : InForce) (m : Mode) (p : Pitch) → ModeIn m → listenedIn m f n x y p ≡ listenedIn m f n x' y' p
   unfolding listenedIn
-  listened-in-alike s searching p h = rw (found-alike s same sameEighths)
-  listened-in-alike s (tracking low last) p h = rw (tracked-alike same low (h .1) s (p .rate) last)
+  listened-in-alike f searching p h = rw (found-alike (f .settings) same sameEighths)
+  listened-in-alike f (tracking low last) p h = rw (tracked-alike same low (omega (arith, h .upto)) f (p .tone) last)
 
-  listened-alike : (s : Settings) (p : Pitch) → SaneMode (p .mode) → listened s n x y p ≡ listened s n x' y' p
+  listened-alike : (f : InForce) (p : Pitch) → ModeIn (p .mode) → listened f n x y p ≡ listened f n x' y' p
   unfolding listened
-  listened-alike s p h = listened-in-alike s (p .mode) p h
+  listened-alike f p h = listened-in-alike f (p .mode) p h
 
 -- takes step alike: what they leave agrees, and what they give is the same
-abbrev pub StepAlike : Settings → ℤ → Take → Take → Type 0
-StepAlike s new t u = Agree (stepped s t new .next) (stepped s u new .next) × (stepped s t new .given ≡ stepped s u new .given)
+abbrev pub StepAlike : InForce → ℤ → Take → Take → Type 0
+StepAlike f new t u = Agree (stepped f t new .next) (stepped f u new .next) × (stepped f t new .given ≡ stepped f u new .given)
 
-module _ (s : Settings) {t u : Take} (a : Agree t u) (new : ℤ)
-    (lags : SaneMode (t .pitch .mode)) (bounds : InBounds (stepped s t new .next .count) (stepped s t new .next .position)) where
+module _ (f : InForce) {t u : Take} (a : Agree t u) (new : ℤ)
+    (lags : ModeIn (t .pitch .mode)) (bounds : InBounds (stepped f t new .next .count) (stepped f t new .next .position)) where
   -- count, pitch and position taken from t
-  sounds-step-alike : StepAlike s new t (record { count = t .count; sound = u .sound; eighths = u .eighths; pitch = t .pitch; position = t .position })
+  sounds-step-alike : StepAlike f new t (record { count = t .count; sound = u .sound; eighths = u .eighths; pitch = t .pitch; position = t .position })
   unfolding stepped
   sounds-step-alike =
       let n = suc (t .count) in
       let x = heard-alike (a .sound) new in
       let y = eighths-alike x (a .eighths) n in
-      let p = listened-alike x y n s (t .pitch) lags in
+      let p = listened-alike x y n f (t .pitch) lags in
       let out = reading-alike x n _ bounds in (
-        record { count = refl; pitch = p; position = λ i. growth n (p i .rate) (p i .period) (t .position) .position; sound = x; eighths = y },
+        record { count = refl; pitch = p; position = λ i. growth n (p i .tone .rate) (p i .tone .period) (t .position) .position; sound = x; eighths = y },
         (λ i. record {
-          out = (out ∙ (λ j. reading (heard new (u .sound)) n (growth n (p j .rate) (p j .period) (t .position) .position))) i;
-          repeats = growth n (p i .rate) (p i .period) (t .position) .repeats;
-          drops = growth n (p i .rate) (p i .period) (t .position) .drops;
+          out = (out ∙ (λ j. reading (heard new (u .sound)) n (growth n (p j .tone .rate) (p j .tone .period) (t .position) .position))) i;
+          tone = p i .tone;
+          repeats = growth n (p i .tone .rate) (p i .tone .period) (t .position) .repeats;
+          drops = growth n (p i .tone .rate) (p i .tone .period) (t .position) .drops;
         }),
       )
 
-  pub stepped-agree : StepAlike s new t u
+  pub stepped-agree : StepAlike f new t u
   stepped-agree =
-      subst (StepAlike s new t)
+      subst (StepAlike f new t)
       (λ i. record { count = a .count i; sound = u .sound; eighths = u .eighths; pitch = a .pitch i; position = a .position i })
       sounds-step-alike
 
 -- ---- any number of samples
-pub after-agree : {s : Settings} → InRange s → {t u : Take} → Sane t → Agree t u → (xs : List ℤ) → Agree (after s t xs) (after s u xs) × (gives s t xs ≡ gives s u xs)
+pub after-agree : {f : InForce} → ForceIn f → {t u : Take} → Sane t → Agree t u → (xs : List ℤ) → Agree (after f t xs) (after f u xs) × (gives f t xs ≡ gives f u xs)
 unfolding after gives
 after-agree r h a [] = (a, refl)
-after-agree {s} r h a (x ∷ xs) =
+after-agree {f} r h a (x ∷ xs) =
     let next = stepped-sane r h x in
-    let one = stepped-agree s a x (h .pitch .lags) (next .bounds) in
+    let one = stepped-agree f a x (h .pitch .lags) (next .bounds) in
     let rest = after-agree r next (one .0) xs in
     (rest .0, λ i. one .1 i ∷ rest .1 i)

@@ -34,9 +34,20 @@ use Rattle.rules.specs.Rules.{
   wantedOf,
   wanted,
   rawRate,
-  rawFor,
   smooth,
+  leastPeriod,
+  greatestPeriod,
+  leastRate,
+  greatestRate,
+  goalBy,
+  goal,
+  tuned,
 }
+use Rattle.rules.specs.declared.InForce.{InForce}
+use Rattle.rules.specs.declared.Tone.{Tone}
+use Rattle.rules.specs.declared.Goal.{Goal}
+use Rattle.rules.specs.Facts.{ForceIn, OfTable, ToneIn, pitched}
+use Rattle.rules.specs.Position.{tone-rate}
 
 -- ---- The wanted note
 
@@ -273,16 +284,29 @@ smooth-range {decay} {lo} {hi} {rate} {raw} d a b e f =
     parts : (x : ℕ) → decay * x + (256 - decay) * x ≡ 256 * x
     parts x = rw (← add-mul, add-sub-of-le d)
 
--- without a wanted note the raw rate is 65536
-pub raw-for-range : (scale p : ℕ) → 4096 ≤ p → p ≤ 225280 → (32768 ≤ rawFor p (wanted scale p)) × (rawFor p (wanted scale p) ≤ 131072)
-unfolding rawFor
-raw-for-range scale p lo hi = go (wanted scale p) refl
-  where
-    go : (o : Option ℕ) → wanted scale p ≡ o → (32768 ≤ rawFor p o) × (rawFor p o ≤ 131072)
-    go none e = omega arith
-    go (some n) e = raw-range (wanted-is scale p n e) lo hi
+-- ---- The goal of a tracking step, and the tone that it leaves: what stands above knows their ranges alone
 
-pub tuned-rate-range : (scale decay p rate : ℕ) → decay ≤ 256 → 4096 ≤ p → p ≤ 225280 → 32768 ≤ rate → rate ≤ 131072 →
-    (32768 ≤ smooth decay rate (rawFor p (wanted scale p))) × (smooth decay rate (rawFor p (wanted scale p)) ≤ 131072)
-tuned-rate-range scale decay p rate d lo hi a b =
-    let r = raw-for-range scale p lo hi in smooth-range d a b (r .0) (r .1)
+-- a goal in its ranges
+pub record GoalIn (g : Goal) : Type 0 where
+  pub note : OfTable (g .note)
+  pub from : leastRate ≤ g .raw
+  pub upto : g .raw ≤ greatestRate
+
+-- by the wanted note
+pub goal-wanted : (f : InForce) (p n : ℕ) → wanted (f .settings .scale) p ≡ some n → goal f p ≡ record { note = n; raw = rawRate p (notePeriod n) }
+unfolding goal goalBy
+goal-wanted f p n e = rw e
+
+pub goal-in : {f : InForce} → ForceIn f → (p : ℕ) → leastPeriod ≤ p → p ≤ greatestPeriod → GoalIn (goal f p)
+goal-in {f} r p lo hi =
+    let (n, w) = wanted-some (f .settings .scale) p (r .settings .scaleFrom) (r .settings .scaleTo) in
+    let k = raw-range (w .1) lo hi in
+    rw (goal-wanted f p n (w .0)) (record { note = record { from = w .1 .inTable .0; upto = w .1 .inTable .1 }; from = k .0; upto = k .1 })
+
+pub tuned-in : {f : InForce} → ForceIn f → {t : Tone} → ToneIn t → (p : ℕ) → leastPeriod ≤ p → p ≤ greatestPeriod → ToneIn (tuned f t p)
+unfolding tuned
+tuned-in {f} r i p lo hi =
+    let g = goal-in r p lo hi in
+    let h = tone-rate i in
+    let k = smooth-range {decay = f .settings .decay} (omega (arith, r .settings .decay)) (h .0) (h .1) (g .from) (g .upto) in
+    pitched lo hi (g .note) (k .0) (k .1)

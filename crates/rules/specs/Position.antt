@@ -18,8 +18,9 @@ use Rattle.whole.specs.Order.{not-less, minus-less, minus-not-above, below-is}
 use Rattle.whole.specs.Floor.{floor-is, floor-one}
 use Rattle.whole.specs.Numbers.{floorDiv}
 use Rattle.whole.specs.Ring.{var, con, _⊕_, _⊖_, _⊗_, solve}
-use Rattle.rules.specs.Rules.{Sound, Growth, inputAt, cycleRepeated, cycleDropped, cycles, growth, sampleAt, between, wholeOf, fractionOf, reading}
-use Rattle.rules.specs.Facts.{InBounds}
+use Rattle.rules.specs.declared.Tone.{Tone}
+use Rattle.rules.specs.Rules.{Sound, Growth, leastRate, greatestRate, greatestPeriod, inputAt, cycleRepeated, cycleDropped, cycles, growth, sampleAt, between, wholeOf, fractionOf, reading}
+use Rattle.rules.specs.Facts.{ToneIn, pitched, unpitched, InBounds}
 
 -- ---- the bounds
 
@@ -129,10 +130,10 @@ module _ (n b rate p : ℕ) {at : ℤ} (is : at ≡ inputAt n -ℤ pos b) where
       (dropped-one (suc n) p (b + 65536 - rate) e k)
       (rw (e, c) (on-behind (inputAt (suc n)) (b + 65536 - rate) (256 * p) (omega arith)))
 
-  pub growth-repeats : b + 65536 < rate → rate ≤ 131072 → 4096 ≤ p → p ≤ 225280
+  pub growth-repeats : b + 65536 < rate → rate ≤ 65536 + 256 * p → p ≤ 225280
       → growth (suc n) rate p at ≡ record { position = inputAt (suc n) -ℤ pos (b + 65536 + 256 * p - rate); repeats = p ∷ []; drops = [] }
   unfolding cycles
-  growth-repeats h k l m =
+  growth-repeats h k m =
       let a = grown ∙ on-ahead (inputAt (suc n)) (b + 65536) rate (omega arith) in
       let c : 256 * p + 0 - (rate - (b + 65536)) ≡ b + 65536 + 256 * p - rate = omega arith in
       let e : at +ℤ pos rate -ℤ pos (256 * p + 0) ≡ inputAt (suc n) -ℤ pos (b + 65536 + 256 * p - rate) =
@@ -142,10 +143,21 @@ module _ (n b rate p : ℕ) {at : ℤ} (is : at ≡ inputAt n -ℤ pos b) where
       (dropped-none (suc n) p (b + 65536 + 256 * p - rate) e (omega arith))
       (+ℤ-idr (at +ℤ pos rate -ℤ pos (256 * p + 0)) ∙ e)
 
--- the rates and periods that there are: a period and a rate; or no period, and the rate 65536
-pub data Paced (rate p : ℕ) : Type 0 where
-  withPeriod : 32768 ≤ rate → rate ≤ 131072 → 4096 ≤ p → p ≤ 225280 → Paced rate p
-  withoutPeriod : rate ≡ 65536 → p ≡ 0 → Paced rate p
+-- the rate lies no farther from one than a cycle is long, so that one cycle mends what one sample does; without a period it is one
+pub record Paced (rate p : ℕ) : Type 0 where
+  pub slow : 65536 ≤ rate + 256 * p
+  pub fast : rate ≤ 65536 + 256 * p
+  pub upto : p ≤ greatestPeriod
+
+-- a tone in its ranges paces the position, and so does any other rate up to 65536 + 256 x period beside a period
+pub tone-paced : {t : Tone} → ToneIn t → Paced (t .rate) (t .period)
+tone-paced (pitched a b n c d) = record { slow = omega arith; fast = omega arith; upto = b }
+tone-paced (unpitched z r) = record { slow = omega arith; fast = omega arith; upto = omega arith }
+
+-- its rate is between a half and two
+pub tone-rate : {t : Tone} → ToneIn t → (leastRate ≤ t .rate) × (t .rate ≤ greatestRate)
+tone-rate (pitched a b n c d) = (c, d)
+tone-rate (unpitched z r) = omega arith
 
 -- what a growth that keeps the bounds after sample n leaves
 record Kept (n : ℕ) (g : Growth) : Type 0 where
@@ -154,23 +166,19 @@ record Kept (n : ℕ) (g : Growth) : Type 0 where
   one : length (g .repeats) + length (g .drops) ≤ 1
 
 growth-kept : {n b : ℕ} {at : ℤ} (rate p : ℕ) → Behind n at b → Paced rate p → Kept (suc n) (growth (suc n) rate p at)
-growth-kept {n} {b} rate p h (withPeriod r s lo hi) =
+growth-kept {n} {b} rate p h k =
     by (ltb (b + 65536) rate)
     (λ t. let l = ltb-true (b + 65536) rate t in
-    rw (growth-repeats n b rate p (h .is) l s lo hi)
+    rw (growth-repeats n b rate p (h .is) l (k .fast) (k .upto))
     (record { behind = b + 65536 + 256 * p - rate; still = record { is = refl; near = omega arith }; one = omega arith }))
     (λ t. let l = ltb-false (b + 65536) rate t in
     by (ltb 65536000 (b + 65536 - rate))
     (λ u. let m = ltb-true 65536000 (b + 65536 - rate) u in
-    rw (growth-drops n b rate p (h .is) m hi)
+    rw (growth-drops n b rate p (h .is) m (k .upto))
     (record { behind = b + 65536 - rate - 256 * p; still = record { is = refl; near = omega (arith, h .near) }; one = omega arith }))
     (λ u. let m = ltb-false 65536000 (b + 65536 - rate) u in
     rw (growth-keeps n b rate p (h .is) l m)
     (record { behind = b + 65536 - rate; still = record { is = refl; near = m }; one = omega arith })))
-growth-kept {n} {b} rate p h (withoutPeriod r z) =
-    let m : b + 65536 - rate ≤ 65536000 = omega (arith, h .near) in
-    rw (growth-keeps n b rate p (h .is) (omega arith) m)
-    (record { behind = b + 65536 - rate; still = record { is = refl; near = m }; one = omega arith })
 
 module _ {n : ℕ} {at : ℤ} (rate p : ℕ) (h : InBounds n at) (paced : Paced rate p) where
   pub growth-in-bounds : InBounds (suc n) (growth (suc n) rate p at .position)

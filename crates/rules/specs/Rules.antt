@@ -9,9 +9,12 @@ use lib.IntN.{ℤ, pos, natAbs, _+ℤ_, _-ℤ_, _*ℤ_}
 use lib.ListN.{getD}
 use lib.Signed.{ltZ}
 use Rattle.rules.specs.declared.Settings.{Settings}
+use Rattle.rules.specs.declared.InForce.{InForce}
+use Rattle.rules.specs.declared.Tone.{Tone}
+use Rattle.rules.specs.declared.Goal.{Goal}
 use Rattle.whole.specs.Numbers.{allb, sum, total, floorDiv, nearestDiv}
 
--- ---- Settings: scale, eps, decay and floor, as src/lib.rt declares them
+-- ---- Settings: scale, eps, decay and floor, as src/lib.rt declares them, with what is in force at a sample, a tone and a goal
 
 -- the settings that a start without settings has
 unfoldable pub defaults : Settings
@@ -121,6 +124,19 @@ found s x y = foundBy s x y (lowAbove s y 2)
 
 -- ---- Tracking: eight lags, low to low + 7
 
+-- lags from 16 to 880, and so periods from 4,096 to 225,280
+abbrev pub lowestLag : ℕ
+lowestLag = 16
+
+abbrev pub highestLag : ℕ
+highestLag = 880
+
+abbrev pub leastPeriod : ℕ
+leastPeriod = 256 * lowestLag
+
+abbrev pub greatestPeriod : ℕ
+greatestPeriod = 256 * highestLag
+
 -- the place of the least of d 0 to d n, the first on equality
 unfoldable pub leastPlace : (ℕ → ℕ) → ℕ → ℕ
 leastPlace d zero = 0
@@ -151,8 +167,8 @@ period x low at =
 -- 4. the lowest lag after the step: down by one among the first three unless it is 16, up by one among the last three unless the highest is 880
 unfoldable pub moved : ℕ → ℕ → ℕ
 moved low at =
-    cond (ltb at 3) (cond (eqb low 16) low (low - 1))
-    (cond (ltb 4 at) (cond (eqb (low + 7) 880) low (low + 1)) low)
+    cond (ltb at 3) (cond (eqb low lowestLag) low (low - 1))
+    (cond (ltb 4 at) (cond (eqb (low + 7) highestLag) low (low + 1)) low)
 
 -- ---- Note and rate
 
@@ -165,7 +181,7 @@ table =
     ∷ 15256 ∷ 14400 ∷ 13592 ∷ 12829 ∷ 12109 ∷ 11429 ∷ 10788 ∷ 10182 ∷ 9611 ∷ 9072 ∷ 8562 ∷ 8082 ∷ 7628 ∷ 7200 ∷ 6796 ∷ 6415 ∷ 6055
     ∷ 5715 ∷ 5394 ∷ 5091 ∷ 4805 ∷ 4536 ∷ 4281 ∷ []
 
--- its first note, and how many it holds
+-- its first note, and how many it holds: up to note 100
 abbrev pub firstNote : ℕ
 firstNote = 32
 
@@ -204,9 +220,15 @@ rawRate p w = (2 * (p * 65536) + w) / (2 * w)
 unfoldable pub smooth : ℕ → ℕ → ℕ → ℕ
 smooth decay rate raw = (decay * rate + (256 - decay) * raw) / 256
 
--- a fresh tuner's rate
+-- a fresh tuner's rate, and the bounds of every raw rate: a half and two
 abbrev pub freshRate : ℕ
 freshRate = 65536
+
+abbrev pub leastRate : ℕ
+leastRate = 32768
+
+abbrev pub greatestRate : ℕ
+greatestRate = 131072
 
 -- ---- Searching or tracking
 
@@ -215,56 +237,62 @@ pub data Mode : Type 0 where
   searching : Mode
   tracking : (low last : ℕ) → Mode
 
--- what the sound was found to be: the mode; the period, 0 where there is none; the wanted note, 0 where there is no period; the rate
+-- what the sound was found to be: the mode, and the tone
 pub record Pitch : Type 0 where
   pub mode : Mode
-  pub period : ℕ
-  pub note : ℕ
-  pub rate : ℕ
+  pub tone : Tone
 
 -- no period, and the rate 65536: fresh, locking, and lost
-unfoldable pub noPeriod : Mode → Pitch
-noPeriod m = record { mode = m; period = 0; note = 0; rate = freshRate }
+unfoldable pub noTone : Tone
+noTone = record { period = 0; note = 0; rate = freshRate }
+
+abbrev pub noPeriod : Mode → Pitch
+noPeriod m = record { mode = m; tone = noTone }
 
 -- what a search leaves: no finding, what there was; a lag found, the eight lags from the found lag minus 3
 unfoldable pub searched : Pitch → Option ℕ → Pitch
 searched t none = t
 searched t (some lag) = noPeriod (tracking (lag - 3) lag)
 
--- the wanted note's number, and the raw rate of a period by it; without one (no scale in its range has none) 0 and 65536
-unfoldable pub noteOf : Option ℕ → ℕ
-noteOf none = 0
-noteOf (some n) = n
+-- the goal of a successful tracking step by the wanted note: it, and the raw rate toward it; without one (no scale in its range has none) 0 and 65536
+unfoldable pub goalBy : ℕ → Option ℕ → Goal
+goalBy p none = record { note = 0; raw = freshRate }
+goalBy p (some n) = record { note = n; raw = rawRate p (notePeriod n) }
 
-unfoldable pub rawFor : ℕ → Option ℕ → ℕ
-rawFor p none = freshRate
-rawFor p (some n) = rawRate p (notePeriod n)
+-- the goal of the period p, by what is in force
+unfoldable pub goal : InForce → ℕ → Goal
+goal f p = goalBy p (wanted (f .settings .scale) p)
 
--- what a successful tracking step leaves: a new period, its wanted note, and the rate moved toward the raw rate
-unfoldable pub tuned : Settings → ℕ → Mode → ℕ → Pitch
-tuned s rate m p =
-    let w = wanted (s .scale) p in
-    record { mode = m; period = p; note = noteOf w; rate = smooth (s .decay) rate (rawFor p w) }
+-- what a successful tracking step makes of a tone: the new period, its wanted note, and the rate moved toward the raw rate
+unfoldable pub tuned : InForce → Tone → ℕ → Tone
+tuned f t p =
+    let g = goal f p in
+    record { period = p; note = g .note; rate = smooth (f .settings .decay) (t .rate) (g .raw) }
 
 -- a tracking step
-unfoldable pub tracked : Settings → Sound → ℕ → ℕ → ℕ → Pitch
-tracked s x rate low last =
+unfoldable pub tracked : InForce → Sound → Tone → ℕ → ℕ → Pitch
+tracked f x t low last =
     let at = best x low in
-    cond (isLost s x (low + at) last) (noPeriod searching) (tuned s rate (tracking (moved low at) (low + at)) (period x low at))
+    cond (isLost (f .settings) x (low + at) last) (noPeriod searching)
+    (record { mode = tracking (moved low at) (low + at); tone = tuned f t (period x low at) })
 
 -- a tracking step comes when the take's sample count is a multiple of 5
 unfoldable pub stepDue : ℕ → Bool
 stepDue n = eqb (n % 5) 0
 
 -- searching or tracking after sample number n is stored, by the mode in which the sample arrived
-unfoldable pub listenedIn : Mode → Settings → ℕ → Sound → Sound → Pitch → Pitch
-listenedIn searching s n x y t = cond (eighthDue n) (searched t (found s x y)) t
-listenedIn (tracking low last) s n x y t = cond (stepDue n) (tracked s x (t .rate) low last) t
+unfoldable pub listenedIn : Mode → InForce → ℕ → Sound → Sound → Pitch → Pitch
+listenedIn searching f n x y p = cond (eighthDue n) (searched p (found (f .settings) x y)) p
+listenedIn (tracking low last) f n x y p = cond (stepDue n) (tracked f x (p .tone) low last) p
 
-unfoldable pub listened : Settings → ℕ → Sound → Sound → Pitch → Pitch
-listened s n x y t = listenedIn (t .mode) s n x y t
+unfoldable pub listened : InForce → ℕ → Sound → Sound → Pitch → Pitch
+listened f n x y p = listenedIn (p .mode) f n x y p
 
 -- ---- Reading
+
+-- how far the position may lie behind the input: 1,000 samples
+abbrev pub farthest : ℕ
+farthest = 1000 * 65536
 
 -- where the input stands after n samples, in 1/65536 sample
 unfoldable pub inputAt : ℕ → ℤ
@@ -276,7 +304,7 @@ cycleRepeated n p at = cond (ltZ (inputAt n) at) (p ∷ []) []
 
 -- the periods of the cycle dropped: one where it is more than 1,000 samples behind
 unfoldable pub cycleDropped : ℕ → ℕ → ℤ → List ℕ
-cycleDropped n p at = cond (ltZ at (inputAt n -ℤ pos (1000 * 65536))) (p ∷ []) []
+cycleDropped n p at = cond (ltZ at (inputAt n -ℤ pos farthest)) (p ∷ []) []
 
 -- what cycles come to: a period counts 256 position units for each 1/256 sample
 unfoldable pub cycles : List ℕ → ℕ
@@ -333,9 +361,10 @@ pub record Take : Type 0 where
 unfoldable pub freshTake : Take
 freshTake = record { count = 0; sound = silence; eighths = silence; pitch = noPeriod searching; position = pos 0 }
 
--- what one sample gives: the sample out, and the periods of the cycles repeated and dropped
+-- what one sample gives: the sample out, the tone after it, and the periods of the cycles repeated and dropped
 pub record Given : Type 0 where
   pub out : ℤ
+  pub tone : Tone
   pub repeats : List ℕ
   pub drops : List ℕ
 
@@ -350,29 +379,29 @@ eighthsAfter n x y = cond (eighthDue n) (heard (eighthSample x) y) y
 
 -- one sample: it is stored, an eighth-rate sample made, the tuner searches or tracks; then the position grows by the rate,
 -- a cycle is repeated or dropped, and the output is read
-unfoldable pub stepped : Settings → Take → ℤ → Step
-stepped s t new =
+unfoldable pub stepped : InForce → Take → ℤ → Step
+stepped f t new =
     let n = suc (t .count) in
     let x = heard new (t .sound) in
     let y = eighthsAfter n x (t .eighths) in
-    let pitch = listened s n x y (t .pitch) in
-    let g = growth n (pitch .rate) (pitch .period) (t .position) in
+    let pitch = listened f n x y (t .pitch) in
+    let g = growth n (pitch .tone .rate) (pitch .tone .period) (t .position) in
     record {
       next = record { count = n; sound = x; eighths = y; pitch = pitch; position = g .position };
-      given = record { out = reading x n (g .position); repeats = g .repeats; drops = g .drops };
+      given = record { out = reading x n (g .position); tone = pitch .tone; repeats = g .repeats; drops = g .drops };
     }
 
 -- ---- A block: the fold of the step over its samples
 
 -- the take after the samples
-unfoldable pub after : Settings → Take → List ℤ → Take
-after s t [] = t
-after s t (new ∷ more) = after s (stepped s t new .next) more
+unfoldable pub after : InForce → Take → List ℤ → Take
+after f t [] = t
+after f t (new ∷ more) = after f (stepped f t new .next) more
 
 -- what each of the samples gives, one after the other
-unfoldable pub gives : Settings → Take → List ℤ → List Given
-gives s t [] = []
-gives s t (new ∷ more) = stepped s t new .given ∷ gives s (stepped s t new .next) more
+unfoldable pub gives : InForce → Take → List ℤ → List Given
+gives f t [] = []
+gives f t (new ∷ more) = stepped f t new .given ∷ gives f (stepped f t new .next) more
 
 -- the samples out
 unfoldable pub samplesOut : List Given → List ℤ

@@ -6,7 +6,7 @@ use mathlib.Core.Option.{Option, none, some}
 use Prim.Native.Nat.{ℕ, _+_, _*_, _/_}
 use lib.IntN.{ℤ, pos, negsuc, negℤ, _+ℤ_}
 use Rattle.whole.specs.Numbers.{fold}
-use Rattle.rules.specs.Rules.{Sound, silence, heard, heardAll, E, H, D, eighthSample, eighthDue, meetsEps, meetsFloor, offset, table, notePeriod, ofScale, nearer, wantedOf, wanted, rawRate, smooth, between, inputAt, cycleRepeated, cycleDropped, cycles, growth, Take, freshTake, Given, noPeriod, listened, listenedIn, sampleAt, wholeOf, fractionOf, reading, eighthsAfter, stepped, gives, samplesOut}
+use Rattle.rules.specs.Rules.{Sound, silence, heard, heardAll, E, H, D, eighthSample, eighthDue, meetsEps, meetsFloor, offset, table, notePeriod, ofScale, nearer, wantedOf, wanted, rawRate, smooth, between, inputAt, cycleRepeated, cycleDropped, cycles, growth, Take, freshTake, Given, noTone, listened, listenedIn, sampleAt, wholeOf, fractionOf, reading, eighthsAfter, stepped, gives, samplesOut}
 
 -- the sound of some samples alone, the oldest first, as document 01 prints them
 abbrev soundOf : List ℤ → Sound
@@ -97,7 +97,7 @@ numbers-hold =
     ((refl, refl, refl), ((refl, refl, refl), ((refl, refl, refl), (refl, (refl, (refl, (refl, (refl, (refl, (refl, (refl, (refl, (refl, (refl, (refl, (refl, (refl, (refl, (refl, (refl, (refl, tt)))))))))))))))))))))
 
 -- the whole case of document 01: until a period is tracked, output is the input four samples late
-pub whole-case : samplesOut (gives (record { scale = 4095; eps = 200; decay = 0; floor = 100 }) freshTake (pos 1000 ∷ minus 1000 ∷ pos 500 ∷ pos 8 ∷ pos 9 ∷ pos 10 ∷ []))
+pub whole-case : samplesOut (gives (record { settings = record { scale = 4095; eps = 200; decay = 0; floor = 100 } }) freshTake (pos 1000 ∷ minus 1000 ∷ pos 500 ∷ pos 8 ∷ pos 9 ∷ pos 10 ∷ []))
     ≡ pos 0 ∷ pos 0 ∷ pos 0 ∷ pos 0 ∷ pos 1000 ∷ minus 1000 ∷ []
-unfolding freshTake silence heard gives samplesOut stepped eighthDue eighthsAfter noPeriod listened listenedIn growth cycleRepeated cycleDropped cycles inputAt reading between sampleAt wholeOf fractionOf
+unfolding freshTake silence heard gives samplesOut stepped eighthDue eighthsAfter noTone listened listenedIn growth cycleRepeated cycleDropped cycles inputAt reading between sampleAt wholeOf fractionOf
 whole-case = refl

@@ -5,57 +5,47 @@ use Prim.Native.Nat.{_≤_}
 use native.Mathlib.Omega.{arith}
 use borrow.Author.Needs.{needs}
 use Rattle.rules.specs.Position.{growth-keeps, growth-drops, growth-repeats}
-use Rattle.reading.specs.Pace.{ranges}
 use Rattle.reading.proofs.grow.Statement.{statement}
 use Rattle.reading.proofs.grow.Tie as tie
-
--- a rate that runs ahead, and one that falls back, is not 65536: there is a period, and it is at least 16 samples long
-period-ahead : (c : tie.Then1) → 4096 ≤ c .before .args .period
-period-ahead c = ranges (c .before .pre .1) .shortest (λ e. omega arith)
-
-period-far : (c : tie.Then2) → 4096 ≤ c .before .before .args .period
-period-far c = ranges (c .before .before .pre .1) .shortest (λ e. omega arith)
 
 add-b : tie.Need-add-b
 add-b c = search needs
 
 mul-t7 : tie.Need-mul-t7
-mul-t7 c = let r = ranges (c .before .pre .1) in omega arith
+mul-t7 c = let r = c .before .pre .1 in omega arith
 
 add-t8 : tie.Need-add-t8
-add-t8 c = let r = ranges (c .before .pre .1) in omega arith
+add-t8 c = let r = c .before .pre .1 in omega arith
 
 sub-t9 : tie.Need-sub-t9
-sub-t9 c = let r = ranges (c .before .pre .1) in omega (arith, period-ahead c)
+sub-t9 c = let r = c .before .pre .1 in omega arith
 
 returns : tie.Need-returns
 returns c =
     let a = c .before .args in
-    let r = ranges (c .before .pre .1) in
-    let p = period-ahead c in
+    let r = c .before .pre .1 in
     record {
       near = omega arith;
       repeated-one = omega arith;
       dropped-one = omega arith;
-      grows = λ n. growth-repeats n (a .behind) (a .rate) (a .period) refl (c .if1 .taken) (r .fastest) p (r .longest);
+      grows = λ n. growth-repeats n (a .behind) (a .rate) (a .period) refl (c .if1 .taken) (r .fast) (r .upto);
     }
 
 mul-t10 : tie.Need-mul-t10
-mul-t10 c = let r = ranges (c .before .before .pre .1) in omega arith
+mul-t10 c = let r = c .before .before .pre .1 in omega arith
 
 sub-t11 : tie.Need-sub-t11
-sub-t11 c = let r = ranges (c .before .before .pre .1) in omega arith
+sub-t11 c = let r = c .before .before .pre .1 in omega arith
 
 returns-2 : tie.Need-returns-2
 returns-2 c =
     let a = c .before .before .args in
-    let r = ranges (c .before .before .pre .1) in
-    let p = period-far c in
+    let r = c .before .before .pre .1 in
     record {
       near = omega arith;
       repeated-one = omega arith;
       dropped-one = omega arith;
-      grows = λ n. growth-drops n (a .behind) (a .rate) (a .period) refl (c .if2 .taken) (r .longest);
+      grows = λ n. growth-drops n (a .behind) (a .rate) (a .period) refl (c .if2 .taken) (r .upto);
     }
 
 returns-3 : tie.Need-returns-3
