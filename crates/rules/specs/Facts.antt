@@ -5,6 +5,7 @@ use Prim.Native.Nat.{ℕ, _+_, _*_, _≤_, _<_}
 use lib.IntN.{ℤ, pos, _-ℤ_}
 use lib.ListN.{length, getD}
 use lib.Signed.{_≤ℤ_}
+use Rattle.whole.specs.Numbers.{listOf}
 use Rattle.rules.specs.declared.Settings.{Settings}
 use Rattle.rules.specs.declared.InForce.{InForce}
 use Rattle.rules.specs.declared.Tone.{Tone}
@@ -65,3 +66,10 @@ pub record Right (x : Sound) (low n : ℕ) (e : List ℕ) (h : List ℤ) : Type 
   pub correlations : length h ≡ n
   pub energy : (j : ℕ) → j < n → getD e j 0 ≡ E x (low + j)
   pub correlation : (j : ℕ) → j < n → valueAt h j ≡ H x (low + j)
+
+-- the energies and the correlations of a sound at the n lags from low on
+abbrev pub energiesOf : Sound → ℕ → ℕ → List ℕ
+energiesOf x low n = listOf (λ (j : ℕ). E x (low + j)) n
+
+abbrev pub correlationsOf : Sound → ℕ → ℕ → List ℤ
+correlationsOf x low n = listOf (λ (j : ℕ). H x (low + j)) n

@@ -1,0 +1,3 @@
+pub mod Pitches
+pub mod Listening
+pub mod Keeping

@@ -1,0 +1,4 @@
+pub mod Silent
+pub mod Eighths
+pub mod Running
+pub mod Going

@@ -1,0 +1,131 @@
+// One sample after the other: what a block does.
+use pitch::Pitch;
+use rules::InForce;
+ghost use mathlib.Core.Path.{_≡_};
+ghost use mathlib.Core.Bool.{true, false};
+ghost use Prim.Native.Nat.{_+_, _%_, _≤_, _<_};
+ghost use lib.IntN.{pos};
+ghost use lib.ListN.{length, getD, set, take, drop};
+ghost use Rattle.rules.specs.Rules.{eighthSample};
+ghost use Rattle.rules.specs.Facts.{ForceIn, valueAt};
+ghost use Rattle.ages.specs.Ages.{ago, Samples};
+ghost use Rattle.finding.specs.Finding.{Long};
+ghost use Rattle.steps.specs.Eighths.{Eighths, Heard};
+ghost use Rattle.steps.specs.Running.{takeSoFar, Ready, Room, Did, Ran, Begins, Ended};
+
+// A take as far as it has come within a block: its sample count, the eighth-rate samples that are stored, how far the read position lies
+// behind, the cycles repeated and dropped in the block, and the pitch.
+pub struct Progress {
+    pub count: u32,
+    pub places: usize,
+    pub behind: u32,
+    pub repeated: u32,
+    pub dropped: u32,
+    pub pitch: Pitch,
+}
+
+// Silence goes on: the sample is 0, and so are those that the sums look at.
+fn still_silent(x: i16, e: &[u64; 109]) -> bool
+    ensures { λ r. ⌜ (r ≡ true → (x ≡ pos 0) × (getD (now (e .entry)) 108 0 ≡ 0)) ⌝ }
+{
+    if x == 0 { e[108] == 0 } else { false }
+}
+
+// The eighth-rate sample is made and stored, and the sums at eighth rate are brought up to it.
+fn eighth(
+    y: &mut [i16; 288],
+    places: usize,
+    e: &mut [u64; 109],
+    h: &mut [i64; 109],
+    s: &[i16],
+    m: usize,
+)
+    requires { ⌜ (8 ≤ m) × (m ≤ length (now s)) × Samples (now s) × (224 ≤ places) × (places < 288) × Eighths (now y) places (now e) (now h) ⌝ }
+    ensures { λ r. ⌜ (now (y .exit) ≡ set (now (y .entry)) places (eighthSample (ago (now (s .entry)) m))) × Eighths (now (y .exit)) (places + 1) (now (e .exit)) (now (h .exit)) ⌝ }
+{
+    let x = ages::eighth_sample(s, m);
+    y[places] = x;
+    if still_silent(x, e) {
+        return;
+    }
+    sums::next_all(e, h, 2, y, places + 1);
+}
+
+// An eighth-rate sample is made after samples 8, 16, 24, ..: sample number n is the newest of the first m. How many are stored then.
+fn hear(
+    y: &mut [i16; 288],
+    places: usize,
+    e: &mut [u64; 109],
+    h: &mut [i64; 109],
+    n: u32,
+    s: &[i16],
+    m: usize,
+) -> usize
+    requires { ⌜ (8 ≤ m) × (m ≤ length (now s)) × Samples (now s) × (224 ≤ places) × (n % 8 ≡ 0 → places < 288) × Eighths (now y) places (now e) (now h) ⌝ }
+    ensures { λ r. ⌜ Heard n (ago (now (s .entry)) m) (now (y .entry)) places (now (y .exit)) r (now (e .exit)) (now (h .exit)) ⌝ }
+{
+    if n % 8 == 0 {
+        eighth(y, places, e, h, s, m);
+        return places + 1;
+    }
+    places
+}
+
+// One sample, which stands after the first m; the output goes to place i.
+fn step(
+    p: Progress,
+    f: InForce,
+    y: &mut [i16; 288],
+    e: &mut [u64; 109],
+    h: &mut [i64; 109],
+    s: &[i16],
+    m: usize,
+    out: &mut [i16; 512],
+    i: usize,
+) -> Progress
+    requires { ⌜ ForceIn f × Long (now s) m × (m < length (now s)) × (i < 512) × Ready (now s) m (now y) (now e) (now h) p × Room p ⌝ }
+    ensures { λ r. ⌜ Ready (now (s .entry)) (m + 1) (now (y .exit)) (now (e .exit)) (now (h .exit)) r × Did f (takeSoFar (now (s .entry)) m (now (y .entry)) p) (valueAt (now (s .entry)) m) (takeSoFar (now (s .entry)) (m + 1) (now (y .exit)) r) (now (out .entry)) i (now (out .exit)) p r ⌝ }
+{
+    let n = p.count + 1;
+    let heard = m + 1;
+    let places = hear(y, p.places, e, h, n, s, heard);
+    let old = p.pitch;
+    let v = pitch::listen(old, f, n, e, h, s, heard);
+    let r = reading::grow(p.behind, v.tone.rate, v.tone.period);
+    let o = reading::read(s, heard, r.behind);
+    out[i] = o;
+    let repeated = p.repeated + r.repeated;
+    let dropped = p.dropped + r.dropped;
+    Progress {
+        count: n,
+        places: places,
+        behind: r.behind,
+        repeated: repeated,
+        dropped: dropped,
+        pitch: v,
+    }
+}
+
+// The samples of the store after the first m, b of them.
+pub fn run(
+    p: Progress,
+    f: InForce,
+    y: &mut [i16; 288],
+    e: &mut [u64; 109],
+    h: &mut [i64; 109],
+    s: &[i16],
+    m: usize,
+    b: usize,
+    out: &mut [i16; 512],
+) -> Progress
+    requires { ⌜ ForceIn f × Long (now s) m × (m + b ≤ length (now s)) × (b ≤ 512) × Ready (now s) m (now y) (now e) (now h) p × Begins b p × (length (now out) ≡ 512) ⌝ }
+    ensures { λ r. ⌜ Ready (now (s .entry)) (m + b) (now (y .exit)) (now (e .exit)) (now (h .exit)) r × Ran f (takeSoFar (now (s .entry)) m (now (y .entry)) p) (take b (drop m (now (s .entry)))) (takeSoFar (now (s .entry)) (m + b) (now (y .exit)) r) (now (out .entry)) (now (out .exit)) p r × Ended b p r ⌝ }
+{
+    let mut q = p;
+    let mut i: usize = 0;
+    while i < b {
+        q = step(q, f, y, e, h, s, m + i, out, i);
+        i += 1;
+    }
+    q
+}
