@@ -1,6 +1,6 @@
 -- A pitch as it is kept is what is kept of its pitch, over the sound over which it is right.
 use mathlib.Core.Path.{_≡_, refl, sym, ap, _∙_}
-use Prim.Native.Nat.{ℕ, _+_, _<_}
+use Prim.Native.Nat.{ℕ, _+_, _≤_, _<_}
 use lib.ListN.{length, getD}
 use native.Mathlib.Omega.{arith}
 use lib.IntN.{ℤ, pos}
@@ -61,8 +61,12 @@ kept-pitch p x = λ i. record { mode = same (p .mode) i; tone = p .tone }
 
 pub kept-right : (p : Pitch) (x : Sound) → PitchIn p → PitchRight x (keptOf p x)
 unfolding trackingOf trackerOf
-kept-right p x h = record { pitch = rw (← kept-pitch p x) h; sums = sums (p .mode) }
+kept-right p x h = record { flag = flag (p .mode); pitch = rw (← kept-pitch p x) h; sums = sums (p .mode) }
   where
+    flag : (m : Mode) → trackingOf m ≤ 1
+    flag searching = omega arith
+    flag (tracking low last) = omega arith
+
     sums : (m : Mode) → trackingOf m ≡ 1 → Right x (trackerOf m x .low) 8 (trackerOf m x .e) (trackerOf m x .h)
     sums searching e = absurd (omega arith)
     sums (tracking low last) e = listed-right x low 8

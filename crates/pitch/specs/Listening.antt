@@ -68,7 +68,7 @@ module _ {x : Sound} {v : KeptPitch} (r : PitchRight x v) where
 
   -- one that is searching is right over any sound
   pub still-searching : {z : Sound} → (v .tracking ≡ 1 → ⊥) → PitchRight z v
-  still-searching n = record { pitch = r .pitch; sums = λ e. absurd (n e) }
+  still-searching n = record { flag = r .flag; pitch = r .pitch; sums = λ e. absurd (n e) }
 
 -- ---- what listening is, by how the tests came out
 module _ (f : InForce) (n : ℕ) (x y : Sound) (v : KeptPitch) where
@@ -102,7 +102,7 @@ module _ {x : Sound} {low last : ℕ} {t : Tracker} (k : Tracks x low last t) (l
   tracks-became h =
       record {
         pitch = λ i. record { mode = tracking (k .low i) (k .last i); tone = o };
-        right = record { pitch = tracks-in h; sums = λ e. rw (k .low) (k .sums) };
+        right = record { flag = omega arith; pitch = tracks-in h; sums = λ e. rw (k .low) (k .sums) };
       }
 
 -- ---- a lag was found
@@ -133,7 +133,7 @@ module _ {f : InForce} {x : Sound} (v : KeptPitch) {r : Tracked} (s : Stepped (f
   unfolding noTone
   became-lost e q =
       rw (q, tracked-lost f x (v .tone) (v .tracker .low) (v .tracker .last) (not-false _ (sym (s .kept) ∙ e)))
-      (record { pitch = refl; right = record { pitch = record { tone = unpitched refl refl; lags = tt; whileSearching = λ z. refl }; sums = λ z. absurd (omega arith) } })
+      (record { pitch = refl; right = record { flag = omega arith; pitch = record { tone = unpitched refl refl; lags = tt; whileSearching = λ z. refl }; sums = λ z. absurd (omega arith) } })
 
   pub became-tuned : ForceIn f → ToneIn (v .tone) → {o : Tone} → r .kept ≡ true → o ≡ tuned f (v .tone) (r .period)
       → Became x (tracked f x (v .tone) (v .tracker .low) (v .tracker .last)) (record { tracker = r .tracker; tone = o; tracking = 1 })

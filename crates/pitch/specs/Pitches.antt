@@ -1,7 +1,7 @@
 -- What the code keeps of a pitch, as the rules' own record; when it is right; and what is kept of a pitch of the rules. Definitions only.
 use mathlib.Core.Path.{_≡_}
 use mathlib.Core.Bool.{cond}
-use Prim.Native.Nat.{ℕ}
+use Prim.Native.Nat.{ℕ, _≤_}
 use lib.Dec.{eqb}
 use lib.IntN.{pos}
 use lib.ListN.{replicate}
@@ -18,8 +18,9 @@ modeOf v = cond (eqb (v .tracking) 1) (tracking (v .tracker .low) (v .tracker .l
 abbrev pub pitchOf : KeptPitch → Pitch
 pitchOf v = record { mode = modeOf v; tone = v .tone }
 
--- it is right over the sound x: in its ranges, and while tracking the sums of the eight lags are the direct ones
+-- it is right over the sound x: searching or tracking, in its ranges, and while tracking the sums of the eight lags are the direct ones
 pub record PitchRight (x : Sound) (v : KeptPitch) : Type 0 where
+  pub flag : v .tracking ≤ 1
   pub pitch : PitchIn (pitchOf v)
   pub sums : v .tracking ≡ 1 → Right x (v .tracker .low) 8 (v .tracker .e) (v .tracker .h)
 

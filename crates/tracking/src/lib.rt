@@ -11,6 +11,7 @@ ghost use Rattle.ages.specs.Ages.{ago};
 ghost use Rattle.finding.specs.Finding.{Modest, Long, Distances, Small};
 ghost use Rattle.tracking.specs.Tracking.{place, PeriodAt, Tracks, Stepped};
 
+#[repr(C)]
 pub struct Tracker {
     pub low: u32,
     pub last: u32,

@@ -1,13 +1,13 @@
--- `tuner::lags_right` meets its contract: the lags' ranges, and then their sums over all that is kept decide.
+-- `record::tracker_right` meets its contract: the lags' ranges, and then their sums over all that is kept decide.
 -- Assumes nothing.
 use mathlib.Core.Path.{_≡_}
 use native.Mathlib.Omega.{arith}
 use borrow.Author.Needs.{needs}
 use lib.ListN.{length}
 use Rattle.whole.specs.Tests.{refused, passed, failed, decides-as}
-use Rattle.tuner.specs.Goods.{right-of}
-use Rattle.tuner.proofs.lags_right.Statement.{statement}
-use Rattle.tuner.proofs.lags_right.Tie as tie
+use Rattle.record.specs.Parts.{right-of}
+use Rattle.record.proofs.tracker_right.Statement.{statement}
+use Rattle.record.proofs.tracker_right.Tie as tie
 
 lengths : (c : tie.Start) → (length (c .args .t .e) ≡ 8) × (length (c .args .t .h) ≡ 8)
 lengths c = (search needs, search needs)
@@ -16,7 +16,7 @@ within-requires : tie.Need-within-requires
 within-requires c κs = search needs
 
 returns : tie.Need-returns
-returns c = refused (λ p. failed (c .before .within .ensures) (c .if1 .taken) (p .from, p .upto))
+returns c = refused (λ p. failed (c .before .within .ensures) (c .if1 .taken) (p .lags .from, omega (arith, p .lags .upto)))
 
 add-within : tie.Need-add-within
 add-within c = let low = passed (c .before .before .within .ensures) (c .before .if1 .left) in omega arith
@@ -25,7 +25,7 @@ within-requires-2 : tie.Need-within-requires-2
 within-requires-2 c κs = search needs
 
 returns-2 : tie.Need-returns-2
-returns-2 c = refused (λ p. failed (c .before .within2 .ensures) (c .if2 .taken) (p .lastFrom, p .lastUpto))
+returns-2 c = refused (λ p. failed (c .before .within2 .ensures) (c .if2 .taken) (p .lags .lastFrom, p .lags .lastUpto))
 
 slice-aggregate-all-right : tie.Need-slice-aggregate-all-right
 slice-aggregate-all-right c = search needs
@@ -52,11 +52,11 @@ returns-3 c =
     let low = passed (c1 .before .within .ensures) (c1 .if1 .left) in
     let last = passed (c2 .before .within2 .ensures) (c2 .if2 .left) in
     decides-as (right-of (s .args .store .now) 1764 8 (s .pre .0) (lengths s .0) (c .all-right .ensures))
-    (λ r. record { from = low .0; upto = low .1; lastFrom = last .0; lastUpto = last .1; sums = r })
+    (λ r. record { lags = record { from = low .0; upto = omega arith; lastFrom = last .0; lastUpto = last .1 }; sums = r })
     (λ p. p .sums)
 
-pub lags-right-spec : {M : Type 1} → statement M
-lags-right-spec =
+pub tracker-right-spec : {M : Type 1} → statement M
+tracker-right-spec =
     tie.close
     (tie.spec
     within-requires

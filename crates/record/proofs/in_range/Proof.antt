@@ -1,11 +1,11 @@
--- `tuner::in_range` meets its contract: what it decides is that each setting is in its range, and so does the rules' own test.
+-- `record::in_range` meets its contract: what it decides is that each setting is in its range, and so does the rules' own test.
 -- Assumes nothing.
 use native.Mathlib.Omega.{arith}
 use borrow.Author.Needs.{needs}
 use Rattle.whole.specs.Tests.{refused, failed, passed, decides-as}
-use Rattle.tuner.specs.Goods.{range-is}
-use Rattle.tuner.proofs.in_range.Statement.{statement}
-use Rattle.tuner.proofs.in_range.Tie as tie
+use Rattle.record.specs.Parts.{range-is}
+use Rattle.record.proofs.in_range.Statement.{statement}
+use Rattle.record.proofs.in_range.Tie as tie
 
 within-requires : tie.Need-within-requires
 within-requires c κs = search needs

@@ -1,9 +1,9 @@
--- `tuner::within` meets its contract: below the first number no, and otherwise the second comparison decides.
+-- `record::within` meets its contract: below the first number no, and otherwise the second comparison decides.
 -- Assumes nothing.
 use native.Mathlib.Omega.{arith}
 use Rattle.whole.specs.Tests.{refused, decides-le, decides-as}
-use Rattle.tuner.proofs.within.Statement.{statement}
-use Rattle.tuner.proofs.within.Tie as tie
+use Rattle.record.proofs.within.Statement.{statement}
+use Rattle.record.proofs.within.Tie as tie
 
 returns : tie.Need-returns
 returns c = refused (λ p. omega arith)

@@ -1,4 +1,4 @@
--- `tuner::silent` meets its contract: the samples passed are 0, and one that is not answers no.
+-- `record::silent` meets its contract: the samples passed are 0, and one that is not answers no.
 -- Assumes nothing.
 use mathlib.Core.Path.{_≡_, sym, ap, _∙_}
 use Prim.Native.Nat.{ℕ, _-_, _≤_, _<_}
@@ -11,8 +11,8 @@ use mir.Val.{toZ, ofZ}
 use mir.Facts.{toZ-ofZ}
 use Rattle.whole.specs.Tests.{refused, granted}
 use Rattle.rules.specs.Facts.{valueAt}
-use Rattle.tuner.proofs.silent.Statement.{statement}
-use Rattle.tuner.proofs.silent.Tie as tie
+use Rattle.record.proofs.silent.Statement.{statement}
+use Rattle.record.proofs.silent.Tie as tie
 
 abbrev Inv-loop : tie.InvT-loop
 Inv-loop s n i₀ i = (i ≤ n) × ((k : ℕ) → k < i → valueAt s k ≡ pos 0)

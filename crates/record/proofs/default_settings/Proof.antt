@@ -1,9 +1,9 @@
--- `tuner::default_settings` meets its contract: the four numbers are the defaults.
+-- `record::default_settings` meets its contract: the four numbers are the defaults.
 -- Assumes nothing.
 use mathlib.Core.Path.{refl}
 use Rattle.rules.specs.Rules.{defaults}
-use Rattle.tuner.proofs.default_settings.Statement.{statement}
-use Rattle.tuner.proofs.default_settings.Tie as tie
+use Rattle.record.proofs.default_settings.Statement.{statement}
+use Rattle.record.proofs.default_settings.Tie as tie
 
 returns : tie.Need-returns
 unfolding defaults

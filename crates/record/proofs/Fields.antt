@@ -1,4 +1,4 @@
--- What a tuner's type says of its arrays: their lengths, and that each sample fits 16 bits. A proof of a function whose first parameter is the tuner t cites `stores (c .args .t) _ (c .good .0)`, with c its `Start`; a second parameter's is `c .good .1 .0`.
+-- What the type of what was heard says of its arrays: their lengths, and that each sample fits 16 bits. A proof of a function whose first parameter is h cites `stores (c .args .h) _ (c .good .0)`, with c its `Start`; a second parameter's is `c .good .1 .0`.
 -- Assumes nothing.
 use mathlib.Core.Path.{subst}
 use mathlib.Core.List.{List, [], _∷_, map, map-id}
@@ -14,9 +14,9 @@ use denote.Shadow.{shadow}
 use denote.Signed.{SInt}
 use Rattle.ages.specs.Ages.{Samples}
 use Rattle.rules.specs.Facts.{valueAt}
-use Rattle.tuner.specs.declared.Tuner.{Tuner}
-use Rattle.tuner.specs.Goods.{Stores}
-use Rattle.tuner.proofs.Tuner.{the-row}
+use Rattle.record.specs.declared.Heard.{Heard}
+use Rattle.record.specs.Parts.{Stores}
+use Rattle.record.proofs.Heard.{the-row}
 
 each-fits : (xs : List ℤ) (us : List Val) (i : ℕ) → shadow (each ℤ (SInt w16 .own) xs us) → SFits w16 (valueAt xs i)
 each-fits [] us i p = record { sfits = lit< tt }
@@ -28,15 +28,13 @@ field-samples : (xs : List ℤ) (us : List Val) → shadow (each ℤ (SInt w16 .
 field-samples xs us p =
     record { each = λ i. each-fits xs us i (subst (λ (ys : List ℤ). shadow (each ℤ (SInt w16 .own) ys us)) (map-id xs) p) }
 
-pub stores : (t : Tuner) (vs : List Val) → Is the-row t vs → Stores t
-stores t vs p =
+pub stores : (h : Heard) (vs : List Val) → Is the-row h vs → Stores h
+stores h vs p =
     record {
       store = search length-unmapped;
       eighths = search length-unmapped;
       energies = search length-unmapped;
       correlations = search length-unmapped;
-      out = search length-unmapped;
       storeFits = search field-samples;
       eighthsFit = search field-samples;
-      outFits = search field-samples;
     }

@@ -1,0 +1,69 @@
+-- `record::all_right` meets its contract, part by part.
+-- Assumes nothing.
+use native.Mathlib.Omega.{arith}
+use borrow.Author.Needs.{needs}
+use Rattle.whole.specs.Tests.{failed, passed, refused, decides-as}
+use Rattle.record.specs.Parts.{range-of}
+use Rattle.record.proofs.Fields.{stores}
+use Rattle.record.proofs.all_right.Statement.{statement}
+use Rattle.record.proofs.all_right.Tie as tie
+
+in-range-requires : tie.Need-in-range-requires
+in-range-requires c κs = search needs
+
+returns : tie.Need-returns
+returns c = refused (λ p. failed (range-of _ (c .before .in-range .ensures)) (c .if1 .taken) (p .settings))
+
+last-right-requires : tie.Need-last-right-requires
+last-right-requires c κs = search needs
+
+returns-2 : tie.Need-returns-2
+returns-2 c = refused (λ p. failed (c .before .last-right .ensures) (c .if2 .taken) (p .last))
+
+returns-3 : tie.Need-returns-3
+returns-3 c = refused (λ p. omega (arith, p .head .behind))
+
+heard-right-requires : tie.Need-heard-right-requires
+heard-right-requires c κs = search needs
+
+returns-4 : tie.Need-returns-4
+returns-4 c = refused (λ p. failed (c .before .heard-right .ensures) (c .if4 .taken) (p .heard))
+
+slice-aggregate-pitch-right : tie.Need-slice-aggregate-pitch-right
+slice-aggregate-pitch-right c = search needs
+
+pitch-right-requires : tie.Need-pitch-right-requires
+pitch-right-requires c κs =
+    let s = c .before .before .before .before .before .before .before .before .before .before in
+    let k = stores (s .args .h) _ (s .good .1 .0) in (k .store, k .storeFits)
+
+returns-5 : tie.Need-returns-5
+returns-5 c =
+    let c4 = c .before .before .before in
+    let c3 = c4 .before .before in
+    let c2 = c3 .before .before in
+    let c1 = c2 .before .before in
+    decides-as (c .pitch-right .ensures)
+    (λ v. record {
+      settings = passed (range-of _ (c1 .before .in-range .ensures)) (c1 .if1 .left);
+      heard = passed (c4 .before .heard-right .ensures) (c4 .if4 .left);
+      pitch = v;
+      head = record { behind = c3 .if3 .left };
+      last = passed (c2 .before .last-right .ensures) (c2 .if2 .left);
+    })
+    (λ p. p .pitch)
+
+pub all-right-spec : {M : Type 1} → statement M
+all-right-spec =
+    tie.close
+    (tie.spec
+    in-range-requires
+    returns
+    last-right-requires
+    returns-2
+    returns-3
+    heard-right-requires
+    returns-4
+    slice-aggregate-pitch-right
+    pitch-right-requires
+    returns-5)

@@ -1,0 +1,94 @@
+-- Laws of the parts: each is decided by a function, and what the types alone say of them.
+use mathlib.Core.Path.{_≡_, refl, sym, ap, _∙_}
+use mathlib.Core.Bool.{Bool, true, false, cond}
+use mathlib.Core.List.{List}
+use Prim.Native.Nat.{ℕ, _+_, _-_, _/_, _≤_, _<_}
+use native.Mathlib.Omega.{arith}
+use lib.IntN.{ℤ, pos}
+use lib.ListN.{length}
+use lib.Seq.{take-all}
+use Rattle.whole.specs.Tests.{Decides, by, yes-and-no, decides-as}
+use Rattle.rules.specs.declared.Settings.{Settings}
+use Rattle.rules.specs.declared.Tone.{Tone}
+use Rattle.rules.specs.Rules.{Sound, silence, heardAll, inRange, searching, tracking, leastPeriod, greatestPeriod, leastRate, greatestRate}
+use Rattle.rules.specs.Ranges.{in-range, is-in-range}
+use Rattle.rules.specs.Facts.{InRange, ToneIn, pitched, unpitched, OfTable, LagsIn, PitchIn, valueAt, Right}
+use Rattle.rules.specs.Sane.{tracking-is-not-searching}
+use Rattle.ages.specs.Ages.{ago, Samples}
+use Rattle.tracking.specs.declared.Tracker.{Tracker}
+use Rattle.pitch.specs.declared.Pitch.{Pitch as KeptPitch}
+use Rattle.pitch.specs.Pitches.{modeOf, pitchOf, PitchRight}
+use Rattle.pitch.specs.Listening.{is-tracking, is-searching, lags-of}
+use Rattle.record.specs.declared.Heard.{Heard}
+use Rattle.record.specs.Records.{soundOf}
+
+-- ---- settings
+module _ {b : Bool} (s : Settings) where
+  pub range-of : b ≡ inRange s → Decides b (InRange s)
+  range-of e = record { yes = λ y. in-range s (sym e ∙ y); no = λ n r. yes-and-no (e ∙ is-in-range s r) n }
+
+  pub range-is : Decides b (InRange s) → b ≡ inRange s
+  range-is d = by b (λ y. y ∙ sym (is-in-range s (d .yes y))) (λ n. by (inRange s) (λ y. absurd (d .no n (in-range s y))) (λ m. n ∙ sym m))
+
+-- ---- what was heard
+
+-- the samples from before a take of n
+pub silent-of : {b : Bool} (s : List ℤ) (kept n m : ℕ) → m ≡ kept - n → Decides b ((i : ℕ) → i < m → valueAt s i ≡ pos 0) → Decides b ((i : ℕ) → i + n < kept → valueAt s i ≡ pos 0)
+silent-of s kept n m e d = decides-as d (λ p i l. p i (omega arith)) (λ p i l. p i (omega arith))
+
+-- the sound of all that is kept, and its sums
+pub ago-all : (s : List ℤ) (m : ℕ) → length s ≡ m → ago s m ≡ soundOf s
+unfolding ago
+ago-all s m e = ap (heardAll silence) (take-all m s (omega arith))
+
+pub right-of : {b : Bool} {h : List ℤ} {e : List ℕ} {low : ℕ} (s : List ℤ) (m n : ℕ) → length s ≡ m → length e ≡ n → Decides b (Right (ago s m) low (length e) e h) → Decides b (Right (soundOf s) low n e h)
+right-of s m n p q d = rw (ago-all s m p, q) at d
+
+-- what its types say
+pub record Stores (h : Heard) : Type 0 where
+  pub store : length (h .store) ≡ 1764
+  pub eighths : length (h .eighths) ≡ 224
+  pub energies : length (h .energies) ≡ 109
+  pub correlations : length (h .correlations) ≡ 109
+  pub storeFits : Samples (h .store)
+  pub eighthsFit : Samples (h .eighths)
+
+-- ---- a tone by its period
+module _ {t : Tone} where
+  pub rate-without : t .period ≡ 0 → ToneIn t → t .rate ≡ 65536
+  rate-without z (pitched a b c d e) = absurd (omega arith)
+  rate-without z (unpitched p r) = r
+
+  pub ranges-with : (t .period ≡ 0 → ⊥) → ToneIn t → ((leastPeriod ≤ t .period) × (t .period ≤ greatestPeriod)) × OfTable (t .note) × ((leastRate ≤ t .rate) × (t .rate ≤ greatestRate))
+  ranges-with z (pitched a b c d e) = ((a, b), c, (d, e))
+  ranges-with z (unpitched p r) = absurd (z p)
+
+-- ---- a pitch by its mode
+
+-- the eight lags in their range, with their sums
+pub record TrackerRight (x : Sound) (t : Tracker) : Type 0 where
+  pub lags : LagsIn (t .low) (t .last)
+  pub sums : Right x (t .low) 8 (t .e) (t .h)
+
+module _ {x : Sound} {v : KeptPitch} where
+  pub right-tracking : v .tracking ≡ 1 → ToneIn (v .tone) → TrackerRight x (v .tracker) → PitchRight x v
+  right-tracking e o k =
+      record {
+        flag = omega arith;
+        pitch = record { tone = o; lags = rw (is-tracking v e) (k .lags); whileSearching = λ s. absurd (tracking-is-not-searching (sym (is-tracking v e) ∙ s)) };
+        sums = λ f. k .sums;
+      }
+
+  pub tracking-right : v .tracking ≡ 1 → PitchRight x v → TrackerRight x (v .tracker)
+  tracking-right e r = record { lags = lags-of r e; sums = r .sums e }
+
+  pub right-searching : v .tracking ≡ 0 → ToneIn (v .tone) → v .tone .period ≡ 0 → PitchRight x v
+  right-searching e o z =
+      record {
+        flag = omega arith;
+        pitch = record { tone = o; lags = rw (is-searching v (λ f. omega arith)) tt; whileSearching = λ s. z };
+        sums = λ f. absurd (omega arith);
+      }
+
+  pub searching-right : (v .tracking ≡ 1 → ⊥) → PitchRight x v → v .tone .period ≡ 0
+  searching-right n r = r .pitch .whileSearching (is-searching v n)

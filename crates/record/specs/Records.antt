@@ -1,0 +1,82 @@
+-- The parts of a tuner's record: settings, what was heard, the pitch, the read head and the last block. When each is right, and fresh. Definitions only.
+use mathlib.Core.Path.{_≡_}
+use mathlib.Core.List.{List}
+use Prim.Native.Nat.{ℕ, _+_, _/_, _≤_, _<_}
+use lib.IntN.{ℤ, pos}
+use lib.ListN.{replicate}
+use Rattle.rules.specs.declared.Settings.{Settings}
+use Rattle.rules.specs.Rules.{Sound, silence, heardAll, farthest, noTone}
+use Rattle.rules.specs.Facts.{InRange, valueAt, Right}
+use Rattle.pitch.specs.declared.Pitch.{Pitch as KeptPitch}
+use Rattle.pitch.specs.Pitches.{PitchRight, blank}
+use Rattle.record.specs.declared.Heard.{Heard}
+use Rattle.record.specs.declared.Head.{Head}
+use Rattle.record.specs.declared.Last.{Last}
+
+-- a take holds at most 1,000,000,000 samples, a block 1 to 512
+abbrev pub takeLimit : ℕ
+takeLimit = 1000000000
+
+abbrev pub longestBlock : ℕ
+longestBlock = 512
+
+-- so many samples are kept, and so many at eighth rate
+abbrev pub keptSamples : ℕ
+keptSamples = 1764
+
+abbrev pub keptEighths : ℕ
+keptEighths = 224
+
+-- the sound of the kept samples: what is from before them counts as 0
+abbrev pub soundOf : List ℤ → Sound
+soundOf kept = heardAll silence kept
+
+-- ---- what was heard
+
+-- the count is at most the limit, kept samples from before the take are 0, and the sums are the direct ones
+pub record HeardRight (h : Heard) : Type 0 where
+  pub count : h .count ≤ takeLimit
+  pub before : (i : ℕ) → i + h .count < keptSamples → valueAt (h .store) i ≡ pos 0
+  pub eighthsBefore : (i : ℕ) → i + h .count / 8 < keptEighths → valueAt (h .eighths) i ≡ pos 0
+  pub sums : Right (soundOf (h .eighths)) 2 109 (h .energies) (h .correlations)
+
+unfoldable pub freshHeard : Heard
+freshHeard =
+    record {
+      count = 0;
+      energies = replicate 109 0;
+      correlations = replicate 109 (pos 0);
+      store = replicate keptSamples (pos 0);
+      eighths = replicate keptEighths (pos 0);
+    }
+
+-- ---- the pitch: right as `PitchRight` says
+
+unfoldable pub freshPitch : KeptPitch
+freshPitch = record { tracker = blank; tone = noTone; tracking = 0 }
+
+-- ---- the read head: not ahead of the input nor over 1,000 samples behind
+
+pub record HeadRight (d : Head) : Type 0 where
+  pub behind : d .behind ≤ farthest
+
+unfoldable pub freshHead : Head
+freshHead = record { behind = 0 }
+
+-- ---- the last block of a take of so many samples; its counts and output are not tested
+
+pub record LastRight (count : ℕ) (l : Last) : Type 0 where
+  pub length : l .length ≤ longestBlock
+  pub within : l .length ≤ count
+
+-- there is none
+unfoldable pub noLast : Last
+noLast = record { number = 0; length = 0; repeated = 0; dropped = 0; out = replicate longestBlock (pos 0) }
+
+-- ---- all parts are right
+pub record AllRight (s : Settings) (h : Heard) (v : KeptPitch) (d : Head) (l : Last) : Type 0 where
+  pub settings : InRange s
+  pub heard : HeardRight h
+  pub pitch : PitchRight (soundOf (h .store)) v
+  pub head : HeadRight d
+  pub last : LastRight (h .count) l
