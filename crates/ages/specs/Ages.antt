@@ -24,10 +24,6 @@ ago s m = heardAll silence (take m s)
 pub record Samples (s : List ℤ) : Type 0 where
   pub each : (i : ℕ) → SFits w16 (valueAt s i)
 
--- the samples xs laid into a store from a place on
-abbrev pub laid : List ℤ → ℕ → List ℤ → List ℤ
-laid s from xs = take from s ++ xs ++ drop (from + length xs) s
-
 -- ---- one sample more
 module _ (s : List ℤ) (m : ℕ) (h : m < length s) where
   pub ago-next : ago s (m + 1) ≡ heard (valueAt s m) (ago s m)

@@ -1,24 +1,10 @@
-// The kept samples, oldest first, and the block after them in one linear store: which sample is how far back.
+// Samples in a linear store, oldest first: which sample is how far back.
 
 ghost use mathlib.Core.Path.{_≡_};
 ghost use Prim.Native.Nat.{ℕ, _+_, _≤_, _<_};
 ghost use lib.ListN.{length};
 ghost use Rattle.rules.specs.Rules.{eighthSample};
-ghost use Rattle.ages.specs.Ages.{ago, laid, Samples};
-
-// Lays the samples xs into a store from a place on.
-pub fn lay(into: &mut [i16], from: usize, xs: &[i16])
-    requires { ⌜ from + length (now xs) ≤ length (now into) ⌝ }
-    ensures laid { λ r. ⌜ now (into .exit) ≡ laid (now (into .entry)) from (now (xs .entry)) ⌝ }
-    ensures samples { λ r. ⌜ (Samples (now (into .entry)) → Samples (now (into .exit))) ⌝ }
-{
-    let mut i: usize = 0;
-    while i < xs.len() {
-        let x = xs[i];
-        into[from + i] = x;
-        i += 1;
-    }
-}
+ghost use Rattle.ages.specs.Ages.{ago, Samples};
 
 // The sample of k samples ago, of the first m.
 pub fn back(s: &[i16], m: usize, k: usize) -> i16

@@ -118,11 +118,3 @@ shownAs Refused = bare 9
 pub data HostMetered (r : Record) (m : Shown) : Type 0 where
   held : r .tracking ≤ 1 → {x : Meter} → Metered (tunerOf r) x → m ≡ shownAs x → HostMetered r m
   unheld : 1 < r .tracking → m ≡ shownAs Refused → HostMetered r m
-
--- ---- cutting
-
--- of a recording of n samples, the k-th stretch of 512: the part of it that `cut` hands back, as its place and its length
-pub record HostCut (n k : ℕ) (p : Stretch) : Type 0 where
-  pub from : p .from ≡ min (512 * k) n
-  pub count : p .count ≡ min 512 (n - 512 * k)
-  pub part : (recording : List ℤ) → length recording ≡ n → take (p .count) (drop (p .from) recording) ≡ take 512 (drop (512 * k) recording)

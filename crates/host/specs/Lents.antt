@@ -175,31 +175,3 @@ module _ {r r′ : Record} {n : ℕ} where
 
   pub unreset-record : HostReset r r′ n → (n ≡ 0 → ⊥) → r′ ≡ r
   unreset-record p not = left-alone (λ t′ p. p .tuner ∙ kept-unless _ _ not (p .answer)) p
-
--- ---- cutting
-
-either : (a b : ℕ) → (a ≤ b) ⊎ (b ≤ a)
-either a b = by (leb a b) (λ e. inl (leb-true a b e)) (λ e. let h = leb-false a b e in inr (omega arith))
-
--- the place and the length of the k-th stretch make its part
-module _ (n k : ℕ) (p : Stretch) (e : p .from ≡ min (512 * k) n) (f : p .count ≡ min 512 (n - p .from)) where
-  same-rest : (xs : List ℤ) → length xs ≡ n → drop (p .from) xs ≡ drop (512 * k) xs
-  same-rest xs l =
-      ⊎-elim
-      (λ h. ap (λ (m : ℕ). drop m xs) (e ∙ min-eq-left h))
-      (λ h. drop-of-length-le xs {i = p .from} (omega (arith, min-eq-right h)) ∙ sym (drop-of-length-le xs {i = 512 * k} (omega arith)))
-      (either (512 * k) n)
-
-  same-part : (xs : List ℤ) → length xs ≡ n → take (p .count) (drop (p .from) xs) ≡ take 512 (drop (p .from) xs)
-  same-part xs l =
-      let d = length-drop (p .from) xs in
-      ⊎-elim
-      (λ h. ap (λ (m : ℕ). take m (drop (p .from) xs)) (f ∙ min-eq-left h))
-      (λ h. take-all (p .count) (drop (p .from) xs) (omega (arith, min-eq-right h)) ∙ sym (take-all 512 (drop (p .from) xs) (omega arith)))
-      (either 512 (n - p .from))
-
-  left-over : n - p .from ≡ n - 512 * k
-  left-over = ⊎-elim (λ h. ap (λ (m : ℕ). n - m) (e ∙ min-eq-left h)) (λ h. omega (arith, min-eq-right h)) (either (512 * k) n)
-
-  pub cut-is : HostCut n k p
-  cut-is = record { from = e; count = f ∙ ap (min 512) left-over; part = λ xs l. same-part xs l ∙ ap (take 512) (same-rest xs l) }

@@ -9,10 +9,9 @@ use lib.ListN.{length}
 use lib.Seq.{take-all}
 use Rattle.whole.specs.Tests.{Decides, by, yes-and-no, decides-as}
 use Rattle.rules.specs.declared.Settings.{Settings}
-use Rattle.rules.specs.declared.Tone.{Tone}
-use Rattle.rules.specs.Rules.{Sound, silence, heardAll, inRange, searching, tracking, leastPeriod, greatestPeriod, leastRate, greatestRate}
+use Rattle.rules.specs.Rules.{Sound, silence, heardAll, inRange, searching, tracking}
 use Rattle.rules.specs.Ranges.{in-range, is-in-range}
-use Rattle.rules.specs.Facts.{InRange, ToneIn, pitched, unpitched, OfTable, LagsIn, PitchIn, valueAt, Right}
+use Rattle.rules.specs.Facts.{InRange, ToneIn, LagsIn, PitchIn, valueAt, Right}
 use Rattle.rules.specs.Sane.{tracking-is-not-searching}
 use Rattle.ages.specs.Ages.{ago, Samples}
 use Rattle.tracking.specs.declared.Tracker.{Tracker}
@@ -52,16 +51,6 @@ pub record Stores (h : Heard) : Type 0 where
   pub correlations : length (h .correlations) ≡ 109
   pub storeFits : Samples (h .store)
   pub eighthsFit : Samples (h .eighths)
-
--- ---- a tone by its period
-module _ {t : Tone} where
-  pub rate-without : t .period ≡ 0 → ToneIn t → t .rate ≡ 65536
-  rate-without z (pitched a b c d e) = absurd (omega arith)
-  rate-without z (unpitched p r) = r
-
-  pub ranges-with : (t .period ≡ 0 → ⊥) → ToneIn t → ((leastPeriod ≤ t .period) × (t .period ≤ greatestPeriod)) × OfTable (t .note) × ((leastRate ≤ t .rate) × (t .rate ≤ greatestRate))
-  ranges-with z (pitched a b c d e) = ((a, b), c, (d, e))
-  ranges-with z (unpitched p r) = absurd (z p)
 
 -- ---- a pitch by its mode
 

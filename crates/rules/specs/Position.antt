@@ -19,8 +19,8 @@ use Rattle.whole.specs.Floor.{floor-is, floor-one}
 use Rattle.whole.specs.Numbers.{floorDiv}
 use Rattle.whole.specs.Ring.{var, con, _⊕_, _⊖_, _⊗_, solve}
 use Rattle.rules.specs.declared.Tone.{Tone}
-use Rattle.rules.specs.Rules.{Sound, Growth, leastRate, greatestRate, greatestPeriod, inputAt, cycleRepeated, cycleDropped, cycles, growth, sampleAt, between, wholeOf, fractionOf, reading}
-use Rattle.rules.specs.Facts.{ToneIn, pitched, unpitched, InBounds}
+use Rattle.rules.specs.Rules.{Sound, Growth, leastRate, greatestRate, leastPeriod, greatestPeriod, inputAt, cycleRepeated, cycleDropped, cycles, growth, sampleAt, between, wholeOf, fractionOf, reading}
+use Rattle.rules.specs.Facts.{ToneIn, pitched, unpitched, OfTable, InBounds}
 
 -- ---- the bounds
 
@@ -158,6 +158,16 @@ tone-paced (unpitched z r) = record { slow = omega arith; fast = omega arith; up
 pub tone-rate : {t : Tone} → ToneIn t → (leastRate ≤ t .rate) × (t .rate ≤ greatestRate)
 tone-rate (pitched a b n c d) = (c, d)
 tone-rate (unpitched z r) = omega arith
+
+-- by its period
+module _ {t : Tone} where
+  pub rate-without : t .period ≡ 0 → ToneIn t → t .rate ≡ 65536
+  rate-without z (pitched a b c d e) = absurd (omega arith)
+  rate-without z (unpitched p r) = r
+
+  pub ranges-with : (t .period ≡ 0 → ⊥) → ToneIn t → ((leastPeriod ≤ t .period) × (t .period ≤ greatestPeriod)) × OfTable (t .note) × ((leastRate ≤ t .rate) × (t .rate ≤ greatestRate))
+  ranges-with z (pitched a b c d e) = ((a, b), c, (d, e))
+  ranges-with z (unpitched p r) = absurd (z p)
 
 -- what a growth that keeps the bounds after sample n leaves
 record Kept (n : ℕ) (g : Growth) : Type 0 where

@@ -16,22 +16,6 @@ use Rattle.tuner.specs.declared.Tuner.{Tuner}
 use Rattle.tuner.specs.declared.Answer.{Answer}
 use Rattle.tuner.specs.Tuners.{Good, freshTuner, afterBlock, IsLast, lastSamples, nextNumber, Fits, Verdict, record-out-of-range, block-empty, block-over-512, output-short, number-neither, other-samples, given-again, take-full, taken, tunerBy, plain, answerBy, outBy, Took, ChangeVerdict, withSettings, setting-out-of-range, changed, Changed, ResetVerdict, begun-again, Reset}
 
--- ---- the number where the record is good and the block fits, over the record's numbers
-
--- there is a last block, of so many samples, and it has this number
-abbrev pub HasNumber : ℕ → ℕ → ℕ → Type 0
-HasNumber size last k = (0 < size) × (k ≡ last)
-
-abbrev pub following : ℕ → ℕ → ℕ
-following size last = cond (eqb size 0) 0 ((last + 1) % 65536)
-
-pub data Numbered (count last size : ℕ) (store : List ℤ) (k : ℕ) (xs : List ℤ) : ℕ → Type 0 where
-  neither : (HasNumber size last k → ⊥) → (k ≡ following size last → ⊥) → Numbered count last size store k xs 5
-  other : HasNumber size last k → (xs ≡ drop (1764 - size) store → ⊥) → Numbered count last size store k xs 6
-  again : HasNumber size last k → xs ≡ drop (1764 - size) store → Numbered count last size store k xs 1
-  full : (HasNumber size last k → ⊥) → k ≡ following size last → 1000000000 < count + length xs → Numbered count last size store k xs 7
-  new : (HasNumber size last k → ⊥) → k ≡ following size last → count + length xs ≤ 1000000000 → Numbered count last size store k xs 0
-
 module _ {t : Tuner} {k : ℕ} {xs : List ℤ} {room : ℕ} where
   pub by-number : {v : ℕ} → Fits t xs room → Numbered (t .count) (t .number) (t .length) (t .store) k xs v → Verdict t k xs room v
   by-number f (neither l n) = number-neither f l n

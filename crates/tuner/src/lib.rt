@@ -52,21 +52,6 @@ pub struct Taken {
     pub answer: Answer,
 }
 
-// Period and wanted period in samples, and the rate as a ratio.
-pub struct Figures {
-    pub period: f32,
-    pub wanted: f32,
-    pub rate: f32,
-}
-
-// What a read of the meter shows; locking has the found lag in samples.
-pub enum Meter {
-    Searching,
-    Locking(f32),
-    Pitched(Figures),
-    Refused,
-}
-
 // A number from one to another.
 fn within(x: u32, from: u32, to: u32) -> bool
     ensures { λ r. ⌜ Decides r ((from ≤ x) × (x ≤ to)) ⌝ }
@@ -286,6 +271,12 @@ fn plain(number: u32) -> Answer
     }
 }
 
+pub fn start_default() -> Tuner
+    ensures { λ r. ⌜ r ≡ freshTuner defaults ⌝ }
+{
+    fresh_tuner(default_settings())
+}
+
 // The fresh tuner with these settings, or the default tuner beside 8.
 pub fn start(s: Settings) -> Taken
     ensures { λ r. ⌜ Started s (r .tuner) (r .answer) ⌝ }
@@ -301,129 +292,6 @@ pub fn start(s: Settings) -> Taken
         tuner: fresh_tuner(d),
         answer: plain(8),
     }
-}
-
-// A start with the defaults, which is taken.
-pub fn start_default() -> Taken
-    ensures { λ r. ⌜ Started defaults (r .tuner) (r .answer) ⌝ }
-{
-    start(default_settings())
-}
-
-// n / 256.
-fn figure(n: u32) -> f32
-    requires { ⌜ n < 2 ^ 24 ⌝ }
-    ensures { λ r. ⌜ Exactly n 256 r ⌝ }
-{
-    n as f32 / 256.0
-}
-
-// n / 65536.
-fn fine_figure(n: u32) -> f32
-    requires { ⌜ n < 2 ^ 24 ⌝ }
-    ensures { λ r. ⌜ Exactly n 65536 r ⌝ }
-{
-    n as f32 / 65536.0
-}
-
-fn lag_figure(lag: u32) -> f32
-    requires { ⌜ lag < 2 ^ 24 ⌝ }
-    ensures { λ r. ⌜ Exactly lag 1 r ⌝ }
-{
-    lag as f32
-}
-
-// What the meter shows of a good record's voice.
-fn shown(v: Voice) -> Meter
-    requires { ⌜ Readable v ⌝ }
-    ensures { λ r. ⌜ (r ≡ shownOf v) × Exact v r ⌝ }
-{
-    if !v.tracking {
-        return Meter::Searching;
-    }
-    if v.period == 0 {
-        return Meter::Locking(lag_figure(v.tracker.last));
-    }
-    let wanted = notes::note_period(v.note);
-    Meter::Pitched(Figures {
-        period: figure(v.period),
-        wanted: figure(wanted),
-        rate: fine_figure(v.rate),
-    })
-}
-
-// The samples are those of the store from a place on.
-fn same(samples: &[i16], store: &[i16; 1764], from: usize) -> bool
-    requires { ⌜ (length (now store) ≡ 1764) × (from + length (now samples) ≡ 1764) ⌝ }
-    ensures { λ r. ⌜ Decides r (now (samples .entry) ≡ drop from (now (store .entry))) ⌝ }
-{
-    let mut i: usize = 0;
-    while i < samples.len() {
-        if samples[i] != store[from + i] {
-            return false;
-        }
-        i += 1;
-    }
-    true
-}
-
-// The samples are those of the last block: the newest of the store, so many as it had.
-fn again(samples: &[i16], store: &[i16; 1764], size: u16) -> bool
-    requires { ⌜ (length (now store) ≡ 1764) × (size ≤ 512) ⌝ }
-    ensures { λ r. ⌜ Decides r (now (samples .entry) ≡ drop (1764 - size) (now (store .entry))) ⌝ }
-{
-    let n = size as usize;
-    if samples.len() != n {
-        return false;
-    }
-    same(samples, store, 1764 - n)
-}
-
-// There is a last block, and it has this number.
-fn is_last(size: u16, last: u16, number: u16) -> bool
-    ensures { λ r. ⌜ Decides r (HasNumber size last number) ⌝ }
-{
-    if size == 0 {
-        return false;
-    }
-    number == last
-}
-
-// The first block of a take is 0 and 65535 is followed by 0.
-fn next_number(size: u16, last: u16) -> u16
-    ensures { λ r. ⌜ r ≡ following size last ⌝ }
-{
-    if size == 0 {
-        return 0;
-    }
-    std::num::wrapping_add_u16(last, 1)
-}
-
-// The number of the answer where the record is good and the block fits.
-fn judge_number(
-    count: u32,
-    last: u16,
-    size: u16,
-    store: &[i16; 1764],
-    number: u16,
-    samples: &[i16],
-) -> u32
-    requires { ⌜ (length (now store) ≡ 1764) × (count ≤ 1000000000) × (size ≤ 512) × (length (now samples) ≤ 512) ⌝ }
-    ensures { λ r. ⌜ Numbered count last size (now (store .entry)) number (now (samples .entry)) r ⌝ }
-{
-    if is_last(size, last, number) {
-        if again(samples, store, size) {
-            return 1;
-        }
-        return 6;
-    }
-    if number != next_number(size, last) {
-        return 5;
-    }
-    if count + samples.len() as u32 > 1000000000 {
-        return 7;
-    }
-    0
 }
 
 // The number of the answer to a block, with so much room for the output.

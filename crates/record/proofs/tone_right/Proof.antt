@@ -4,7 +4,7 @@ use native.Mathlib.Omega.{arith}
 use borrow.Author.Needs.{needs}
 use Rattle.whole.specs.Tests.{failed, passed, refused, decides-eq, decides-as}
 use Rattle.rules.specs.Facts.{pitched, unpitched}
-use Rattle.record.specs.Parts.{rate-without, ranges-with}
+use Rattle.rules.specs.Position.{rate-without, ranges-with}
 use Rattle.record.proofs.tone_right.Statement.{statement}
 use Rattle.record.proofs.tone_right.Tie as tie
 
