@@ -24,7 +24,7 @@ each-fits (x ∷ xs) [] i p = absurd p
 each-fits (x ∷ xs) (u ∷ us) zero p = record { sfits = p .0 .1 }
 each-fits (x ∷ xs) (u ∷ us) (suc i) p = each-fits xs us i (p .1)
 
-field-samples : (xs : List ℤ) (us : List Val) → shadow (each ℤ (SInt w16 .own) (map (λ (v : ℤ). v) xs) us) → Samples xs
+pub field-samples : (xs : List ℤ) (us : List Val) → shadow (each ℤ (SInt w16 .own) (map (λ (v : ℤ). v) xs) us) → Samples xs
 field-samples xs us p =
     record { each = λ i. each-fits xs us i (subst (λ (ys : List ℤ). shadow (each ℤ (SInt w16 .own) ys us)) (map-id xs) p) }
 

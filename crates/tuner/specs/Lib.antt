@@ -1,8 +1,5 @@
-pub mod Goods
+pub mod Tuners
 pub mod Taking
 pub mod Afters
-pub mod Meters
-pub mod Metering
-pub mod Tuners
-pub mod Unrounded
 pub mod Verdicts
+pub mod Starts

@@ -1,4 +1,4 @@
--- A block is taken: the stores before and after it, and that the tuner put together from the samples' fold is `afterBlock`.
+-- Sounds of kept samples and the sums over them; the eighth-rate samples of a block.
 use mathlib.Core.Path.{_≡_, refl, sym, ap, _∙_}
 use mathlib.Core.Bool.{Bool, true, false, cond}
 use mathlib.Core.List.{List, [], _∷_, _++_, append-nil}
@@ -15,13 +15,14 @@ use mir.Syntax.{w16}
 use mir.Val.{SFits}
 use Rattle.whole.specs.Tests.{cond-case}
 use Rattle.whole.specs.Lists.{is-listOf}
-use Rattle.rules.specs.declared.Settings.{Settings}
+use Rattle.rules.specs.declared.InForce.{InForce}
 use Rattle.rules.specs.Rules.{Sound, silence, heard, heardAll, E, H, eighthDue, eighthSample, eighthsAfter, Take, after, stepped}
 use Rattle.rules.specs.Energies.{E-same, H-same}
-use Rattle.ages.specs.Ages.{ago, Samples, laid, ago-at}
+use Rattle.ages.specs.Ages.{ago-at}
 use Rattle.rules.specs.Facts.{valueAt, Right}
-use Rattle.tuner.specs.Tuners.{soundOf, keeping, made, energiesOf, correlationsOf}
-use Rattle.tuner.specs.Goods.{ago-all}
+use Rattle.record.specs.Records.{soundOf}
+use Rattle.record.specs.Parts.{ago-all}
+use Rattle.tuner.specs.Tuners.{made}
 
 -- ---- a sound and its list
 sound-at : (l : List ℤ) (i : ℕ) → i < length l → soundOf l i ≡ valueAt l (length l - 1 - i)
@@ -53,15 +54,8 @@ right-alike {x} {y} {low} same r =
       correlation = λ j m. r .correlation j m ∙ H-same x y (low + j) (λ i g. same i (omega arith));
     }
 
-pub kept-right : {low n : ℕ} {e : List ℕ} {h : List ℤ} (k : ℕ) (l : List ℤ) → 2 * (low + n) ≤ length (drop k l) → Right (soundOf l) low n e h → Right (soundOf (drop k l)) low n e h
-kept-right k l few r = right-alike (λ i g. sym (kept-age k l i (omega arith))) r
-
--- sums that are right are the lists that the rules give
-pub right-energies : {x : Sound} {low n : ℕ} {e : List ℕ} {h : List ℤ} → Right x low n e h → e ≡ energiesOf x low n
-right-energies {x} {low} {n} {e} r = is-listOf (λ (j : ℕ). E x (low + j)) n 0 e (r .energies) (r .energy)
-
-pub right-correlations : {x : Sound} {low n : ℕ} {e : List ℕ} {h : List ℤ} → Right x low n e h → h ≡ correlationsOf x low n
-right-correlations {x} {low} {n} {h = h} r = is-listOf (λ (j : ℕ). H x (low + j)) n (pos 0) h (r .correlations) (r .correlation)
+pub newest-right : {low n : ℕ} {e : List ℕ} {h : List ℤ} (k : ℕ) (l : List ℤ) → 2 * (low + n) ≤ length (drop k l) → Right (soundOf l) low n e h → Right (soundOf (drop k l)) low n e h
+newest-right k l few r = right-alike (λ i g. sym (kept-age k l i (omega arith))) r
 
 -- ---- the eighth-rate samples of a block
 pub made-length : (n : ℕ) (x : Sound) (xs : List ℤ) → length (made n x xs) + n / 8 ≡ (n + length xs) / 8
@@ -89,11 +83,11 @@ made-append n x (new ∷ more) ys =
     either true z first last = refl
     either false z first last = refl
 
-pub after-eighths : (s : Settings) (t : Take) (xs : List ℤ) → after s t xs .eighths ≡ heardAll (t .eighths) (made (t .count) (t .sound) xs)
+pub after-eighths : (f : InForce) (t : Take) (xs : List ℤ) → after f t xs .eighths ≡ heardAll (t .eighths) (made (t .count) (t .sound) xs)
 unfolding after made heardAll stepped eighthsAfter
-after-eighths s t [] = refl
-after-eighths s t (new ∷ more) =
-    after-eighths s (stepped s t new .next) more
+after-eighths f t [] = refl
+after-eighths f t (new ∷ more) =
+    after-eighths f (stepped f t new .next) more
     ∙ either (eighthDue (suc (t .count))) (eighthSample (heard new (t .sound))) (t .eighths) (made (suc (t .count)) (heard new (t .sound)) more)
   where
     either : (b : Bool) (z : ℤ) (y : Sound) (zs : List ℤ) → heardAll (cond b (heard z y) y) zs ≡ heardAll y (cond b (z ∷ zs) zs)

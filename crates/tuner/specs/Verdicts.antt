@@ -13,11 +13,13 @@ use Rattle.rules.specs.declared.Settings.{Settings}
 use Rattle.rules.specs.Rules.{inRange}
 use Rattle.rules.specs.Blocks.{gives-length}
 use Rattle.tuner.specs.declared.Tuner.{Tuner}
-use Rattle.tuner.specs.declared.Answer.{Answer}
-use Rattle.tuner.specs.Tuners.{Good, freshTuner, afterBlock, IsLast, lastSamples, nextNumber, Fits, Verdict, record-out-of-range, block-empty, block-over-512, output-short, number-neither, other-samples, given-again, take-full, taken, tunerBy, plain, answerBy, outBy, Took, ChangeVerdict, withSettings, setting-out-of-range, changed, Changed, ResetVerdict, begun-again, Reset}
+use Rattle.answers.specs.declared.Answer.{Answer}
+use Rattle.answers.specs.Numbers.{plain, HasNumber, following, Numbered, neither, other, again, full, new}
+use Rattle.record.specs.Records.{takeLimit, longestBlock}
+use Rattle.tuner.specs.Tuners.{Good, freshTuner, afterBlock, IsLast, lastSamples, nextNumber, Fits, Verdict, record-out-of-range, block-empty, block-over-512, output-short, number-neither, other-samples, given-again, take-full, taken, tunerBy, answerBy, outBy, Took, ChangeVerdict, withSettings, setting-out-of-range, changed, Changed, ResetVerdict, begun-again, Reset}
 
 module _ {t : Tuner} {k : ℕ} {xs : List ℤ} {room : ℕ} where
-  pub by-number : {v : ℕ} → Fits t xs room → Numbered (t .count) (t .number) (t .length) (t .store) k xs v → Verdict t k xs room v
+  pub by-number : {v : ℕ} → Fits t xs room → Numbered (t .heard .count) (t .last .number) (t .last .length) (t .heard .store) k xs v → Verdict t k xs room v
   by-number f (neither l n) = number-neither f l n
   by-number f (other l e) = other-samples f l e
   by-number f (again l e) = given-again f l e
@@ -56,7 +58,7 @@ module _ {t : Tuner} {xs : List ℤ} {room v : ℕ} {A : Type 0} where
 module _ {t : Tuner} {k : ℕ} {xs : List ℤ} {room : ℕ} where
   path : {v : ℕ} → Verdict t k xs room v → Before t xs room v
       (Step (IsLast t k)
-      (Step (k ≡ nextNumber t) (v ≡ 5) (Step (t .count + length xs ≤ 1000000000) (v ≡ 7) (v ≡ 0)))
+      (Step (k ≡ nextNumber t) (v ≡ 5) (Step (t .heard .count + length xs ≤ 1000000000) (v ≡ 7) (v ≡ 0)))
       (Step (xs ≡ lastSamples t) (v ≡ 6) (v ≡ 1)))
   path (record-out-of-range n) = isn't n refl
   path (block-empty g e) = is g (isn't (λ p. omega arith) refl)
@@ -82,7 +84,7 @@ module _ {t : Tuner} {k : ℕ} {xs : List ℤ} {room : ℕ} where
   pub verdict-fits : {v : ℕ} → Verdict t k xs room v → v ≤ 1 → Fits t xs room
   verdict-fits p h = fits-on h (path p)
 
-  pub verdict-zero : Verdict t k xs room 0 → t .count + length xs ≤ 1000000000
+  pub verdict-zero : Verdict t k xs room 0 → t .heard .count + length xs ≤ 1000000000
   verdict-zero (taken f l n c) = c
 
 -- ---- what a block leaves, answers and writes, by its number
@@ -97,10 +99,10 @@ module _ {v : ℕ} (t : Tuner) (k : ℕ) (xs : List ℤ) where
 
 -- the answer with the counts that the tuner u then keeps, and the output with what it keeps
 abbrev pub counted : ℕ → Tuner → List ℤ → Answer
-counted v u xs = record { number = v; written = length xs; repeated = u .repeated; dropped = u .dropped }
+counted v u xs = record { number = v; written = length xs; repeated = u .last .repeated; dropped = u .last .dropped }
 
 abbrev pub overlaid : Tuner → List ℤ → List ℤ → List ℤ
-overlaid u xs ys = take (length xs) (u .out) ++ drop (length xs) ys
+overlaid u xs ys = take (length xs) (u .last .out) ++ drop (length xs) ys
 
 module _ (t : Tuner) (k : ℕ) (xs ys : List ℤ) where
   pub by-refused : (v : ℕ) → 1 < v → (answerBy v t k xs ≡ plain v) × (outBy v t k xs ys ≡ ys)
@@ -142,7 +144,7 @@ module _ {t : Tuner} {k : ℕ} {xs ys : List ℤ} where
       )
 
 -- the kept output stays 512 long
-pub out-length : (v : ℕ) (t : Tuner) (k : ℕ) (xs : List ℤ) → length xs ≤ 512 → length (t .out) ≡ 512 → length (tunerBy v t k xs .out) ≡ 512
+pub out-length : (v : ℕ) (t : Tuner) (k : ℕ) (xs : List ℤ) → length xs ≤ 512 → length (t .last .out) ≡ 512 → length (tunerBy v t k xs .last .out) ≡ 512
 unfolding tunerBy afterBlock
 out-length zero t k xs h e = simp (length-append, gives-length, length-drop, length-replicate) (omega arith)
 out-length (suc v) t k xs h e = rw (tuner-kept {v = suc v} t k xs (λ z. omega arith)) e

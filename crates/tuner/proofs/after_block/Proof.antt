@@ -1,25 +1,25 @@
 -- `tuner::after_block` meets its contract: a good record is where the samples' fold may begin, and what the fold leaves is put together (`after-is`).
 -- Assumes nothing.
-use mathlib.Core.Path.{_≡_, refl}
+use mathlib.Core.Path.{_≡_, refl, sym, ap, _∙_}
 use Prim.Native.Nat.{_≤_}
 use native.Mathlib.Omega.{arith}
+use borrow.Author.Needs.{needs}
 use lib.ListN.{length}
-use Rattle.voice.specs.declared.Progress.{Progress}
-use Rattle.tuner.specs.Goods.{Stores}
-use Rattle.tuner.specs.Taking.{Joined}
+use Rattle.record.specs.Parts.{Stores}
 use Rattle.tuner.specs.Afters.{begin-long, begin-ready, end-places-few, after-is}
 use Rattle.tuner.proofs.Fields.{stores}
-use borrow.Author.Needs.{needs}
 use Rattle.tuner.proofs.after_block.Statement.{statement}
 use Rattle.tuner.proofs.after_block.Tie as tie
-use Rattle.tuner.proofs.after_block.Reads as reads
-use Rattle.tuner.proofs.after_block.Lts as lts
-use Rattle.tuner.proofs.joined.Reads as joined-reads
-use Rattle.tuner.proofs.newest.Reads as newest-reads
-use Rattle.tuner.proofs.newest_eighths.Reads as newest-eighths-reads
-use Rattle.tuner.proofs.opened.Reads as opened-reads
-use Rattle.tuner.proofs.settled.Reads as settled-reads
-use Rattle.voice.proofs.run.Reads as run-reads
+
+-- where the stores are opened: the function's start, and what its types say
+abbrev start : tie.After-opened → tie.Start
+start o = o .before .before .before .before .before .before .before .before
+
+arrays : (c : tie.Start) → Stores (c .args .t .heard)
+arrays c = stores (c .args .t) _ (c .good .0)
+
+abbrev opening : tie.After-run → tie.After-opened
+opening r = r .before .before .before .before .before .before .before .before
 
 joined-requires : tie.Need-joined-requires
 joined-requires c κs = search needs
@@ -27,77 +27,87 @@ joined-requires c κs = search needs
 opened-requires : tie.Need-opened-requires
 opened-requires c κs = search needs
 
+cast-t21 : tie.Need-cast-t21
+cast-t21 c = let g = start (c .before) .pre .0 in omega (arith, g .heard .count)
+
+cast-t22 : tie.Need-cast-t22
+cast-t22 c = let g = start (c .before .before) .pre .0 in omega (arith, g .head .behind)
+
 slice-aggregate-run : tie.Need-slice-aggregate-run
 slice-aggregate-run c = search needs
 
-arrays : (c : tie.Start) → Stores (c .args .t)
-arrays c = stores (c .args .t) _ (c .good .0)
-
 run-requires : tie.Need-run-requires
 run-requires c κs =
-    let o = c .before .before .before .before .before in
-    let j = o .before in
-    let s = j .before .before .before .before .before .before .before in
+    let o = c .before .before .before .before .before .before .before in
+    let s = start o in
     let p = s .pre in
     let t = s .args .t in (
-      p .0 .settings,
-      begin-long t (p .0) (arrays s) (j .joined .ensures) (o .opened .ensures),
-      omega (arith, j .joined .ensures .long, p .2),
+      record { settings = p .0 .settings },
+      begin-long t (p .0) (arrays s) (o .before .joined .ensures) (o .opened .ensures),
+      omega (arith, o .before .joined .ensures .long, p .2),
       p .2,
-      begin-ready t (p .0) (arrays s) (j .joined .ensures) (o .opened .ensures),
+      begin-ready t (p .0) (arrays s) (o .before .joined .ensures) (o .opened .ensures),
       record { places = refl; count = p .3; repeated = refl; dropped = refl },
       refl,
     )
 
 few8 : (c : tie.After-run) → c .run .result .places ≤ 288
 few8 c =
-    let o = c .before .before .before .before .before .before in
-    let j = o .before in
-    let s = j .before .before .before .before .before .before .before in
+    let o = opening c in
+    let s = start o in
     let e = c .run .ensures in
-    end-places-few (s .args .t) (s .pre .0) (arrays s) (j .joined .ensures) (o .opened .ensures) (s .pre .2) (e .0 .eighths .long) (e .0) (e .1) (e .2)
+    end-places-few (s .args .t) (s .pre .0) (arrays s) (o .before .joined .ensures) (o .opened .ensures) (s .pre .2) (e .0 .eighths .long) (e .0) (e .1) (e .2)
 
-sub-k : tie.Need-sub-k
-sub-k c = search needs
+slice-aggregate-keep : tie.Need-slice-aggregate-keep
+slice-aggregate-keep c = search needs
 
-slice-aggregate-newest : tie.Need-slice-aggregate-newest
-slice-aggregate-newest c = search needs
+slice-aggregate-keep-2 : tie.Need-slice-aggregate-keep-2
+slice-aggregate-keep-2 c = search needs
 
-newest-requires : tie.Need-newest-requires
-newest-requires c κs =
-    let j = c .before .before .before .before .before .before .before .before .before in
-    omega (arith, j .joined .ensures .long, j .before .before .before .before .before .before .before .pre .2)
+keep-requires : tie.Need-keep-requires
+keep-requires c κs = let o = opening (c .before .before) in omega (arith, o .before .joined .ensures .long, start o .pre .2)
 
-slice-aggregate-newest-eighths : tie.Need-slice-aggregate-newest-eighths
-slice-aggregate-newest-eighths c = search needs
+slice-aggregate-keep-3 : tie.Need-slice-aggregate-keep-3
+slice-aggregate-keep-3 c = search needs
 
-newest-eighths-requires : tie.Need-newest-eighths-requires
-newest-eighths-requires c κs =
-    let r = c .before .before .before .before in
-    let e = r .run .ensures .0 in
-    omega (arith, few8 r, e .placed, e .eighths .long)
+slice-aggregate-keep-4 : tie.Need-slice-aggregate-keep-4
+slice-aggregate-keep-4 c = search needs
+
+sub-keep : tie.Need-sub-keep
+sub-keep c = let r = c .before .before .before .before .before .before .before in omega (arith, r .run .ensures .0 .placed)
+
+keep-requires-2 : tie.Need-keep-requires-2
+keep-requires-2 c κs = let r = c .before .before .before .before .before .before .before in omega (arith, few8 r, r .run .ensures .0 .eighths .long, r .run .ensures .0 .placed)
+
+cast-t39 : tie.Need-cast-t39
+cast-t39 c = let r = c .before .before .before .before .before .before .before .before .before .before in omega (arith, r .run .ensures .2 .count, start (opening r) .pre .3)
 
 settled-requires : tie.Need-settled-requires
 settled-requires c κs = search needs
 
-cast-length : tie.Need-cast-length
-cast-length c = omega (arith, c .before .before .before .before .before .before .before .before .before .before .before .before .before .before .before .before .before .before .before .before .pre .2)
+cast-t46 : tie.Need-cast-t46
+cast-t46 c = let r = c .before .before .before .before .before .before .before .before .before .before .before .before in omega (arith, r .run .ensures .0 .near)
 
-cast-repeated : tie.Need-cast-repeated
-cast-repeated c = let r = c .before .before .before .before .before .before .before in omega (arith, r .run .ensures .2 .repeated, r .before .before .before .before .before .before .before .before .before .before .before .before .before .before .pre .2)
+cast-t48 : tie.Need-cast-t48
+cast-t48 c = let r = c .before .before .before .before .before .before .before .before .before .before .before .before in omega (arith, start (opening r) .pre .2)
 
-cast-dropped : tie.Need-cast-dropped
-cast-dropped c = let r = c .before .before .before .before .before .before .before .before in omega (arith, r .run .ensures .2 .dropped, r .before .before .before .before .before .before .before .before .before .before .before .before .before .before .pre .2)
+cast-t49 : tie.Need-cast-t49
+cast-t49 c = let r = c .before .before .before .before .before .before .before .before .before .before .before .before .before in omega (arith, r .run .ensures .2 .repeated, start (opening r) .pre .2)
+
+cast-t50 : tie.Need-cast-t50
+cast-t50 c = let r = c .before .before .before .before .before .before .before .before .before .before .before .before .before .before in omega (arith, r .run .ensures .2 .dropped, start (opening r) .pre .2)
 
 returns : tie.Need-returns
 returns c =
-    let r = c .before .before .before .before .before .before .before .before in
-    let o = r .before .before .before .before .before .before in
-    let j = o .before in
-    let s = j .before .before .before .before .before .before .before in
+    let settled = c .before .before .before in
+    let eighths = settled .before .before .before in
+    let kept = eighths .before .before .before .before .before in
+    let r = kept .before .before .before in
+    let o = opening r in
+    let s = start o in
     let e = r .run .ensures in
-    after-is (s .args .t) (s .pre .0) (arrays s) (j .joined .ensures) (o .opened .ensures) (s .pre .2) (e .0 .eighths .long) (e .0) (e .1) (e .2)
-    (s .args .number) (c .before .before .before .before .before .newest .ensures) (c .before .before .before .newest-eighths .ensures) (c .before .before .settled .ensures)
+    after-is (s .args .t) (s .pre .0) (arrays s) (o .before .joined .ensures) (o .opened .ensures) (s .pre .2) (e .0 .eighths .long) (e .0) (e .1) (e .2) (s .args .number)
+    (kept .keep .ensures) (eighths .keep2 .ensures) (settled .settled .ensures)
 
 pub after-block-spec : {M : Type 1} → statement M
 after-block-spec =
@@ -105,15 +115,21 @@ after-block-spec =
     (tie.spec
     joined-requires
     opened-requires
+    cast-t21
+    cast-t22
     slice-aggregate-run
     run-requires
-    sub-k
-    slice-aggregate-newest
-    newest-requires
-    slice-aggregate-newest-eighths
-    newest-eighths-requires
+    slice-aggregate-keep
+    slice-aggregate-keep-2
+    keep-requires
+    slice-aggregate-keep-3
+    slice-aggregate-keep-4
+    sub-keep
+    keep-requires-2
+    cast-t39
     settled-requires
-    cast-length
-    cast-repeated
-    cast-dropped
+    cast-t46
+    cast-t48
+    cast-t49
+    cast-t50
     returns)

@@ -50,8 +50,8 @@ use Rattle.tuner.proofs.Tuner as T
 use Rattle.tuner.proofs.Tuner.Laws as T′
 use Rattle.tuner.proofs.Taken as K
 use Rattle.tuner.proofs.Taken.Laws as K′
-use Rattle.tuner.proofs.Answer as E
-use Rattle.tuner.proofs.Answer.Laws as E′
+use Rattle.answers.proofs.Answer as E
+use Rattle.answers.proofs.Answer.Laws as E′
 use Rattle.tuner.proofs.Tuner.block as block
 use Rattle.tuner.proofs.Tuner.block.Symbol as block-def
 use Rattle.tuner.proofs.Tuner.block.Symbol.{name as #tuner·block}

@@ -1,16 +1,30 @@
--- `tuner::fresh_tuner` meets its contract: an array of equal elements is their list, and the blank tracker is the one that is called for.
+-- `tuner::fresh_tuner` meets its contract: each of its parts is the fresh one.
 -- Assumes nothing.
+use mathlib.Core.Path.{_≡_}
 use borrow.Author.Needs.{needs}
 use Rattle.tuner.specs.Tuners.{freshTuner}
 use Rattle.tuner.proofs.fresh_tuner.Statement.{statement}
 use Rattle.tuner.proofs.fresh_tuner.Tie as tie
 
-blank-requires : tie.Need-blank-requires
-blank-requires c κs = search needs
+fresh-heard-requires : tie.Need-fresh-heard-requires
+fresh-heard-requires c κs = search needs
+
+fresh-pitch-requires : tie.Need-fresh-pitch-requires
+fresh-pitch-requires c κs = search needs
+
+fresh-head-requires : tie.Need-fresh-head-requires
+fresh-head-requires c κs = search needs
+
+no-last-requires : tie.Need-no-last-requires
+no-last-requires c κs = search needs
 
 returns : tie.Need-returns
 unfolding freshTuner
-returns c = rw (c .blank .ensures)
+returns c =
+    let d = c .before in
+    let v = d .before in
+    let h = v .before in
+    λ i. record { settings = h .before .args .s; heard = h .fresh-heard .ensures i; pitch = v .fresh-pitch .ensures i; head = d .fresh-head .ensures i; last = c .no-last .ensures i }
 
 pub fresh-tuner-spec : {M : Type 1} → statement M
-fresh-tuner-spec = tie.close (tie.spec blank-requires returns)
+fresh-tuner-spec = tie.close (tie.spec fresh-heard-requires fresh-pitch-requires fresh-head-requires no-last-requires returns)

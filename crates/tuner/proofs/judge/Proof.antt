@@ -4,7 +4,7 @@ use native.Mathlib.Omega.{arith}
 use borrow.Author.Needs.{needs}
 use Rattle.whole.specs.Tests.{passed, failed}
 use Rattle.tuner.specs.Tuners.{Good, Fits, record-out-of-range, block-empty, block-over-512, output-short}
-use Rattle.tuner.specs.Goods.{Stores}
+use Rattle.record.specs.Parts.{Stores}
 use Rattle.tuner.specs.Verdicts.{by-number}
 use Rattle.tuner.proofs.Fields.{stores}
 use Rattle.tuner.proofs.judge.Statement.{statement}
@@ -13,13 +13,13 @@ use Rattle.tuner.proofs.judge.Tie as tie
 good-requires : tie.Need-good-requires
 good-requires c κs = search needs
 
-kept : (c : tie.Start) → Stores (c .args .t1)
-kept c = stores _ _ (c .good .0)
+kept : (c : tie.Start) → Stores (c .args .t .heard)
+kept c = stores (c .args .t) _ (c .good .0)
 
-good-here : (c : tie.Else1) → Good (c .before .before .args .t1)
+good-here : (c : tie.Else1) → Good (c .before .before .args .t)
 good-here c = passed (c .before .good2 .ensures) (c .if1 .left)
 
-fits-here : (c : tie.Else4) → let a = c .before .before .before .before .before .args in Fits (a .t1) (a .samples .now) (a .room)
+fits-here : (c : tie.Else4) → let a = c .before .before .before .before .before .args in Fits (a .t) (a .samples .now) (a .room)
 fits-here c = record { good = good-here (c .before .before .before); nonempty = omega arith; most = omega arith; written = omega arith }
 
 returns : tie.Need-returns
@@ -35,7 +35,7 @@ returns-4 : tie.Need-returns-4
 returns-4 c = output-short (good-here (c .before .before .before)) (omega arith) (omega arith) (c .if4 .taken)
 
 judge-number-requires : tie.Need-judge-number-requires
-judge-number-requires c κs = let f = fits-here (c .before .before) in (kept (c .before .before .before .before .before .before .before) .store, f .good .count, f .good .length, f .most)
+judge-number-requires c κs = let f = fits-here (c .before .before) in (kept (c .before .before .before .before .before .before .before) .store, f .good .heard .count, f .good .last .length, f .most)
 
 returns-5 : tie.Need-returns-5
 returns-5 c = by-number (fits-here (c .before .before .before)) (c .judge-number .ensures)

@@ -8,9 +8,8 @@ use borrow.Author.Needs.{needs}
 use lib.ListN.{length}
 use Rattle.tuner.specs.declared.Tuner.{Tuner}
 use Rattle.tuner.specs.Tuners.{Fits, Verdict, tunerBy}
-use Rattle.tuner.specs.Goods.{Stores}
 use Rattle.tuner.specs.Verdicts.{verdict-fits, verdict-zero, tuner-taken, tuner-kept, took-refused, took-given, out-length}
-use Rattle.tuner.proofs.Fields.{stores}
+use Rattle.tuner.proofs.Fields.{out-long}
 use Rattle.tuner.proofs.Tuner.block.Statement.{statement}
 use Rattle.tuner.proofs.Tuner.block.Tie as tie
 
@@ -19,9 +18,6 @@ judge-requires c κs = search needs
 
 plain-requires : tie.Need-plain-requires
 plain-requires c κs = search needs
-
-kept : (c : tie.Start) → Stores (c .args .self)
-kept c = stores _ _ (c .good .0)
 
 fits-here : (c : tie.Else1) → let a = c .before .before .args in Fits (a .self) (a .samples .now) (length (a .out .now))
 fits-here c = verdict-fits (c .before .judge .ensures) (omega arith)
@@ -35,11 +31,11 @@ left-is c =
     (λ w. w .1 ∙ sym (tuner-kept (a .self) (a .number) (a .samples .now) (w .0 .left)))
     (c .if2 .came)
 
-left-length : (c : tie.Joined2) → length (c .if2 .t .out) ≡ 512
+left-length : (c : tie.Joined2) → length (c .if2 .t .last .out) ≡ 512
 left-length c =
     let a = c .before .before .before .args in
-    ap (λ (t : Tuner). length (t .out)) (left-is c)
-    ∙ out-length (c .before .before .judge .result) (a .self) (a .number) (a .samples .now) (fits-here (c .before) .most) (kept (c .before .before .before) .out)
+    ap (λ (t : Tuner). length (t .last .out)) (left-is c)
+    ∙ out-length (c .before .before .judge .result) (a .self) (a .number) (a .samples .now) (fits-here (c .before) .most) (out-long (a .self) _ (c .before .before .before .good .0))
 
 returns : tie.Need-returns
 returns c = took-refused (c .before .before .judge .ensures) (c .before .if1 .taken) (c .plain .ensures)

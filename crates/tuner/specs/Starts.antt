@@ -1,25 +1,14 @@
--- Laws of the meter and of a start: what a good record gives the meter, and that no second answer can meet either promise.
+-- Laws of the meter and of a start: no second answer can meet either promise, and settings in range are taken.
 use mathlib.Core.Path.{_≡_, sym, _∙_, subst}
 use mathlib.Core.Bool.{Bool, true, cond}
-use Prim.Native.Nat.{_≤_}
-use native.Mathlib.Omega.{arith}
 use Rattle.rules.specs.declared.Settings.{Settings}
 use Rattle.rules.specs.Rules.{inRange, defaults}
 use Rattle.rules.specs.Ranges.{defaults-in-range}
-use Rattle.voice.specs.declared.Voice.{Voice}
 use Rattle.tuner.specs.declared.Tuner.{Tuner}
-use Rattle.tuner.specs.declared.Answer.{Answer}
-use Rattle.tuner.specs.declared.Meter.{Meter}
-use Rattle.tuner.specs.Tuners.{Good, PitchRight, freshTuner, plain, Started}
-use Rattle.tuner.specs.Meters.{Metered, record-out-of-range, read}
-
--- what a good record says of its voice, as far as the meter needs it
-pub record Readable (v : Voice) : Type 0 where
-  pub pitch : PitchRight v
-  pub last : v .tracking ≡ true → v .tracker .last ≤ 880
-
-pub readable : {t : Tuner} → Good t → Readable (t .voice)
-readable g = record { pitch = g .pitch; last = λ e. let l = g .lags e in omega arith }
+use Rattle.answers.specs.declared.Answer.{Answer}
+use Rattle.answers.specs.Numbers.{plain}
+use Rattle.meters.specs.declared.Meter.{Meter}
+use Rattle.tuner.specs.Tuners.{freshTuner, Started, Metered, record-out-of-range, read}
 
 pub one-meter : {t : Tuner} {r r′ : Meter} → Metered t r → Metered t r′ → r ≡ r′
 one-meter (record-out-of-range n e) (record-out-of-range n′ e′) = e ∙ sym e′
