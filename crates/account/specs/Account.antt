@@ -8,14 +8,14 @@ use lib.Dec.{eqb}
 use lib.IntN.{ℤ, pos, _+ℤ_, _-ℤ_}
 use lib.ListN.{length, take}
 use Rattle.rules.specs.declared.Settings.{Settings}
+use Rattle.rules.specs.declared.InForce.{InForce}
 use Rattle.rules.specs.Rules.{Sound, silence, heardAll, Given, cycles, freshTake, defaults, after, samplesOut, allRepeated, allDropped}
 use Rattle.rules.specs.Facts.{InBounds, Right}
 use Rattle.rules.specs.History.{Piece, afterPieces, givesPieces, ratesPieces, samplesPieces, totalOf}
 use Rattle.tuner.specs.declared.Tuner.{Tuner}
-use Rattle.tuner.specs.declared.Answer.{Answer}
-use Rattle.tuner.specs.declared.Meter.{Meter}
-use Rattle.tuner.specs.Tuners.{freshTuner, takeOf, Good, made, Took, Started, Changed, Reset}
-use Rattle.tuner.specs.Meters.{Metered}
+use Rattle.answers.specs.declared.Answer.{Answer}
+use Rattle.meters.specs.declared.Meter.{Meter}
+use Rattle.tuner.specs.Tuners.{freshTuner, takeOf, forceOf, Good, made, Took, Started, Changed, Reset, Metered}
 
 -- ---- the history
 
@@ -40,23 +40,23 @@ pub data Series : List Call → Tuner → Type 0 where
   fresh-start : Series [] (freshTuner defaults)
   and-then : {cs : List Call} {c : Call} {t t′ : Tuner} → Series cs t → Leaves t c t′ → Series (c ∷ cs) t′
 
--- since the last start or reset: each block taken, with the settings in force; what they wrote, one after the other; the counts that they answered, added up
+-- since the last start or reset: what is in force; each block taken, with what was in force; what they wrote, one after the other; the counts that they answered, added up
 pub record Received : Type 0 where
-  pub settings : Settings
+  pub force : InForce
   pub pieces : List Piece
   pub written : List ℤ
   pub repeated : ℕ
   pub dropped : ℕ
 
-abbrev pub begun : Settings → Received
-begun s = record { settings = s; pieces = []; written = []; repeated = 0; dropped = 0 }
+abbrev pub begun : InForce → Received
+begun f = record { force = f; pieces = []; written = []; repeated = 0; dropped = 0 }
 
--- one block more: its samples under the settings in force, what it wrote and what it counted
+-- one block more: its samples under what is in force, what it wrote and what it counted
 abbrev pub withBlock : Received → List ℤ → Answer → List ℤ → Received
 withBlock r xs a ys′ =
     record {
-      settings = r .settings;
-      pieces = r .pieces ++ (record { settings = r .settings; samples = xs } ∷ []);
+      force = r .force;
+      pieces = r .pieces ++ (record { inForce = r .force; samples = xs } ∷ []);
       written = r .written ++ take (a .written) ys′;
       repeated = r .repeated + a .repeated;
       dropped = r .dropped + a .dropped;
@@ -69,18 +69,18 @@ plusBlock r xs a ys′ = cond (eqb (a .number) 0) (withBlock r xs a ys′) r
 -- settings taken are in force from the next sample
 unfoldable pub plusChange : Received → Settings → Answer → Received
 plusChange r s a =
-    cond (eqb (a .number) 0) (record { settings = s; pieces = r .pieces; written = r .written; repeated = r .repeated; dropped = r .dropped }) r
+    cond (eqb (a .number) 0) (record { force = record { settings = s }; pieces = r .pieces; written = r .written; repeated = r .repeated; dropped = r .dropped }) r
 
 -- what one call adds; a start or a reset begins the account again
 unfoldable pub plus : Call → Received → Received
-plus (start s a) r = begun (cond (eqb (a .number) 0) s defaults)
+plus (start s a) r = begun (record { settings = cond (eqb (a .number) 0) s defaults })
 plus (change s a) r = plusChange r s a
 plus (block k xs ys a ys′) r = plusBlock r xs a ys′
-plus (reset a) r = cond (eqb (a .number) 0) (begun (r .settings)) r
+plus (reset a) r = cond (eqb (a .number) 0) (begun (r .force)) r
 plus (meter m) r = r
 
 unfoldable pub received : List Call → Received
-received [] = begun defaults
+received [] = begun (record { settings = defaults })
 received (c ∷ cs) = plus c (received cs)
 
 -- ---- what holds
@@ -102,21 +102,21 @@ eighthsOf r = heardAll silence (made 0 silence (samplesOf r))
 
 -- the account of the tuner t over what was received
 pub record Accounted (r : Received) (t : Tuner) : Type 0 where
-  -- the record is good, so no call is answered 9; the settings are those in force; each sample is counted once
+  -- the record is good, so no call is answered 9; what is in force is what the calls set; each sample is counted once
   pub good : Good t
-  pub settings : t .settings ≡ r .settings
-  pub count : t .count ≡ length (samplesOf r)
+  pub force : forceOf t ≡ r .force
+  pub count : t .heard .count ≡ length (samplesOf r)
   -- sums: the 109 at eighth rate and, while tracking, the eight at full rate are the direct sums over all that was received
-  pub sums : Right (eighthsOf r) 2 109 (t .energies) (t .correlations)
-  pub lags : t .voice .tracking ≡ true → Right (heardOf r) (t .voice .tracker .low) 8 (t .voice .tracker .e) (t .voice .tracker .h)
+  pub sums : Right (eighthsOf r) 2 109 (t .heard .energies) (t .heard .correlations)
+  pub lags : t .pitch .tracking ≡ 1 → Right (heardOf r) (t .pitch .tracker .low) 8 (t .pitch .tracker .e) (t .pitch .tracker .h)
   -- position: all rates used, minus the period of every cycle repeated, plus the period of every cycle dropped
   pub position : takeOf t .position ≡ pos (totalOf (ratesPieces freshTake (r .pieces))) -ℤ pos (cycles (allRepeated (givenOf r))) +ℤ pos (cycles (allDropped (givenOf r)))
   -- the counts answered are the numbers of those cycles
   pub repeated : r .repeated ≡ length (allRepeated (givenOf r))
   pub dropped : r .dropped ≡ length (allDropped (givenOf r))
   -- never ahead of the input nor over 1,000 samples behind: now, and after any beginning xs of the block that comes next
-  pub bounds : InBounds (t .count) (takeOf t .position)
-  pub within : (xs : List ℤ) → InBounds (length (samplesOf r) + length xs) (after (t .settings) (afterPieces freshTake (r .pieces)) xs .position)
+  pub bounds : InBounds (t .heard .count) (takeOf t .position)
+  pub within : (xs : List ℤ) → InBounds (length (samplesOf r) + length xs) (after (forceOf t) (afterPieces freshTake (r .pieces)) xs .position)
   -- samples out: what was written is the rules' reading of all that was received
   pub written : r .written ≡ samplesOut (givenOf r)
 

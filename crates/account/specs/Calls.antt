@@ -15,41 +15,39 @@ use Rattle.whole.specs.Bounds.{natAbs-zero}
 use Rattle.whole.specs.Lists.{length-listOf, getD-listOf}
 use Rattle.whole.specs.Sums.{sum-within, total-zero}
 use Rattle.rules.specs.declared.Settings.{Settings}
-use Rattle.rules.specs.Rules.{Sound, silence, heard, heardAll, sq, E, H, Mode, searching, tracking, inRange, defaults}
+use Rattle.rules.specs.Rules.{Sound, silence, heard, heardAll, sq, E, H, noTone, inRange, defaults, after}
 use Rattle.rules.specs.Ranges.{in-range, is-in-range, defaults-in-range}
-use Rattle.rules.specs.Facts.{InRange, valueAt, Right}
-use Rattle.voice.specs.Pitches.{Lags, pitchOf}
+use Rattle.rules.specs.Facts.{InRange, ForceIn, unpitched, valueAt, Right}
 use Rattle.rules.specs.Hearing.{all-heard}
-use Rattle.rules.specs.Position.{Paced, withPeriod, withoutPeriod, behind-in-bounds, in-bounds-behind}
-use Rattle.rules.specs.Sane.{SaneMode, SanePitch, Sane, tracking-is-not-searching, after-sane}
-use Rattle.voice.specs.declared.Voice.{Voice}
-use Rattle.voice.specs.Voices.{Voiced}
+use Rattle.rules.specs.Position.{behind-in-bounds, in-bounds-behind}
+use Rattle.rules.specs.Sane.{Sane, after-sane}
+use Rattle.copying.specs.Copies.{keeping}
+use Rattle.pitch.specs.declared.Pitch.{Pitch as KeptPitch}
+use Rattle.pitch.specs.Keeping.{listed-right, kept-right}
+use Rattle.answers.specs.declared.Answer.{Answer}
+use Rattle.answers.specs.Numbers.{plain}
+use Rattle.meters.specs.declared.Meter.{Meter}
+use Rattle.meters.specs.Meters.{Exact}
+use Rattle.record.specs.declared.Last.{Last}
+use Rattle.record.specs.Records.{soundOf, freshHeard, freshPitch, freshHead, noLast}
 use Rattle.tuner.specs.declared.Tuner.{Tuner}
-use Rattle.tuner.specs.declared.Answer.{Answer}
-use Rattle.tuner.specs.declared.Meter.{Meter}
-use Rattle.tuner.specs.Tuners.{soundOf, takeOf, PitchRight, pitched, unpitched, Good, freshTuner, keeping, made, energiesOf, correlationsOf, trackerOf, isTracking, afterBlock, lastSamples, Fits, Verdict, record-out-of-range, given-again, tunerBy, plain, answerBy, Took, Started, withSettings, ChangeVerdict, setting-out-of-range, changed, Changed, ResetVerdict, Reset}
-use Rattle.tuner.specs.Meters.{Exact, Metered, record-out-of-range, read}
+use Rattle.tuner.specs.Tuners.{takeOf, forceOf, Good, freshTuner, made, heardAfter, afterBlock, lastSamples, Fits, Verdict, record-out-of-range, given-again, tunerBy, answerBy, Took, Started, withSettings, ChangeVerdict, setting-out-of-range, changed, Changed, ResetVerdict, Reset, Metered, read}
 use Rattle.tuner.specs.Taking.{made-length}
-use Rattle.tuner.specs.Afters.{good-voiced}
 use Rattle.tuner.specs.Verdicts.{verdict-one, verdict-fits, verdict-zero, tuner-taken, tuner-kept, by-refused, by-given, counted, overlaid, out-length}
 use Rattle.account.specs.Account.{Call, Leaves, by-start, by-change, by-block, by-reset, by-meter, TakesNone, Meanwhile, nothing, and-meanwhile, GivenAgain, NeverNine}
 
 -- how long a tuner's arrays are
 pub record Lengths (t : Tuner) : Type 0 where
-  pub store : length (t .store) ≡ 1764
-  pub eighths : length (t .eighths) ≡ 224
-  pub energies : length (t .energies) ≡ 109
-  pub correlations : length (t .correlations) ≡ 109
-  pub out : length (t .out) ≡ 512
+  pub store : length (t .heard .store) ≡ 1764
+  pub eighths : length (t .heard .eighths) ≡ 224
+  pub energies : length (t .heard .energies) ≡ 109
+  pub correlations : length (t .heard .correlations) ≡ 109
+  pub out : length (t .last .out) ≡ 512
 
--- the same last block: its samples, number, length, counts and output
+-- the same last block, and its samples
 pub record SameLast (u w : Tuner) : Type 0 where
-  pub store : w .store ≡ u .store
-  pub number : w .number ≡ u .number
-  pub length : w .length ≡ u .length
-  pub repeated : w .repeated ≡ u .repeated
-  pub dropped : w .dropped ≡ u .dropped
-  pub out : w .out ≡ u .out
+  pub store : w .heard .store ≡ u .heard .store
+  pub last : w .last ≡ u .last
 
 -- ---- a fresh tuner is good
 
@@ -72,24 +70,24 @@ silent-right {x} low n p =
     }
 
 pub good-fresh : (s : Settings) → inRange s ≡ true → Good (freshTuner s)
-unfolding freshTuner silence
+unfolding freshTuner freshHeard freshPitch freshHead noLast noTone silence
 good-fresh s e =
     record {
       settings = in-range s e;
-      count = omega arith;
-      length = omega arith;
-      within = omega arith;
-      before = λ i h. getD-replicate 1764 i (pos 0) (pos 0) (omega arith);
-      eighthsBefore = λ i h. getD-replicate 224 i (pos 0) (pos 0) (omega arith);
-      sums = silent-right 2 109 (still-silent 224 silence (λ k. refl));
-      lags = λ t. absurd (yes-and-no t refl);
-      position = omega arith;
-      pitch = unpitched refl refl;
-      searching = λ t. refl;
+      heard =
+          record {
+            count = omega arith;
+            before = λ i h. getD-replicate 1764 i (pos 0) (pos 0) (omega arith);
+            eighthsBefore = λ i h. getD-replicate 224 i (pos 0) (pos 0) (omega arith);
+            sums = silent-right 2 109 (still-silent 224 silence (λ k. refl));
+          };
+      pitch = record { flag = omega arith; pitch = record { tone = unpitched refl refl; lags = tt; whileSearching = λ z. refl }; sums = λ z. absurd (omega arith) };
+      head = record { behind = omega arith };
+      last = record { length = omega arith; within = omega arith };
     }
 
 pub fresh-lengths : (s : Settings) → Lengths (freshTuner s)
-unfolding freshTuner
+unfolding freshTuner freshHeard noLast
 fresh-lengths s =
     record {
       store = length-replicate 1764 (pos 0);
@@ -101,19 +99,12 @@ fresh-lengths s =
 
 -- ---- a good tuner holds a take in its ranges
 
-voice-sane : {x : Sound} {v : Voice} → Voiced x v → SanePitch (pitchOf v)
-voice-sane {x} {v} r =
-    let m = tracking (v .tracker .low) (v .tracker .last) in
-    record {
-      paced = r .paced;
-      noted = r .noted;
-      lags = cond-case (v .tracking) m searching SaneMode (λ e. let l = r .lags e in (l .from, l .upto, l .lastFrom, l .lastUpto)) (λ e. tt);
-      whileSearching = λ e. by (v .tracking) (λ y. absurd (tracking-is-not-searching (sym (cond-yes m searching y) ∙ e))) (r .whileSearching);
-    }
+pub good-force : {t : Tuner} → Good t → ForceIn (forceOf t)
+good-force g = record { settings = g .settings }
 
 pub good-sane : {t : Tuner} → Good t → Sane (takeOf t)
 unfolding takeOf
-good-sane g = record { pitch = voice-sane (good-voiced g); bounds = behind-in-bounds (record { is = refl; near = g .position }) }
+good-sane g = record { pitch = g .pitch .pitch; bounds = behind-in-bounds (record { is = refl; near = g .head .behind }) }
 
 -- ---- a block leaves a good tuner
 
@@ -125,55 +116,34 @@ keeping-silent : (kept new : List ℤ) (i : ℕ) → i + length new < length kep
 keeping-silent kept new i h e =
     getD-drop (length new) (kept ++ new) i (pos 0) ∙ List·getD-append kept new (pos 0) (length new + i) (omega arith) ∙ e
 
-listed-right : (x : Sound) (low n : ℕ) → Right x low n (energiesOf x low n) (correlationsOf x low n)
-listed-right x low n =
-    record {
-      energies = length-listOf (λ (j : ℕ). E x (low + j)) n;
-      correlations = length-listOf (λ (j : ℕ). H x (low + j)) n;
-      energy = λ j h. getD-listOf (λ (j : ℕ). E x (low + j)) n j 0 h;
-      correlation = λ j h. getD-listOf (λ (j : ℕ). H x (low + j)) n j (pos 0) h;
-    }
-
-kept-lags : (m : Mode) (x : Sound) → SaneMode m → isTracking m ≡ true → Lags x (trackerOf m x)
-unfolding isTracking trackerOf
-kept-lags searching x h e = absurd (yes-and-no e refl)
-kept-lags (tracking low last) x h e = record { from = h .0; upto = h .1; lastFrom = h .2; lastUpto = h .3; sums = listed-right x low 8 }
-
-not-tracking : (m : Mode) → isTracking m ≡ false → m ≡ searching
-unfolding isTracking
-not-tracking searching e = refl
-not-tracking (tracking low last) e = absurd (yes-and-no refl e)
-
-pitch-right : (v : Voice) → (0 < v .period → (32 ≤ v .note) × (v .note ≤ 100)) → Paced (v .rate) (v .period) → PitchRight v
-pitch-right v noted (withPeriod lo hi from upto) = let n = noted (omega arith) in pitched from upto (n .0) (n .1) lo hi
-pitch-right v noted (withoutPeriod r z) = unpitched z r
-
-pub good-after : (t : Tuner) (k : ℕ) (xs : List ℤ) → Good t → Lengths t → length xs ≤ 512 → t .count + length xs ≤ 1000000000 → Good (afterBlock t k xs)
-unfolding afterBlock
+pub good-after : (t : Tuner) (k : ℕ) (xs : List ℤ) → Good t → Lengths t → length xs ≤ 512 → t .heard .count + length xs ≤ 1000000000 → Good (afterBlock t k xs)
+unfolding afterBlock heardAfter
 good-after t k xs g l most upto =
-    let new8 = made (t .count) (soundOf (t .store)) xs in
-    let made8 = made-length (t .count) (soundOf (t .store)) xs in
-    let sane = after-sane (g .settings) (good-sane g) xs in
+    let h = t .heard in
+    let new8 = made (h .count) (soundOf (h .store)) xs in
+    let made8 = made-length (h .count) (soundOf (h .store)) xs in
+    let sane = after-sane (good-force g) (good-sane g) xs in
     record {
       settings = g .settings;
-      count = upto;
-      length = most;
-      within = omega arith;
-      before = λ i h. keeping-silent (t .store) xs i (omega (arith, l .store)) (g .before (length xs + i) (omega arith));
-      eighthsBefore = λ i h. keeping-silent (t .eighths) new8 i (omega (arith, l .eighths)) (g .eighthsBefore (length new8 + i) (omega arith));
-      sums = listed-right (soundOf (keeping (t .eighths) new8)) 2 109;
-      lags = kept-lags _ _ (sane .pitch .lags);
-      position = in-bounds-behind (sane .bounds) .near;
-      pitch = pitch-right _ (sane .pitch .noted) (sane .pitch .paced);
-      searching = λ e. sane .pitch .whileSearching (not-tracking _ e);
+      heard =
+          record {
+            count = upto;
+            before = λ i e. keeping-silent (h .store) xs i (omega (arith, l .store)) (g .heard .before (length xs + i) (omega arith));
+            eighthsBefore = λ i e. keeping-silent (h .eighths) new8 i (omega (arith, l .eighths)) (g .heard .eighthsBefore (length new8 + i) (omega arith));
+            sums = listed-right (soundOf (keeping (h .eighths) new8)) 2 109;
+          };
+      pitch = kept-right _ _ (sane .pitch);
+      head = record { behind = in-bounds-behind (sane .bounds) .near };
+      last = record { length = most; within = omega arith };
     }
 
 pub after-lengths : (t : Tuner) (k : ℕ) (xs : List ℤ) → Lengths t → length xs ≤ 512 → Lengths (afterBlock t k xs)
-unfolding afterBlock tunerBy
+unfolding afterBlock heardAfter tunerBy
 after-lengths t k xs l most =
+    let h = t .heard in
     record {
-      store = keeping-length (t .store) xs ∙ l .store;
-      eighths = keeping-length (t .eighths) (made (t .count) (soundOf (t .store)) xs) ∙ l .eighths;
+      store = keeping-length (h .store) xs ∙ l .store;
+      eighths = keeping-length (h .eighths) (made (h .count) (soundOf (h .store)) xs) ∙ l .eighths;
       energies = length-listOf _ 109;
       correlations = length-listOf _ 109;
       out = out-length 0 t k xs most (l .out);
@@ -192,20 +162,7 @@ module _ {t : Tuner} (g : Good t) (l : Lengths t) where
       (λ e. (g, l)))
 
   good-with : {s : Settings} → InRange s → Good (withSettings t s)
-  good-with r =
-      record {
-        settings = r;
-        count = g .count;
-        length = g .length;
-        within = g .within;
-        before = g .before;
-        eighthsBefore = g .eighthsBefore;
-        sums = g .sums;
-        lags = g .lags;
-        position = g .position;
-        pitch = g .pitch;
-        searching = g .searching;
-      }
+  good-with r = record { settings = r; heard = g .heard; pitch = g .pitch; head = g .head; last = g .last }
 
   pub changed-good : {s : Settings} {t′ : Tuner} {a : Answer} → Changed t s t′ a → Good t′ × Lengths t′
   changed-good {s} p = rw (p .tuner) (go (p .verdict))
@@ -261,7 +218,7 @@ plain-number e = sym (ap (λ (b : Answer). b .number) e)
 
 -- ---- never 9
 
-refused-inexact : {v : Voice} → Exact v Meter.Refused → ⊥
+refused-inexact : {v : KeptPitch} → Exact v Meter.Refused → ⊥
 refused-inexact = elim [ ]
 
 pub good-never-nine : {t : Tuner} → Good t → NeverNine t
@@ -285,7 +242,7 @@ good-never-nine {t} g =
     -- what is shown exactly is never a refusal
     meter-refused : {r : Meter} → Metered t r → r ≡ Meter.Refused → ⊥
     meter-refused (record-out-of-range n x) e = n g
-    meter-refused (read h x shown) e = refused-inexact (subst (Exact (t .voice)) e shown)
+    meter-refused (read h x shown) e = refused-inexact (subst (Exact (t .pitch)) e shown)
 
 -- ---- a refusal changes nothing
 
@@ -310,14 +267,14 @@ refused-reset-unchanged {t} p h = kept-unless-zero (freshTuner (t .settings)) (p
 -- ---- the last block again
 
 pub same-last-self : {u : Tuner} → SameLast u u
-same-last-self = record { store = refl; number = refl; length = refl; repeated = refl; dropped = refl; out = refl }
+same-last-self = record { store = refl; last = refl }
 
 module _ {u w w′ : Tuner} (same : SameLast u w) where
   pub same-last-changed : {s : Settings} {a : Answer} → Changed w s w′ a → SameLast u w′
   same-last-changed {s} p =
       rw (p .tuner)
       (cond-case (eqb (p .number) 0) (withSettings w s) w (SameLast u)
-      (λ e. record { store = same .store; number = same .number; length = same .length; repeated = same .repeated; dropped = same .dropped; out = same .out })
+      (λ e. record { store = same .store; last = same .last })
       (λ e. same))
 
   pub same-last-kept : w′ ≡ w → SameLast u w′
@@ -337,8 +294,8 @@ meanwhile-same (and-meanwhile m (by-reset p) n) = same-last-kept (meanwhile-same
 meanwhile-same (and-meanwhile m (by-meter p) n) = meanwhile-same m
 
 -- what is written first is what is read first
-pub overlaid-starts : (u : Tuner) (xs ys : List ℤ) → length xs ≤ length (u .out) → take (length xs) (overlaid u xs ys) ≡ take (length xs) (u .out)
-overlaid-starts u xs ys h = take-at (take (length xs) (u .out)) (drop (length xs) ys) (length xs) (length-take-le (length xs) (u .out) h)
+pub overlaid-starts : (u : Tuner) (xs ys : List ℤ) → length xs ≤ length (u .last .out) → take (length xs) (overlaid u xs ys) ≡ take (length xs) (u .last .out)
+overlaid-starts u xs ys h = take-at (take (length xs) (u .last .out)) (drop (length xs) ys) (length xs) (length-take-le (length xs) (u .last .out) h)
 
 -- block k of the samples xs is taken, and sent again to a tuner with the same last block
 module _ {t u : Tuner} {k : ℕ} {xs ys zs : List ℤ} {a : Answer} (g : Good t) (l : Lengths t) (p : Took t k xs ys u a zs) (first : a .number ≡ 0) where
@@ -352,26 +309,26 @@ module _ {t u : Tuner} {k : ℕ} {xs ys zs : List ℤ} {a : Answer} (g : Good t)
   taken-is = p .tuner ∙ tuner-taken t k xs number-zero
 
   module _ {w : Tuner} (gw : Good w) (same : SameLast u w) where
-    last-length : w .length ≡ length xs
+    last-length : w .last .length ≡ length xs
     unfolding afterBlock
-    last-length = same .length ∙ ap (λ (v : Tuner). v .length) taken-is
+    last-length = ap (λ (v : Last). v .length) (same .last) ∙ ap (λ (v : Tuner). v .last .length) taken-is
 
-    last-number : w .number ≡ k
+    last-number : w .last .number ≡ k
     unfolding afterBlock
-    last-number = same .number ∙ ap (λ (v : Tuner). v .number) taken-is
+    last-number = ap (λ (v : Last). v .number) (same .last) ∙ ap (λ (v : Tuner). v .last .number) taken-is
 
-    last-store : w .store ≡ keeping (t .store) xs
-    unfolding afterBlock
-    last-store = same .store ∙ ap (λ (v : Tuner). v .store) taken-is
+    last-store : w .heard .store ≡ keeping (t .heard .store) xs
+    unfolding afterBlock heardAfter
+    last-store = same .store ∙ ap (λ (v : Tuner). v .heard .store) taken-is
 
     last-are : xs ≡ lastSamples w
     last-are =
         let all : length xs + (1764 - length xs) ≡ 1764 = omega (arith, taken-fits .most) in
         sym
         ((λ i. drop (1764 - last-length i) (last-store i))
-        ∙ drop-drop (1764 - length xs) (length xs) (t .store ++ xs)
-        ∙ ap (λ (n : ℕ). drop n (t .store ++ xs)) all
-        ∙ drop-at (t .store) xs 1764 (l .store))
+        ∙ drop-drop (1764 - length xs) (length xs) (t .heard .store ++ xs)
+        ∙ ap (λ (n : ℕ). drop n (t .heard .store ++ xs)) all
+        ∙ drop-at (t .heard .store) xs 1764 (l .store))
 
     verdict-again : {room : ℕ} → length xs ≤ room → Verdict w k xs room 1
     verdict-again h =
@@ -384,14 +341,15 @@ module _ {t u : Tuner} {k : ℕ} {xs ys zs : List ℤ} {a : Answer} (g : Good t)
         let before = took-keeps p (omega arith) in
         let now = took-keeps q (omega arith) in
         let stays = untaken-unchanged q (omega arith) in
-        let out : w′ .out ≡ u .out = ap (λ (v : Tuner). v .out) stays ∙ same .out in
-        let long : length xs ≤ length (u .out) = omega (arith, ap (λ (v : Tuner). length (v .out)) taken-is, after-lengths t k xs l (taken-fits .most) .out, taken-fits .most) in
+        let last : w′ .last ≡ u .last = ap (λ (v : Tuner). v .last) stays ∙ same .last in
+        let out : w′ .last .out ≡ u .last .out = ap (λ (v : Last). v .out) last in
+        let long : length xs ≤ length (u .last .out) = omega (arith, ap (λ (v : Tuner). length (v .last .out)) taken-is, after-lengths t k xs l (taken-fits .most) .out, taken-fits .most) in
         record {
           number = one;
           unchanged = stays;
           written = ap (λ (c : Answer). c .written) (now .0) ∙ sym (ap (λ (c : Answer). c .written) (before .0));
-          repeated = ap (λ (c : Answer). c .repeated) (now .0) ∙ ap (λ (v : Tuner). v .repeated) stays ∙ same .repeated ∙ sym (ap (λ (c : Answer). c .repeated) (before .0));
-          dropped = ap (λ (c : Answer). c .dropped) (now .0) ∙ ap (λ (v : Tuner). v .dropped) stays ∙ same .dropped ∙ sym (ap (λ (c : Answer). c .dropped) (before .0));
+          repeated = ap (λ (c : Answer). c .repeated) (now .0) ∙ ap (λ (v : Last). v .repeated) last ∙ sym (ap (λ (c : Answer). c .repeated) (before .0));
+          dropped = ap (λ (c : Answer). c .dropped) (now .0) ∙ ap (λ (v : Last). v .dropped) last ∙ sym (ap (λ (c : Answer). c .dropped) (before .0));
           samples =
               ap (take (length xs)) (now .1) ∙ overlaid-starts w′ xs ys₂ (omega (arith, ap length out)) ∙ ap (take (length xs)) out
               ∙ sym (ap (take (length xs)) (before .1) ∙ overlaid-starts u xs ys long);

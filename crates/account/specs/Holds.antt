@@ -11,11 +11,13 @@ use lib.ListN.{length, take, length-append}
 use lib.Seq.{take-at}
 use Rattle.whole.specs.Tests.{by, cond-case, cond-yes, cond-no}
 use Rattle.rules.specs.declared.Settings.{Settings}
-use Rattle.rules.specs.Rules.{Sound, silence, heardAll, Mode, searching, tracking, Pitch, noPeriod, Take, Given, inputAt, freshTake, inRange, defaults, after, gives, samplesOut, gathered, allRepeated, allDropped}
+use Rattle.rules.specs.declared.InForce.{InForce}
+use Rattle.rules.specs.Rules.{Sound, silence, heardAll, Mode, searching, tracking, Pitch, noTone, Take, Given, inputAt, freshTake, inRange, defaults, after, gives, samplesOut, gathered, allRepeated, allDropped}
 use Rattle.rules.specs.Ranges.{is-in-range, defaults-in-range}
-use Rattle.rules.specs.Facts.{InRange}
+use Rattle.rules.specs.Facts.{ForceIn}
 use Rattle.rules.specs.History.{Piece, afterPieces, overPieces, givesPieces, samplesPieces}
-use Rattle.voice.specs.Pitches.{pitchOf}
+use Rattle.pitch.specs.Keeping.{kept-pitch}
+use Rattle.pitch.specs.Listening.{lags-of}
 use Rattle.rules.specs.Hearing.{heardAll-append}
 use Rattle.rules.specs.Position.{in-bounds-behind}
 use Rattle.rules.specs.Blocks.{after-count, after-sound, gives-length, samplesOut-append, gathered-append}
@@ -23,18 +25,20 @@ use Rattle.rules.specs.Sane.{after-sane}
 use Rattle.rules.specs.Accounts.{InRanges, account, pieces-count, pieces-sound, afterPieces-more, givesPieces-more, pieces-sane, pieces-in-bounds}
 use Rattle.rules.specs.Local.{reach, reachEighths, SameNewest, Agree, after-agree}
 use Rattle.tuner.specs.declared.Tuner.{Tuner}
-use Rattle.tuner.specs.declared.Answer.{Answer}
-use Rattle.tuner.specs.Tuners.{freshTuner, soundOf, takeOf, Good, keeping, made, trackerOf, isTracking, voiceOf, afterBlock, Took, Started, withSettings, Changed, Reset}
+use Rattle.answers.specs.declared.Answer.{Answer}
+use Rattle.copying.specs.Copies.{keeping}
+use Rattle.record.specs.Records.{soundOf, freshHeard, freshPitch, freshHead, noLast}
+use Rattle.tuner.specs.Tuners.{freshTuner, takeOf, forceOf, Good, made, heardAfter, afterBlock, Took, Started, withSettings, Changed, Reset}
 use Rattle.tuner.specs.Taking.{kept-age, right-alike, made-append, after-eighths}
 use Rattle.tuner.specs.Verdicts.{tuner-taken, verdict-fits}
-use Rattle.account.specs.Calls.{Lengths, still-silent, good-fresh, fresh-lengths, good-sane, keeping-length, took-good, changed-good, took-number, took-keeps, untaken-unchanged, overlaid-starts, again-after, good-never-nine}
+use Rattle.account.specs.Calls.{Lengths, still-silent, good-fresh, fresh-lengths, good-force, good-sane, keeping-length, took-good, changed-good, took-number, took-keeps, untaken-unchanged, overlaid-starts, again-after, good-never-nine}
 use Rattle.account.specs.Account.{Call, reset, Leaves, by-start, by-change, by-block, by-reset, by-meter, Series, fresh-start, and-then, Received, begun, plusBlock, plusChange, plus, received, givenOf, heardOf, eighthsOf, Accounted, Theorem, SentAgain, NeverNine}
 
 -- ---- what each call keeps
 record Keeps (r : Received) (t : Tuner) : Type 0 where
   good : Good t
   lengths : Lengths t
-  settings : t .settings ≡ r .settings
+  force : forceOf t ≡ r .force
   ranges : InRanges (r .pieces)
   agree : Agree (afterPieces freshTake (r .pieces)) (takeOf t)
   repeated : r .repeated ≡ length (allRepeated (givenOf r))
@@ -42,13 +46,13 @@ record Keeps (r : Received) (t : Tuner) : Type 0 where
   written : r .written ≡ samplesOut (givenOf r)
 
 -- ---- a fresh tuner
-begun-keeps : (s : Settings) → inRange s ≡ true → Keeps (begun s) (freshTuner s)
-unfolding freshTuner freshTake noPeriod takeOf afterPieces overPieces samplesOut gathered inputAt silence
+begun-keeps : (s : Settings) → inRange s ≡ true → Keeps (begun (record { settings = s })) (freshTuner s)
+unfolding freshTuner freshHeard freshPitch freshHead noLast freshTake noTone takeOf afterPieces overPieces samplesOut gathered inputAt silence
 begun-keeps s e =
     record {
       good = good-fresh s e;
       lengths = fresh-lengths s;
-      settings = refl;
+      force = refl;
       ranges = tt;
       agree = record { count = refl; pitch = refl; position = refl; sound = λ k h. sym (still-silent 1764 silence (λ j. refl) k); eighths = λ k h. sym (still-silent 224 silence (λ j. refl) k) };
       repeated = refl;
@@ -56,7 +60,7 @@ begun-keeps s e =
       written = refl;
     }
 
-start-keeps : {s : Settings} {t′ : Tuner} {a : Answer} → Started s t′ a → Keeps (begun (cond (eqb (a .number) 0) s defaults)) t′
+start-keeps : {s : Settings} {t′ : Tuner} {a : Answer} → Started s t′ a → Keeps (begun (record { settings = cond (eqb (a .number) 0) s defaults })) t′
 start-keeps {s} p =
     rw (p .tuner, p .answer) (by (inRange s) (λ e. rw e (begun-keeps s e)) (λ e. rw e (begun-keeps defaults defaults-in-range)))
 
@@ -71,37 +75,28 @@ agree-then a b =
       eighths = λ k h. a .eighths k h ∙ b .eighths k h;
     }
 
--- a voice keeps the pitch it is made of
-voice-pitch : (p : Pitch) (x : Sound) → p ≡ pitchOf (voiceOf p x)
-unfolding isTracking trackerOf
-voice-pitch p x = λ i. record { mode = same (p .mode) i; period = p .period; note = p .note; rate = p .rate }
-  where
-    same : (m : Mode) → m ≡ cond (isTracking m) (tracking (trackerOf m x .low) (trackerOf m x .last)) searching
-    same searching = refl
-    same (tracking low last) = refl
-
 -- what is kept sounds as all of it, as far back as it goes
 keeping-age : {n : ℕ} (kept new : List ℤ) → length kept ≡ n → SameNewest n (heardAll (soundOf kept) new) (soundOf (keeping kept new))
 keeping-age kept new e k h =
     ap (λ (x : Sound). x k) (sym (heardAll-append silence kept new)) ∙ sym (kept-age (length new) (kept ++ new) k (omega (arith, keeping-length kept new)))
 
-block-agree : (t : Tuner) (n : ℕ) (xs : List ℤ) → Good t → Lengths t → Agree (after (t .settings) (takeOf t) xs) (takeOf (afterBlock t n xs))
-unfolding takeOf afterBlock
+block-agree : (t : Tuner) (n : ℕ) (xs : List ℤ) → Good t → Lengths t → Agree (after (forceOf t) (takeOf t) xs) (takeOf (afterBlock t n xs))
+unfolding takeOf afterBlock heardAfter
 block-agree t n xs g l =
-    let s = t .settings in
+    let s = forceOf t in
     let then = after s (takeOf t) xs in
     let count = after-count s (takeOf t) xs in
-    let new8 = made (t .count) (soundOf (t .store)) xs in
+    let new8 = made (t .heard .count) (soundOf (t .heard .store)) xs in
     record {
       count = count;
-      pitch = voice-pitch (then .pitch) (soundOf (keeping (t .store) xs));
-      position = in-bounds-behind (after-sane (g .settings) (good-sane g) xs .bounds) .is ∙ ap (λ (m : ℕ). inputAt m -ℤ pos (afterBlock t n xs .behind)) count;
-      sound = λ k h. ap (λ (x : Sound). x k) (after-sound s (takeOf t) xs) ∙ keeping-age (t .store) xs (l .store) k h;
-      eighths = λ k h. ap (λ (x : Sound). x k) (after-eighths s (takeOf t) xs) ∙ keeping-age (t .eighths) new8 (l .eighths) k h;
+      pitch = kept-pitch (then .pitch) (soundOf (keeping (t .heard .store) xs));
+      position = in-bounds-behind (after-sane (good-force g) (good-sane g) xs .bounds) .is ∙ ap (λ (m : ℕ). inputAt m -ℤ pos (afterBlock t n xs .head .behind)) count;
+      sound = λ k h. ap (λ (x : Sound). x k) (after-sound s (takeOf t) xs) ∙ keeping-age (t .heard .store) xs (l .store) k h;
+      eighths = λ k h. ap (λ (x : Sound). x k) (after-eighths s (takeOf t) xs) ∙ keeping-age (t .heard .eighths) new8 (l .eighths) k h;
     }
 
 -- one piece more in range
-more-in-range : (ps : List Piece) (p : Piece) → InRanges ps → InRange (p .settings) → InRanges (ps ++ (p ∷ []))
+more-in-range : (ps : List Piece) (p : Piece) → InRanges ps → ForceIn (p .inForce) → InRanges (ps ++ (p ∷ []))
 more-in-range [] p h r = (r, tt)
 more-in-range (q ∷ ps) p h r = (h .0, more-in-range ps p (h .1) r)
 
@@ -109,20 +104,20 @@ module _ {r : Received} {t : Tuner} (k : Keeps r t) where
   -- ---- a block taken
   module _ {n : ℕ} {xs ys ys′ : List ℤ} {t′ : Tuner} {a : Answer} (p : Took t n xs ys t′ a ys′) (z : a .number ≡ 0) where
     abbrev given : List Given
-    given = gives (t .settings) (takeOf t) xs
+    given = gives (forceOf t) (takeOf t) xs
 
     abbrev piece : Piece
-    piece = record { settings = r .settings; samples = xs }
+    piece = record { inForce = r .force; samples = xs }
 
     taken-is : t′ ≡ afterBlock t n xs
     taken-is = p .tuner ∙ tuner-taken t n xs (took-number p ∙ z)
 
     -- the rules take the block alike after all pieces and after what the tuner kept of them
-    taken-alike : Agree (after (r .settings) (afterPieces freshTake (r .pieces)) xs) (after (t .settings) (takeOf t) xs) × (gives (r .settings) (afterPieces freshTake (r .pieces)) xs ≡ given)
+    taken-alike : Agree (after (r .force) (afterPieces freshTake (r .pieces)) xs) (after (forceOf t) (takeOf t) xs) × (gives (r .force) (afterPieces freshTake (r .pieces)) xs ≡ given)
     taken-alike =
         let all = afterPieces freshTake (r .pieces) in
-        subst (λ (s : Settings). Agree (after s all xs) (after (t .settings) (takeOf t) xs) × (gives s all xs ≡ given)) (k .settings)
-        (after-agree (k .good .settings) (pieces-sane (r .pieces) (k .ranges)) (k .agree) xs)
+        subst (λ (s : InForce). Agree (after s all xs) (after (forceOf t) (takeOf t) xs) × (gives s all xs ≡ given)) (k .force)
+        (after-agree (good-force (k .good)) (pieces-sane (r .pieces) (k .ranges)) (k .agree) xs)
 
     given-more : givesPieces freshTake (r .pieces ++ (piece ∷ [])) ≡ givenOf r ++ given
     given-more = givesPieces-more freshTake (r .pieces) piece ∙ ap (λ (gs : List Given). givenOf r ++ gs) (taken-alike .1)
@@ -140,8 +135,8 @@ module _ {r : Received} {t : Tuner} (k : Keeps r t) where
         let fits = verdict-fits (p .verdict) (omega (arith, took-number p)) in
         (λ i. take (kept .0 i .written) (kept .1 i))
         ∙ overlaid-starts t′ xs ys (omega (arith, took-good (k .good) (k .lengths) p .1 .out, fits .most))
-        ∙ ap (λ (u : Tuner). take (length xs) (u .out)) taken-is
-        ∙ take-at (samplesOut given) _ (length xs) (gives-length (t .settings) (takeOf t) xs)
+        ∙ ap (λ (u : Tuner). take (length xs) (u .last .out)) taken-is
+        ∙ take-at (samplesOut given) _ (length xs) (gives-length (forceOf t) (takeOf t) xs)
 
   -- ---- every call
   block-keeps : {n : ℕ} {xs ys ys′ : List ℤ} {t′ : Tuner} {a : Answer} → Took t n xs ys t′ a ys′ → Keeps (plusBlock r xs a ys′) t′
@@ -155,11 +150,11 @@ module _ {r : Received} {t : Tuner} (k : Keeps r t) where
       record {
         good = left .0;
         lengths = left .1;
-        settings = ap (λ (u : Tuner). u .settings) is ∙ k .settings;
-        ranges = more-in-range (r .pieces) _ (k .ranges) (subst InRange (k .settings) (k .good .settings));
+        force = ap forceOf is ∙ k .force;
+        ranges = more-in-range (r .pieces) _ (k .ranges) (subst ForceIn (k .force) (good-force (k .good)));
         agree = rw (afterPieces-more, is) (agree-then (taken-alike p z .0) (block-agree t n xs (k .good) (k .lengths)));
-        repeated = counts-more p z (λ (g : Given). g .repeats) (k .repeated) (ap (λ (b : Answer). b .repeated) kept ∙ ap (λ (u : Tuner). u .repeated) is);
-        dropped = counts-more p z (λ (g : Given). g .drops) (k .dropped) (ap (λ (b : Answer). b .dropped) kept ∙ ap (λ (u : Tuner). u .dropped) is);
+        repeated = counts-more p z (λ (g : Given). g .repeats) (k .repeated) (ap (λ (b : Answer). b .repeated) kept ∙ ap (λ (u : Tuner). u .last .repeated) is);
+        dropped = counts-more p z (λ (g : Given). g .drops) (k .dropped) (ap (λ (b : Answer). b .dropped) kept ∙ ap (λ (u : Tuner). u .last .dropped) is);
         written = (λ i. k .written i ++ out-is p z i) ∙ sym (ap samplesOut (given-more p z) ∙ samplesOut-append (givenOf r) (given p z));
       })
       (λ e. let some = eqb-false (a .number) 0 e in subst (Keeps r) (sym (untaken-unchanged p (omega arith))) k)
@@ -174,7 +169,7 @@ module _ {r : Received} {t : Tuner} (k : Keeps r t) where
       record {
         good = left .0;
         lengths = left .1;
-        settings = ap (λ (u : Tuner). u .settings) is;
+        force = ap forceOf is;
         ranges = k .ranges;
         agree = subst (λ (u : Tuner). Agree (afterPieces freshTake (r .pieces)) (takeOf u)) (sym is) (k .agree);
         repeated = k .repeated;
@@ -189,7 +184,7 @@ module _ {r : Received} {t : Tuner} (k : Keeps r t) where
       let first = freshTuner (t .settings) in
       subst (λ (b : Answer). Keeps (plus (reset b) r) t′) (sym (p .answer))
       (cond-case (eqb (p .number) 0) _ r (λ (q : Received). Keeps q t′)
-      (λ e. rw (p .tuner ∙ cond-yes first t e, sym (k .settings)) (begun-keeps (t .settings) (is-in-range (t .settings) (k .good .settings))))
+      (λ e. rw (p .tuner ∙ cond-yes first t e, sym (k .force)) (begun-keeps (t .settings) (is-in-range (t .settings) (k .good .settings))))
       (λ e. subst (Keeps r) (sym (p .tuner ∙ cond-no first t e)) k))
 
   call-keeps : {c : Call} {t′ : Tuner} → Leaves t c t′ → Keeps (plus c r) t′
@@ -213,7 +208,7 @@ unfolding afterPieces samplesPieces made heardAll
 eighths-from t [] = refl
 eighths-from t (p ∷ ps) =
     let xs = p .samples in
-    let s = p .settings in
+    let s = p .inForce in
     let more = samplesPieces ps in
     eighths-from (after s t xs) ps
     ∙ (λ i. heardAll (after-eighths s t xs i) (made (after-count s t xs i) (after-sound s t xs i) more))
@@ -221,11 +216,11 @@ eighths-from t (p ∷ ps) =
     ∙ ap (heardAll (t .eighths)) (sym (made-append (t .count) (t .sound) xs more))
 
 module _ {r : Received} {t : Tuner} (k : Keeps r t) where
-  eighths-are : SameNewest reachEighths (soundOf (t .eighths)) (eighthsOf r)
+  eighths-are : SameNewest reachEighths (soundOf (t .heard .eighths)) (eighthsOf r)
   unfolding takeOf freshTake
   eighths-are i h = sym (k .agree .eighths i h) ∙ ap (λ (x : Sound). x i) (eighths-from freshTake (r .pieces))
 
-  sound-is : SameNewest reach (soundOf (t .store)) (heardOf r)
+  sound-is : SameNewest reach (soundOf (t .heard .store)) (heardOf r)
   unfolding takeOf
   sound-is i h = sym (k .agree .sound i h) ∙ ap (λ (x : Sound). x i) (pieces-sound (r .pieces))
 
@@ -234,15 +229,15 @@ module _ {r : Received} {t : Tuner} (k : Keeps r t) where
   kept-accounted =
       record {
         good = k .good;
-        settings = k .settings;
+        force = k .force;
         count = sym (k .agree .count) ∙ pieces-count (r .pieces);
-        sums = right-alike (λ i h. eighths-are i (omega arith)) (k .good .sums);
-        lags = λ e. let l = k .good .lags e in right-alike (λ i h. sound-is i (omega (arith, l .upto))) (l .sums);
+        sums = right-alike (λ i h. eighths-are i (omega arith)) (k .good .heard .sums);
+        lags = λ e. let l = lags-of (k .good .pitch) e in right-alike (λ i h. sound-is i (omega (arith, l .upto))) (k .good .pitch .sums e);
         position = sym (k .agree .position) ∙ account (r .pieces);
         repeated = k .repeated;
         dropped = k .dropped;
         bounds = good-sane (k .good) .bounds;
-        within = pieces-in-bounds (r .pieces) (k .ranges) (k .good .settings);
+        within = pieces-in-bounds (r .pieces) (k .ranges) (good-force (k .good));
         written = k .written;
       }
 

@@ -1,5 +1,4 @@
 pub mod Account
-pub mod Holds
 pub mod Calls
-pub mod Hosted
+pub mod Holds
 pub mod Wrong

@@ -7,15 +7,16 @@ use Prim.Native.Nat.{ℕ, _≤_, _<_}
 use native.Mathlib.Omega.{arith}
 use lib.IntN.{ℤ, pos, negℤ, natAbs}
 use lib.ListN.{length, take, drop, replicate}
-use Rattle.whole.specs.Tests.{yes-and-no}
-use Rattle.rules.specs.Rules.{silence, heard, defaults, stepDue, listened, listenedIn, noPeriod, inputAt, cycleRepeated, cycleDropped, cycles, growth, sampleAt, between, wholeOf, fractionOf, reading, freshTake, eighthDue, eighthsAfter, stepped, after, gives, samplesOut, gathered}
+use Rattle.rules.specs.Rules.{silence, heard, defaults, stepDue, listened, listenedIn, noTone, inputAt, cycleRepeated, cycleDropped, cycles, growth, sampleAt, between, wholeOf, fractionOf, reading, freshTake, eighthDue, eighthsAfter, stepped, after, gives, samplesOut, gathered}
 use Rattle.rules.specs.Ranges.{defaults-in-range}
+use Rattle.rules.specs.Sane.{tracking-is-not-searching}
 use Rattle.rules.specs.History.{Piece, overPieces, givesPieces}
-use Rattle.rules.specs.Facts.{valueAt}
-use Rattle.voice.specs.declared.Voice.{Voice}
+use Rattle.rules.specs.Facts.{pitched, valueAt}
+use Rattle.pitch.specs.declared.Pitch.{Pitch as KeptPitch}
 use Rattle.tuner.specs.declared.Tuner.{Tuner}
-use Rattle.tuner.specs.declared.Answer.{Answer}
-use Rattle.tuner.specs.Tuners.{freshTuner, Good, pitched, takeOf, nextNumber, Verdict, taken, afterBlock, Took}
+use Rattle.answers.specs.declared.Answer.{Answer}
+use Rattle.record.specs.Records.{freshHeard, freshPitch, freshHead, noLast}
+use Rattle.tuner.specs.Tuners.{freshTuner, Good, takeOf, heardAfter, nextNumber, Verdict, taken, afterBlock, Took}
 use Rattle.tuner.specs.Verdicts.{verdict-one, counted, tuner-taken}
 use Rattle.account.specs.Account.{block, Series, fresh-start, and-then, by-block, plus, plusBlock, received}
 use Rattle.account.specs.Calls.{still-silent, silent-right, good-fresh, fresh-lengths, took-good, took-number, took-keeps}
@@ -65,7 +66,7 @@ LeavesAll q = (t : Tuner) (k : ℕ) (xs ys : List ℤ) → (q t k xs ys .out ≡
 
 -- tunes the first block, in whatever way, and passes the rest: where there is a last block, the input comes out
 abbrev pub PassesTheRest : Program → Type 0
-PassesTheRest q = (t : Tuner) (k : ℕ) (xs ys : List ℤ) → 0 < t .length → Gives q t k xs ys → written q t k xs ys ≡ xs
+PassesTheRest q = (t : Tuner) (k : ℕ) (xs ys : List ℤ) → 0 < t .last .length → Gives q t k xs ys → written q t k xs ys ≡ xs
 
 -- invents the repeated and dropped counts: it makes them up from the block alone, whatever the take was before (that no other count keeps the promise either is `took-one`)
 abbrev pub InventsCounts : Program → Type 0
@@ -84,30 +85,15 @@ secondBlock = pos 8 ∷ pos 9 ∷ pos 10 ∷ []
 abbrev pub room : List ℤ
 room = pos 0 ∷ pos 0 ∷ pos 0 ∷ []
 
--- the tuner with another voice
-abbrev pub withVoice : Tuner → Voice → Tuner
-withVoice t v =
-    record {
-      settings = t .settings;
-      count = t .count;
-      store = t .store;
-      eighths = t .eighths;
-      energies = t .energies;
-      correlations = t .correlations;
-      voice = v;
-      behind = t .behind;
-      number = t .number;
-      length = t .length;
-      repeated = t .repeated;
-      dropped = t .dropped;
-      out = t .out;
-    }
+-- the tuner with another pitch
+abbrev pub withPitch : Tuner → KeptPitch → Tuner
+withPitch t v = record { settings = t .settings; heard = t .heard; pitch = v; head = t .head; last = t .last }
 
 -- a good record, as a host may hand it in: fresh, but reading at twice the rate, so that the first sample repeats a cycle
 unfoldable pub ahead : Tuner
 ahead =
-    withVoice (freshTuner defaults)
-    (record { tracking = true; period = 4096; note = 69; rate = 131072; tracker = record { low = 16; last = 16; e = replicate 8 0; h = replicate 8 (pos 0) } })
+    withPitch (freshTuner defaults)
+    (record { tracker = record { low = 16; last = 16; e = replicate 8 0; h = replicate 8 (pos 0) }; tone = record { period = 4096; note = 69; rate = 131072 }; tracking = 1 })
 
 -- the program keeps the promise on three calls: the whole case's first block, its second, and the first block to the record `ahead`
 pub record Tried (q : Program) : Type 0 where
@@ -144,8 +130,8 @@ module _ {t t′ : Tuner} {k : ℕ} {xs ys zs : List ℤ} {a : Answer} (v : Verd
   as-taken : Took t k xs ys t′ (counted 0 t′ xs) zs
   as-taken = subst (λ (b : Answer). Took t k xs ys t′ b zs) answer-is p
 
-  repeated-is : a .repeated ≡ afterBlock t k xs .repeated
-  repeated-is = ap (λ (b : Answer). b .repeated) answer-is ∙ ap (λ (u : Tuner). u .repeated) tuner-is
+  repeated-is : a .repeated ≡ afterBlock t k xs .last .repeated
+  repeated-is = ap (λ (b : Answer). b .repeated) answer-is ∙ ap (λ (u : Tuner). u .last .repeated) tuner-is
 
   gives-it : a .number ≤ 1
   gives-it = omega (arith, took-number p, number-zero)
@@ -157,51 +143,55 @@ good-start : Good start
 good-start = good-fresh defaults defaults-in-range
 
 first-taken : Verdict start 0 firstBlock 3 0
-unfolding freshTuner
+unfolding freshTuner freshHeard noLast
 first-taken = taken (record { good = good-start; nonempty = omega arith; most = omega arith; written = omega arith }) (λ l. omega arith) refl (omega arith)
 
 -- what comes after the first block
 second-taken : {t : Tuner} → Good t → t ≡ afterBlock start 0 firstBlock → Verdict t 1 secondBlock 3 0
-unfolding freshTuner afterBlock
+unfolding freshTuner freshHeard noLast afterBlock heardAfter
 second-taken {t} g e =
-    let size : t .length ≡ 3 = ap (λ (u : Tuner). u .length) e in
-    let last : t .number ≡ 0 = ap (λ (u : Tuner). u .number) e in
-    let count : t .count ≡ 3 = ap (λ (u : Tuner). u .count) e in
+    let size : t .last .length ≡ 3 = ap (λ (u : Tuner). u .last .length) e in
+    let last : t .last .number ≡ 0 = ap (λ (u : Tuner). u .last .number) e in
+    let count : t .heard .count ≡ 3 = ap (λ (u : Tuner). u .heard .count) e in
     taken (record { good = g; nonempty = omega arith; most = omega arith; written = omega arith }) (λ l. omega arith) (sym (ap nextNumber e)) (omega arith)
 
 -- the rules' samples for the first block, and for both: the input four samples late
 abbrev piece : List ℤ → Piece
-piece xs = record { settings = defaults; samples = xs }
+piece xs = record { inForce = record { settings = defaults }; samples = xs }
 
 case-out : (samplesOut (givesPieces freshTake (piece firstBlock ∷ [])) ≡ pos 0 ∷ pos 0 ∷ pos 0 ∷ [])
     × (samplesOut (givesPieces freshTake (piece firstBlock ∷ piece secondBlock ∷ [])) ≡ pos 0 ∷ pos 0 ∷ pos 0 ∷ pos 0 ∷ pos 1000 ∷ negℤ (pos 1000) ∷ [])
-unfolding freshTake silence heard overPieces gives after samplesOut stepped eighthDue eighthsAfter noPeriod listened listenedIn growth cycleRepeated cycleDropped cycles inputAt reading between sampleAt wholeOf fractionOf
+unfolding freshTake silence heard overPieces gives after samplesOut stepped eighthDue eighthsAfter noTone listened listenedIn growth cycleRepeated cycleDropped cycles inputAt reading between sampleAt wholeOf fractionOf
 case-out = (refl, refl)
 
 -- one cycle is repeated in the first block to `ahead`, and none in the first block to a fresh tuner
-cycles-counted : (afterBlock ahead 0 firstBlock .repeated ≡ 1) × (afterBlock start 0 firstBlock .repeated ≡ 0)
-unfolding afterBlock ahead takeOf freshTuner gathered gives stepped eighthDue eighthsAfter stepDue listened listenedIn growth cycleRepeated cycleDropped cycles inputAt
+cycles-counted : (afterBlock ahead 0 firstBlock .last .repeated ≡ 1) × (afterBlock start 0 firstBlock .last .repeated ≡ 0)
+unfolding afterBlock ahead takeOf freshTuner freshHeard freshPitch freshHead noLast noTone gathered gives stepped eighthDue eighthsAfter stepDue listened listenedIn growth cycleRepeated cycleDropped cycles inputAt
 cycles-counted = (refl, refl)
 
 good-ahead : Good ahead
-unfolding ahead freshTuner silence
+unfolding ahead freshTuner freshHeard silence
 good-ahead =
     record {
       settings = good-start .settings;
-      count = good-start .count;
-      length = good-start .length;
-      within = good-start .within;
-      before = good-start .before;
-      eighthsBefore = good-start .eighthsBefore;
-      sums = good-start .sums;
-      lags = λ t. record { from = omega arith; upto = omega arith; lastFrom = omega arith; lastUpto = omega arith; sums = silent-right 16 8 (still-silent 1764 silence (λ k. refl)) };
-      position = good-start .position;
-      pitch = pitched (omega arith) (omega arith) (omega arith) (omega arith) (omega arith) (omega arith);
-      searching = λ t. absurd (yes-and-no refl t);
+      heard = good-start .heard;
+      pitch =
+          record {
+            flag = omega arith;
+            pitch =
+                record {
+                  tone = pitched (omega arith) (omega arith) (record { from = omega arith; upto = omega arith }) (omega arith) (omega arith);
+                  lags = record { from = omega arith; upto = omega arith; lastFrom = omega arith; lastUpto = omega arith };
+                  whileSearching = λ e. absurd (tracking-is-not-searching e);
+                };
+            sums = λ e. silent-right 16 8 (still-silent 1764 silence (λ k. refl));
+          };
+      head = good-start .head;
+      last = good-start .last;
     }
 
 ahead-taken : Verdict ahead 0 firstBlock 3 0
-unfolding ahead freshTuner
+unfolding ahead freshTuner freshHeard noLast
 ahead-taken = taken (record { good = good-ahead; nonempty = omega arith; most = omega arith; written = omega arith }) (λ l. omega arith) refl (omega arith)
 
 -- equal lists have equal samples at a place, but for the sign
@@ -247,13 +237,13 @@ module _ {q : Program} (tried : Tried q) where
   not-copied all = let e = alike 0 (sym first-written ∙ all start 0 firstBlock room (gives-it first-taken (tried .first))) in omega arith
 
   not-left : LeavesAll q → ⊥
-  unfolding afterBlock freshTuner
-  not-left all = let e = ap (λ (u : Tuner). u .count) (sym first-tuner ∙ all start 0 firstBlock room .1) in omega arith
+  unfolding afterBlock heardAfter freshTuner freshHeard
+  not-left all = let e = ap (λ (u : Tuner). u .heard .count) (sym first-tuner ∙ all start 0 firstBlock room .1) in omega arith
 
   not-passed : PassesTheRest q → ⊥
   unfolding afterBlock
   not-passed all =
-      let size : one .tuner .length ≡ 3 = ap (λ (u : Tuner). u .length) first-tuner in
+      let size : one .tuner .last .length ≡ 3 = ap (λ (u : Tuner). u .last .length) first-tuner in
       let e = alike 0 (sym second-written ∙ all (one .tuner) 1 secondBlock room (omega arith) (gives-it next-taken (tried .second))) in omega arith
 
   not-invented : InventsCounts q → ⊥
