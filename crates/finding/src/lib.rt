@@ -11,51 +11,13 @@ ghost use Rattle.ages.specs.Ages.{ago};
 ghost use Rattle.sums.specs.Kept.{RightAt, Enough, Kept};
 ghost use Rattle.rules.specs.Facts.{Right};
 ghost use Rattle.finding.specs.Quiet.{Quiet};
-ghost use Rattle.finding.specs.Finding.{lagOf, Modest, Long, One, Distances, Measured, Small};
+ghost use Rattle.finding.specs.Finding.{lagOf, Measured};
+ghost use Rattle.passing.specs.Distances.{Modest, Long, One, Distances, Small};
 ghost use Rattle.finding.specs.Scan.{InOrder, Leasts, Passed};
 
 pub enum Found {
     At(usize),
     Nothing,
-}
-
-// D from E and H.
-pub fn distance(e: u64, h: i64) -> u64
-    requires { ⌜ One e h ⌝ }
-    ensures { λ r. ⌜ ((x : Sound) (L : ℕ) → RightAt x L e h → r ≡ D x L) ⌝ }
-{
-    let a = e as i64;
-    (a - 2 * h) as u64
-}
-
-// D at each lag.
-pub fn distances(d: &mut [u64], e: &[u64], h: &[i64])
-    requires { ⌜ Kept (length (now d)) (now e) (now h) ⌝ }
-    ensures { λ r. ⌜ ((x : Sound) (low : ℕ) → Right x low (length (now (d .entry))) (now (e .entry)) (now (h .entry)) → Distances x low (length (now (d .entry))) (now (d .exit))) ⌝ }
-{
-    let n = d.len();
-    let mut i: usize = 0;
-    while i < n {
-        let a = e[i];
-        let b = h[i];
-        d[i] = distance(a, b);
-        i += 1;
-    }
-}
-
-// A lag passes.
-pub fn passing(g: Settings, d: u64, e: u64, lag: usize) -> bool
-    requires { ⌜ Modest g × (d ≤ 2 ^ 42) × (e ≤ 2 ^ 42) × (lag ≤ 880) ⌝ }
-    ensures { λ r. ⌜ ((x : Sound) → d ≡ D x lag → e ≡ E x lag → r ≡ passes g x lag) ⌝ }
-{
-    let p = g.eps as u64;
-    let f = g.floor as u64;
-    let l = lag as u64;
-    if 1024 * d <= p * e {
-        f * (2 * l) <= e
-    } else {
-        false
-    }
 }
 
 // A low at the lag l; the places 0 to 108 are the lags 2 to 110.
@@ -69,7 +31,7 @@ fn low_at(d: &[u64; 109], e: &[u64; 109], g: Settings, l: usize) -> bool
     if d2 < d1 {
         if d2 <= d3 {
             let e2 = e[l - 2];
-            passing(g, d2, e2, l)
+            passing::passing(g, d2, e2, l)
         } else {
             false
         }
@@ -147,7 +109,7 @@ fn full(s: &[i16], m: usize, lag: usize) -> u64
     ensures { λ r. ⌜ r ≡ D (ago (now (s .entry)) m) lag ⌝ }
 {
     let t = sums::direct(s, m, lag);
-    distance(t.e, t.h)
+    passing::distance(t.e, t.h)
 }
 
 // Of 8 x L1 and 8 x L2 the one with smaller full-rate D, the shorter on equality.
@@ -197,7 +159,7 @@ pub fn find(e: &[u64; 109], h: &[i64; 109], g: Settings, s: &[i16], m: usize) ->
         return Found::Nothing;
     }
     let mut d = [0u64; 109];
-    distances(&mut d, e, h);
+    passing::distances(&mut d, e, h);
     let t = two_least(&d, e, g);
     found_by(s, m, t)
 }

@@ -14,7 +14,7 @@ use lib.Seq.{take-suc-set}
 use Rattle.whole.specs.Tests.{Decides, yes-and-no, and-left, and-right, by, cond-yes, cond-no}
 use Rattle.rules.specs.declared.Settings.{Settings}
 use Rattle.tuner.specs.declared.Tuner.{Tuner}
-use Rattle.tuner.specs.declared.Answer.{Answer}
+use Rattle.answers.specs.declared.Answer.{Answer}
 use Rattle.tuner.specs.Tuners.{Verdict, record-out-of-range, block-empty, block-over-512, output-short, number-neither, other-samples, given-again, take-full, taken, answerBy, Took}
 use Rattle.text.specs.Text.{fields, number, sample}
 use Rattle.text.specs.Places.{optional}

@@ -11,7 +11,7 @@ use Prim.Native.Nat.{_+_}
 use lib.ListN.{length, getD, take, drop, replicate}
 use Rattle.rules.specs.declared.Settings.{Settings}
 use Rattle.tuner.specs.declared.Tuner.{Tuner}
-use Rattle.tuner.specs.declared.Answer.{Answer}
+use Rattle.answers.specs.declared.Answer.{Answer}
 use Rattle.tuner.specs.Tuners.{Took, Started, Changed, Reset}
 use Rattle.text.specs.Text.{fields, number, sample, decimal, sampleFields, Put}
 

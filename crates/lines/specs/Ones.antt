@@ -6,9 +6,9 @@ use native.Mathlib.Omega.{arith}
 use lib.IntN.{pos}
 use lib.ListN.{length, replicate}
 use Rattle.tuner.specs.declared.Tuner.{Tuner}
-use Rattle.tuner.specs.declared.Answer.{Answer}
+use Rattle.answers.specs.declared.Answer.{Answer}
 use Rattle.tuner.specs.Verdicts.{took-one, changed-one, reset-one}
-use Rattle.tuner.specs.Metering.{one-start}
+use Rattle.tuner.specs.Starts.{one-start}
 use Rattle.text.specs.Text.{Put, put}
 use Rattle.lines.specs.Lines.{Line, numberLine, blockLine, Said, begun, not-begun, changed, taken, begun-again, not-read, Answered, answered, no-room}
 

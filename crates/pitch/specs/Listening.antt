@@ -20,7 +20,8 @@ use Rattle.rules.specs.Choosing.{found-range}
 use Rattle.rules.specs.Notes.{tuned-in}
 use Rattle.rules.specs.Sane.{tracking-is-not-searching}
 use Rattle.sums.specs.Kept.{Kept}
-use Rattle.finding.specs.Finding.{Modest, lagOf}
+use Rattle.finding.specs.Finding.{lagOf}
+use Rattle.passing.specs.Distances.{Modest}
 use Rattle.finding.specs.declared.Found.{Found}
 use Rattle.tracking.specs.declared.Tracker.{Tracker}
 use Rattle.tracking.specs.declared.Tracked.{Tracked}

@@ -9,7 +9,7 @@ ghost use Rattle.rules.specs.Rules.{Sound, older, noTone, noPeriod, tracked};
 ghost use Rattle.rules.specs.Rules as rules;
 ghost use Rattle.rules.specs.Facts.{ForceIn};
 ghost use Rattle.ages.specs.Ages.{ago};
-ghost use Rattle.finding.specs.Finding.{Long};
+ghost use Rattle.passing.specs.Distances.{Long};
 ghost use Rattle.pitch.specs.Pitches.{pitchOf, PitchRight, blank, keptOf};
 ghost use Rattle.pitch.specs.Listening.{Eighth, Became, Searched, Listened};
 

@@ -12,7 +12,7 @@ use Rattle.rules.specs.declared.InForce.{InForce}
 use Rattle.rules.specs.Rules.{Take, Given, Step, after, gives, stepped, samplesOut, gathered, allRepeated, allDropped}
 use Rattle.rules.specs.Blocks.{after-more, gives-more, gives-length, samplesOut-append, gathered-more}
 use Rattle.rules.specs.Facts.{valueAt}
-use Rattle.finding.specs.Finding.{Long}
+use Rattle.passing.specs.Distances.{Long}
 use Rattle.steps.specs.declared.Progress.{Progress}
 use Rattle.steps.specs.Running.{takeSoFar, Ready, Room, Did, Ran, Begins, Ended}
 

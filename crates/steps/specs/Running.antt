@@ -11,7 +11,7 @@ use Rattle.rules.specs.Rules.{Sound, Take, Given, Step, Pitch, Growth, inputAt,
 use Rattle.ages.specs.Ages.{ago, ago-next, ago-fits}
 use Rattle.rules.specs.Facts.{valueAt}
 use Rattle.pitch.specs.Pitches.{pitchOf, PitchRight}
-use Rattle.finding.specs.Finding.{Long}
+use Rattle.passing.specs.Distances.{Long}
 use Rattle.reading.specs.Grown.{Grown}
 use Rattle.reading.specs.declared.Growth.{Growth as Moved}
 use Rattle.steps.specs.declared.Progress.{Progress}

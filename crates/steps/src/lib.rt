@@ -9,7 +9,7 @@ ghost use lib.ListN.{length, getD, set, take, drop};
 ghost use Rattle.rules.specs.Rules.{eighthSample};
 ghost use Rattle.rules.specs.Facts.{ForceIn, valueAt};
 ghost use Rattle.ages.specs.Ages.{ago, Samples};
-ghost use Rattle.finding.specs.Finding.{Long};
+ghost use Rattle.passing.specs.Distances.{Long};
 ghost use Rattle.steps.specs.Eighths.{Eighths, Heard};
 ghost use Rattle.steps.specs.Running.{takeSoFar, Ready, Room, Did, Ran, Begins, Ended};
 

@@ -14,7 +14,7 @@ use Rattle.rules.specs.Periods.{period-range}
 use Rattle.ages.specs.Ages.{ago, ago-fits}
 use Rattle.sums.specs.Kept.{Enough, Kept}
 use Rattle.rules.specs.Facts.{Right}
-use Rattle.finding.specs.Finding.{Long, Distances}
+use Rattle.passing.specs.Distances.{Long, Distances}
 use Rattle.tracking.specs.declared.Tracker.{Tracker}
 use Rattle.tracking.specs.declared.Tracked.{Tracked}
 

@@ -8,7 +8,7 @@ ghost use Rattle.rules.specs.Facts.{Right};
 ghost use Rattle.rules.specs.Rules.{Sound, older, E, D, isLost, offset, moved};
 ghost use Rattle.rules.specs.Choosing.{First};
 ghost use Rattle.ages.specs.Ages.{ago};
-ghost use Rattle.finding.specs.Finding.{Modest, Long, Distances, Small};
+ghost use Rattle.passing.specs.Distances.{Modest, Long, Distances, Small};
 ghost use Rattle.tracking.specs.Tracking.{place, PeriodAt, Tracks, Stepped};
 
 #[repr(C)]
@@ -112,7 +112,7 @@ fn lost(d: u64, e: u64, g: Settings, lag: u32, last: u32) -> bool
     if last > lag + 3 {
         return true;
     }
-    !finding::passing(g, d, e, lag as usize)
+    !passing::passing(g, d, e, lag as usize)
 }
 
 // What a tracking step leaves: lost, or the period and the eight lags after it.
@@ -175,7 +175,7 @@ impl Tracker {
         let mut e = self.e;
         let mut h = self.h;
         let mut d = [0u64; 8];
-        finding::distances(&mut d, &e, &h);
+        passing::distances(&mut d, &e, &h);
         let at = least(&d);
         let low = self.low;
         let lag = low + (at as u32);

@@ -12,7 +12,7 @@ use Rattle.rules.specs.Hearing.{heardAll-append}
 use Rattle.rules.specs.Position.{Behind, behind-one}
 use Rattle.rules.specs.Facts.{Right}
 use Rattle.ages.specs.Ages.{ago}
-use Rattle.finding.specs.Finding.{Long}
+use Rattle.passing.specs.Distances.{Long}
 use Rattle.copying.specs.Copies.{keeping, Joined, joined-old, joined-new, joined-sound, joined-keeping, take-drop}
 use Rattle.pitch.specs.declared.Pitch.{Pitch as KeptPitch}
 use Rattle.pitch.specs.Pitches.{pitchOf, PitchRight, keptOf}

@@ -5,7 +5,7 @@ use mathlib.Core.Path.{sym}
 use native.Mathlib.Omega.{arith}
 use borrow.Author.Needs.{needs}
 use Rattle.ages.specs.Ages.{ago}
-use Rattle.finding.specs.Finding.{small-energies, small-distances}
+use Rattle.passing.specs.Distances.{small-energies, small-distances}
 use Rattle.finding.specs.Quiet.{nothing-found}
 use Rattle.finding.proofs.find.Statement.{statement}
 use Rattle.finding.proofs.find.Tie as tie

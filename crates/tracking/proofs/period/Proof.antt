@@ -15,7 +15,7 @@ use mir.Val.{Fits, toZ, ofZ}
 use Rattle.whole.specs.Bounds.{near}
 use Rattle.whole.specs.Words.{Bits, arg≤, num, add, add-ok}
 use Rattle.rules.specs.Rules.{Sound, D, offset, period}
-use Rattle.finding.specs.Finding.{Distances}
+use Rattle.passing.specs.Distances.{Distances}
 use Rattle.tracking.specs.Tracking.{place, period-at}
 use Rattle.tracking.proofs.period.Statement.{statement}
 use Rattle.tracking.proofs.period.Tie as tie

@@ -12,7 +12,7 @@ use Rattle.rules.specs.Rules as rules
 use Rattle.rules.specs.Periods.{moved-range, moved-best}
 use Rattle.ages.specs.Ages.{ago}
 use Rattle.sums.specs.Kept.{Kept}
-use Rattle.finding.specs.Finding.{Distances, Small, small-energies, small-distances}
+use Rattle.passing.specs.Distances.{Distances, Small, small-energies, small-distances}
 use Rattle.tracking.specs.Tracking.{kept, is-best}
 use Rattle.tracking.proofs.Tracker.step.Statement.{statement}
 use Rattle.tracking.proofs.Tracker.step.Tie as tie

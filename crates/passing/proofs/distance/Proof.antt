@@ -1,4 +1,4 @@
--- `finding::distance` meets its contract: E - 2H is the D of some sound of 16-bit samples, so nothing overflows and it is not negative (`D-is`).
+-- `passing::distance` meets its contract: E - 2H is the D of some sound of 16-bit samples, so nothing overflows and it is not negative (`D-is`).
 -- Assumes nothing.
 use mathlib.Core.Path.{_≡_, sym, ap, _∙_, subst}
 use Prim.Native.Nat.{ℕ, _+_, _*_, _^_}
@@ -12,9 +12,9 @@ use Rattle.whole.specs.Words.{Bits, num, lit, sub, sub-ok, mul, mul-ok, fit}
 use Rattle.rules.specs.Rules.{D}
 use Rattle.rules.specs.Distance.{D-is, D-within}
 use Rattle.sums.specs.Sweep.{energy-small, correlation-held}
-use Rattle.finding.specs.Finding.{One}
-use Rattle.finding.proofs.distance.Statement.{statement}
-use Rattle.finding.proofs.distance.Tie as tie
+use Rattle.passing.specs.Distances.{One}
+use Rattle.passing.proofs.distance.Statement.{statement}
+use Rattle.passing.proofs.distance.Tie as tie
 
 module _ {e : ℕ} {h : ℤ} (o : One e h) where
   energy : Bits w64 (2 ^ 41) (ofZ w64 (pos e)) (pos e)

@@ -1,4 +1,4 @@
--- `finding::passing` meets its contract: the two tests in turn; nothing overflows, since eps, floor, d and e are small.
+-- `passing::passing` meets its contract: the two tests in turn; nothing overflows, since eps, floor, d and e are small.
 -- Assumes nothing.
 use Prim.Native.Nat.{_*_, _≤_}
 use native.Mathlib.Nat.{mul-le-mul}
@@ -6,8 +6,8 @@ use native.Mathlib.Omega.{arith}
 use borrow.Author.Tests.{le-leb, lt-leb}
 use borrow.Author.Needs.{needs}
 use Rattle.rules.specs.Rules.{passes, meetsEps, meetsFloor}
-use Rattle.finding.proofs.passing.Statement.{statement}
-use Rattle.finding.proofs.passing.Tie as tie
+use Rattle.passing.proofs.passing.Statement.{statement}
+use Rattle.passing.proofs.passing.Tie as tie
 
 cast-p : tie.Need-cast-p
 cast-p c = search needs

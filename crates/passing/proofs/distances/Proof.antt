@@ -1,4 +1,4 @@
--- `finding::distances` meets its contract: after i turns the first i places hold D, at the lags of any sound whose sums e and h are.
+-- `passing::distances` meets its contract: after i turns the first i places hold D, at the lags of any sound whose sums e and h are.
 -- Assumes nothing.
 use mathlib.Core.Path.{_≡_, refl, _∙_}
 use Prim.Native.Nat.{ℕ, _+_, _-_, _≤_, _<_}
@@ -12,9 +12,9 @@ use mir.Val.{toZ, ofZ}
 use mir.Facts.{toZ-ofZ}
 use Rattle.rules.specs.Rules.{Sound, D}
 use Rattle.rules.specs.Facts.{valueAt, Right}
-use Rattle.finding.specs.Finding.{one-of}
-use Rattle.finding.proofs.distances.Statement.{statement}
-use Rattle.finding.proofs.distances.Tie as tie
+use Rattle.passing.specs.Distances.{one-of}
+use Rattle.passing.proofs.distances.Statement.{statement}
+use Rattle.passing.proofs.distances.Tie as tie
 
 abbrev Inv-loop : tie.InvT-loop
 Inv-loop d₀ e h n i₀ d i =
