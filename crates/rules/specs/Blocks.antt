@@ -46,6 +46,11 @@ module _ (f : InForce) where
   gives-length t [] = refl
   gives-length t (x ∷ xs) = ap suc (gives-length (stepped f t x .next) xs)
 
+  pub given-length : (t : Take) (xs : List ℤ) → length (gives f t xs) ≡ length xs
+  unfolding gives
+  given-length t [] = refl
+  given-length t (x ∷ xs) = ap suc (given-length (stepped f t x .next) xs)
+
 -- ---- what is given, and more after it
 pub samplesOut-append : (gs hs : List Given) → samplesOut (gs ++ hs) ≡ samplesOut gs ++ samplesOut hs
 unfolding samplesOut

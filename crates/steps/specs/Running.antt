@@ -1,12 +1,13 @@
 -- Within a block: what holds between two samples, and what the samples so far have given.
 use mathlib.Core.Path.{_≡_, refl, sym, ap, _∙_, subst}
-use mathlib.Core.List.{List, [], _∷_, _++_}
+use mathlib.Core.List.{List, [], _∷_, _++_, map}
 use Prim.Native.Nat.{ℕ, zero, suc, _+_, _-_, _/_, _%_, _≤_, _<_}
 use native.Mathlib.Omega.{arith}
 use native.Mathlib.Numerals.{add-one}
 use lib.IntN.{ℤ, pos, _-ℤ_}
 use lib.ListN.{length, getD, take, drop, set, replicate, length-replicate}
 use Rattle.rules.specs.declared.InForce.{InForce}
+use Rattle.rules.specs.declared.Tone.{Tone}
 use Rattle.rules.specs.Rules.{Sound, Take, Given, Step, Pitch, Growth, inputAt, heard, eighthsAfter, listened, growth, reading, after, gives, stepped, samplesOut, allRepeated, allDropped}
 use Rattle.ages.specs.Ages.{ago, ago-next, ago-fits}
 use Rattle.rules.specs.Facts.{valueAt}
@@ -44,20 +45,48 @@ pub record Room (p : Progress) : Type 0 where
   pub repeated : p .repeated ≤ 512
   pub dropped : p .dropped ≤ 512
 
--- one sample: from p to r, the output at place i
-pub record Did (f : InForce) (t : Take) (new : ℤ) (t′ : Take) (outs : List ℤ) (i : ℕ) (outs′ : List ℤ) (p r : Progress) : Type 0 where
+-- the tones after samples, number by number
+pub record Tones : Type 0 where
+  pub periods : List ℕ
+  pub notes : List ℕ
+  pub rates : List ℕ
+
+abbrev pub tones : List ℕ → List ℕ → List ℕ → Tones
+tones ps ns rs = record { periods = ps; notes = ns; rates = rs }
+
+-- with the tone o at place i
+abbrev pub toneAt : Tones → ℕ → Tone → Tones
+toneAt ts i o = tones (set (ts .periods) i (o .period)) (set (ts .notes) i (o .note)) (set (ts .rates) i (o .rate))
+
+-- with the tones that were given, from the first place on
+abbrev pub given : (Tone → ℕ) → List Given → List ℕ → List ℕ
+given part gs before = map (λ (g : Given). part (g .tone)) gs ++ drop (length gs) before
+
+abbrev pub tonesGiven : Tones → List Given → Tones
+tonesGiven ts gs = tones (given (λ (o : Tone). o .period) gs (ts .periods)) (given (λ (o : Tone). o .note) gs (ts .notes)) (given (λ (o : Tone). o .rate) gs (ts .rates))
+
+-- there are 512 places for each
+pub record Long512 (ts : Tones) : Type 0 where
+  pub periods : length (ts .periods) ≡ 512
+  pub notes : length (ts .notes) ≡ 512
+  pub rates : length (ts .rates) ≡ 512
+
+-- one sample: from p to r, the output and the tone at place i
+pub record Did (f : InForce) (t : Take) (new : ℤ) (t′ : Take) (outs : List ℤ) (i : ℕ) (outs′ : List ℤ) (ts ts′ : Tones) (p r : Progress) : Type 0 where
   pub take : t′ ≡ stepped f t new .next
   pub out : outs′ ≡ set outs i (stepped f t new .given .out)
+  pub tone : ts′ ≡ toneAt ts i (stepped f t new .given .tone)
   pub repeated : r .repeated ≡ p .repeated + length (stepped f t new .given .repeats)
   pub dropped : r .dropped ≡ p .dropped + length (stepped f t new .given .drops)
   pub few : (r .repeated ≤ p .repeated + 1) × (r .dropped ≤ p .dropped + 1)
   pub count : r .count ≡ p .count + 1
   pub phase : (f : ℕ) → p .places + f ≡ 224 + p .count / 8 → r .places + f ≡ 224 + r .count / 8
 
--- the samples xs: from p to r, the outputs from the first place on
-pub record Ran (f : InForce) (t : Take) (xs : List ℤ) (t′ : Take) (outs outs′ : List ℤ) (p r : Progress) : Type 0 where
+-- the samples xs: from p to r, the outputs and the tones from the first place on
+pub record Ran (f : InForce) (t : Take) (xs : List ℤ) (t′ : Take) (outs outs′ : List ℤ) (ts ts′ : Tones) (p r : Progress) : Type 0 where
   pub take : t′ ≡ after f t xs
   pub out : outs′ ≡ samplesOut (gives f t xs) ++ drop (length xs) outs
+  pub tone : ts′ ≡ tonesGiven ts (gives f t xs)
   pub repeated : r .repeated ≡ p .repeated + length (allRepeated (gives f t xs))
   pub dropped : r .dropped ≡ p .dropped + length (allDropped (gives f t xs))
 
@@ -118,14 +147,15 @@ module _ (f : InForce) (s : List ℤ) (m : ℕ) (y : List ℤ) (p : Progress) {y
       (ls .pitch (ago y′ q) (hd .eighths .sums) ∙ ap (λ (n : ℕ). listened f n (ago s (m + 1)) (ago y′ q) (pitchOf (p .pitch))) (add-one (p .count)))
       (sym (gr .grows (p .count)))
 
-  pub did : (outs : List ℤ) (i : ℕ) {o : ℤ} → ((n : ℕ) → o ≡ reading (ago s (m + 1)) n (inputAt n -ℤ pos (r .behind)))
-      → Did f (takeSoFar s m y p) (valueAt s m) (takeSoFar s (m + 1) y′ (nextOf p q v r)) outs i (set outs i o) p (nextOf p q v r)
-  did outs i rd =
+  pub did : (outs : List ℤ) (ts : Tones) (i : ℕ) {o : ℤ} → ((n : ℕ) → o ≡ reading (ago s (m + 1)) n (inputAt n -ℤ pos (r .behind)))
+      → Did f (takeSoFar s m y p) (valueAt s m) (takeSoFar s (m + 1) y′ (nextOf p q v r)) outs i (set outs i o) ts (toneAt ts i (v .tone)) p (nextOf p q v r)
+  did outs ts i rd =
       record {
         take =
             (λ j. record { count = add-one (p .count) j; sound = ago s (m + 1); eighths = ago y′ q; pitch = pitchOf v; position = inputAt (add-one (p .count) j) -ℤ pos (r .behind) })
             ∙ sym (ap (λ (d : Step). d .next) one-step);
         out = ap (set outs i) (rd (suc (p .count)) ∙ sym (ap (λ (d : Step). d .given .out) one-step));
+        tone = ap (toneAt ts i) (sym (ap (λ (d : Step). d .given .tone) one-step));
         repeated = ap (λ (n : ℕ). p .repeated + n) (sym (ap (λ (d : Step). length (d .given .repeats)) one-step ∙ length-replicate (r .repeated) (v .tone .period)));
         dropped = ap (λ (n : ℕ). p .dropped + n) (sym (ap (λ (d : Step). length (d .given .drops)) one-step ∙ length-replicate (r .dropped) (v .tone .period)));
         few = (omega (arith, gr .repeated-one), omega (arith, gr .dropped-one));

@@ -11,7 +11,7 @@ ghost use Rattle.rules.specs.Facts.{ForceIn, valueAt};
 ghost use Rattle.ages.specs.Ages.{ago, Samples};
 ghost use Rattle.passing.specs.Distances.{Long};
 ghost use Rattle.steps.specs.Eighths.{Eighths, Heard};
-ghost use Rattle.steps.specs.Running.{takeSoFar, Ready, Room, Did, Ran, Begins, Ended};
+ghost use Rattle.steps.specs.Running.{takeSoFar, tones, Long512, Ready, Room, Did, Ran, Begins, Ended};
 
 // A take as far as it has come within a block: its sample count, the eighth-rate samples that are stored, how far the read position lies
 // behind, the cycles repeated and dropped in the block, and the pitch.
@@ -71,7 +71,7 @@ fn hear(
     places
 }
 
-// One sample, which stands after the first m; the output goes to place i.
+// One sample, which stands after the first m; the output and the tone after it go to place i.
 fn step(
     p: Progress,
     f: InForce,
@@ -81,10 +81,13 @@ fn step(
     s: &[i16],
     m: usize,
     out: &mut [i16; 512],
+    periods: &mut [u32; 512],
+    notes: &mut [u32; 512],
+    rates: &mut [u32; 512],
     i: usize,
 ) -> Progress
     requires { ⌜ ForceIn f × Long (now s) m × (m < length (now s)) × (i < 512) × Ready (now s) m (now y) (now e) (now h) p × Room p ⌝ }
-    ensures { λ r. ⌜ Ready (now (s .entry)) (m + 1) (now (y .exit)) (now (e .exit)) (now (h .exit)) r × Did f (takeSoFar (now (s .entry)) m (now (y .entry)) p) (valueAt (now (s .entry)) m) (takeSoFar (now (s .entry)) (m + 1) (now (y .exit)) r) (now (out .entry)) i (now (out .exit)) p r ⌝ }
+    ensures { λ r. ⌜ Ready (now (s .entry)) (m + 1) (now (y .exit)) (now (e .exit)) (now (h .exit)) r × Did f (takeSoFar (now (s .entry)) m (now (y .entry)) p) (valueAt (now (s .entry)) m) (takeSoFar (now (s .entry)) (m + 1) (now (y .exit)) r) (now (out .entry)) i (now (out .exit)) (tones (now (periods .entry)) (now (notes .entry)) (now (rates .entry))) (tones (now (periods .exit)) (now (notes .exit)) (now (rates .exit))) p r ⌝ }
 {
     let n = p.count + 1;
     let heard = m + 1;
@@ -94,6 +97,9 @@ fn step(
     let r = reading::grow(p.behind, v.tone.rate, v.tone.period);
     let o = reading::read(s, heard, r.behind);
     out[i] = o;
+    periods[i] = v.tone.period;
+    notes[i] = v.tone.note;
+    rates[i] = v.tone.rate;
     let repeated = p.repeated + r.repeated;
     let dropped = p.dropped + r.dropped;
     Progress {
@@ -106,7 +112,7 @@ fn step(
     }
 }
 
-// The samples of the store after the first m, b of them.
+// The samples of the store after the first m, b of them: their outputs, and the tone after each.
 pub fn run(
     p: Progress,
     f: InForce,
@@ -117,14 +123,17 @@ pub fn run(
     m: usize,
     b: usize,
     out: &mut [i16; 512],
+    periods: &mut [u32; 512],
+    notes: &mut [u32; 512],
+    rates: &mut [u32; 512],
 ) -> Progress
-    requires { ⌜ ForceIn f × Long (now s) m × (m + b ≤ length (now s)) × (b ≤ 512) × Ready (now s) m (now y) (now e) (now h) p × Begins b p × (length (now out) ≡ 512) ⌝ }
-    ensures { λ r. ⌜ Ready (now (s .entry)) (m + b) (now (y .exit)) (now (e .exit)) (now (h .exit)) r × Ran f (takeSoFar (now (s .entry)) m (now (y .entry)) p) (take b (drop m (now (s .entry)))) (takeSoFar (now (s .entry)) (m + b) (now (y .exit)) r) (now (out .entry)) (now (out .exit)) p r × Ended b p r ⌝ }
+    requires { ⌜ ForceIn f × Long (now s) m × (m + b ≤ length (now s)) × (b ≤ 512) × Ready (now s) m (now y) (now e) (now h) p × Begins b p × (length (now out) ≡ 512) × Long512 (tones (now periods) (now notes) (now rates)) ⌝ }
+    ensures { λ r. ⌜ Ready (now (s .entry)) (m + b) (now (y .exit)) (now (e .exit)) (now (h .exit)) r × Ran f (takeSoFar (now (s .entry)) m (now (y .entry)) p) (take b (drop m (now (s .entry)))) (takeSoFar (now (s .entry)) (m + b) (now (y .exit)) r) (now (out .entry)) (now (out .exit)) (tones (now (periods .entry)) (now (notes .entry)) (now (rates .entry))) (tones (now (periods .exit)) (now (notes .exit)) (now (rates .exit))) p r × Ended b p r ⌝ }
 {
     let mut q = p;
     let mut i: usize = 0;
     while i < b {
-        q = step(q, f, y, e, h, s, m + i, out, i);
+        q = step(q, f, y, e, h, s, m + i, out, periods, notes, rates, i);
         i += 1;
     }
     q

@@ -20,7 +20,7 @@ use Rattle.pitch.specs.Listening.{lags-of}
 use Rattle.pitch.specs.Keeping.{right-energies, right-correlations}
 use Rattle.steps.specs.declared.Progress.{Progress}
 use Rattle.steps.specs.Eighths.{Eighths}
-use Rattle.steps.specs.Running.{takeSoFar, Ready, Ran, Begins, Ended}
+use Rattle.steps.specs.Running.{takeSoFar, Tones, Ready, Ran, Begins, Ended}
 use Rattle.record.specs.Records.{soundOf}
 use Rattle.record.specs.Parts.{Stores}
 use Rattle.tuner.specs.declared.Tuner.{Tuner}
@@ -62,8 +62,8 @@ module _ (t : Tuner) (g : Good t) (st : Stores (t .heard)) {xs s y : List ℤ} (
       λ i. record { count = t .heard .count; sound = sound-before i; eighths = eighths-before i; pitch = pitchOf (t .pitch); position = inputAt (t .heard .count) -ℤ pos (t .head .behind) }
 
   -- ---- where it ends
-  module _ (few : length xs ≤ 512) {y′ : List ℤ} {e : List ℕ} {h out : List ℤ} {q : Progress} (long : length y′ ≡ 288) (rd : Ready s (1764 + length xs) y′ e h q)
-      (ran : Ran (forceOf t) (takeSoFar s 1764 y (beginning t)) (take (length xs) (drop 1764 s)) (takeSoFar s (1764 + length xs) y′ q) (replicate 512 (pos 0)) out (beginning t) q)
+  module _ (few : length xs ≤ 512) {y′ : List ℤ} {e : List ℕ} {h out : List ℤ} {ts ts′ : Tones} {q : Progress} (long : length y′ ≡ 288) (rd : Ready s (1764 + length xs) y′ e h q)
+      (ran : Ran (forceOf t) (takeSoFar s 1764 y (beginning t)) (take (length xs) (drop 1764 s)) (takeSoFar s (1764 + length xs) y′ q) (replicate 512 (pos 0)) out ts ts′ (beginning t) q)
       (end : Ended (length xs) (beginning t) q) where
     block-is : take (length xs) (drop 1764 s) ≡ xs
     block-is = ap (λ (n : ℕ). take (length xs) (drop n s)) (sym (st .store)) ∙ joined-new j

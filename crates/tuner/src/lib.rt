@@ -125,6 +125,9 @@ fn after_block(t: Tuner, number: u16, samples: &[i16]) -> Tuner
     let s = copying::joined(store, samples);
     let mut y = copying::opened(eighths);
     let mut out = [0i16; 512];
+    let mut periods = [0u32; 512];
+    let mut notes = [0u32; 512];
+    let mut rates = [0u32; 512];
     let p = Progress {
         count: t.heard.count as u32,
         places: 224,
@@ -133,7 +136,20 @@ fn after_block(t: Tuner, number: u16, samples: &[i16]) -> Tuner
         dropped: 0,
         pitch: v,
     };
-    let q = steps::run(p, f, &mut y, &mut e, &mut h, &s, 1764, n, &mut out);
+    let q = steps::run(
+        p,
+        f,
+        &mut y,
+        &mut e,
+        &mut h,
+        &s,
+        1764,
+        n,
+        &mut out,
+        &mut periods,
+        &mut notes,
+        &mut rates,
+    );
     let mut kept = [0i16; 1764];
     copying::keep(&mut kept, &s, n);
     let mut kept8 = [0i16; 224];

@@ -6,29 +6,32 @@ use Prim.Native.Nat.{ℕ, _+_, _-_, _≤_}
 use native.Mathlib.Omega.{arith}
 use lib.IntN.{ℤ}
 use lib.ListN.{length}
+use Rattle.steps.specs.Running.{tones}
 use Rattle.steps.specs.Going.{Going, going-none, going-room, going-long, going-more}
 use Rattle.steps.proofs.run.Statement.{statement}
 use Rattle.steps.proofs.run.Tie as tie
 
 abbrev Inv-loop : tie.InvT-loop
-Inv-loop f y₀ e₀ h₀ s m b out₀ q₀ i₀ y e h out q i = (i ≤ b) × (length out₀ ≡ 512) × Going f s m y₀ out₀ q₀ i y e h out q
+Inv-loop f y₀ e₀ h₀ s m b out₀ ps₀ ns₀ rs₀ q₀ i₀ y e h out ps ns rs q i =
+    (i ≤ b) × (length out₀ ≡ 512) × Going f s m y₀ out₀ (tones ps₀ ns₀ rs₀) q₀ i y e h out (tones ps ns rs) q
 
 abbrev μ-loop : tie.MeasureT-loop
-μ-loop f y₀ e₀ h₀ s m b out₀ q₀ i₀ y e h out q i = b - i
+μ-loop f y₀ e₀ h₀ s m b out₀ ps₀ ns₀ rs₀ q₀ i₀ y e h out ps ns rs q i = b - i
 
 loop-holds : tie.Need-loop-holds Inv-loop μ-loop
-loop-holds c = (omega arith, c .pre .6, going-none (c .args .f) (c .args .out .now) (c .pre .4) (c .pre .5))
+loop-holds c = (omega arith, c .pre .6, going-none (c .args .f) (c .args .out .now) (tones (c .args .periods .now) (c .args .notes .now) (c .args .rates .now)) (c .pre .4) (c .pre .5))
 
 add-step : tie.Need-add-step Inv-loop μ-loop
 add-step c = omega arith
 
 step-requires : tie.Need-step-requires Inv-loop μ-loop
 step-requires c κs =
-    let l = c .before .before .before .before .before in
+    let l = c .before .before .before .before .before .before .before .before in
     let p = l .before .pre in
     let k = l .loop .inv .2 in
     let b = l .before .args .b in
-    (p .0, going-long k b (omega arith) (p .3) (p .2) (p .1), omega arith, omega arith, k .ready, going-room k b (omega arith) (p .3) (p .2) (p .5))
+    let t = c .before .before .before .before .before .before .before .loop-test .taken in
+    (p .0, going-long k b (omega (arith, t)) (p .3) (p .2) (p .1), omega (arith, t, p .2), omega (arith, t, p .3), k .ready, going-room k b (omega (arith, t)) (p .3) (p .2) (p .5))
 
 add-i : tie.Need-add-i Inv-loop μ-loop
 add-i c = omega arith
@@ -38,18 +41,18 @@ loop-less c = omega arith
 
 loop-again : tie.Need-loop-again Inv-loop μ-loop
 loop-again c =
-    let l = c .before .before .before .before .before .before in
+    let l = c .before .before .before .before .before .before .before .before .before in
     let p = l .before .pre in
     let k = l .loop .inv .2 in
-    let t = c .before .before .before .before .before .loop-test .taken in
-    (omega (arith, t), l .loop .inv .1, going-more k (l .before .args .b) (omega (arith, t)) (p .3) (p .2) (omega (arith, l .loop .inv .1)) (c .step .ensures .0) (c .step .ensures .1))
+    let t = c .before .before .before .before .before .before .before .before .loop-test .taken in
+    (omega (arith, t), l .loop .inv .1, going-more k (l .before .args .b) (omega (arith, t)) (p .3) (p .2) (omega (arith, l .loop .inv .1)) (p .7) (c .step .ensures .0) (c .step .ensures .1))
 
 returns : tie.Need-returns Inv-loop μ-loop
 returns c =
     let a = c .before .before .args in
     let l = c .before .loop in
     let e : l .i ≡ a .b = omega arith in
-    let k = subst (λ (n : ℕ). Going (a .f) (a .s .now) (a .m) (a .y .now) (a .out .now) (a .p) n (l .y) (l .e) (l .h) (l .out) (l .q)) e (l .inv .2) in
+    let k = subst (λ (n : ℕ). Going (a .f) (a .s .now) (a .m) (a .y .now) (a .out .now) (tones (a .periods .now) (a .notes .now) (a .rates .now)) (a .p) n (l .y) (l .e) (l .h) (l .out) (tones (l .periods) (l .notes) (l .rates)) (l .q)) e (l .inv .2) in
     (k .ready, k .ran, k .ended)
 
 pub run-spec : {M : Type 1} → statement M

@@ -11,7 +11,7 @@ use Rattle.rules.specs.Rules.{Sound}
 use Rattle.rules.specs.Position.{tone-paced}
 use Rattle.ages.specs.Ages.{ago, ago-older}
 use Rattle.pitch.specs.Pitches.{PitchRight}
-use Rattle.steps.specs.Running.{did, ready-next, eighth-of, longer}
+use Rattle.steps.specs.Running.{tones, did, ready-next, eighth-of, longer}
 use borrow.Author.Needs.{needs}
 use Rattle.steps.proofs.step.Statement.{statement}
 use Rattle.steps.proofs.step.Tie as tie
@@ -49,6 +49,24 @@ mul-o c = search needs
 element-set-from-o : tie.Need-element-set-from-o
 element-set-from-o c = search needs
 
+mul-periods : tie.Need-mul-periods
+mul-periods c = search needs
+
+element-write-periods : tie.Need-element-write-periods
+element-write-periods c = search needs
+
+mul-notes : tie.Need-mul-notes
+mul-notes c = search needs
+
+element-write-notes : tie.Need-element-write-notes
+element-write-notes c = search needs
+
+mul-rates : tie.Need-mul-rates
+mul-rates c = search needs
+
+element-write-rates : tie.Need-element-write-rates
+element-write-rates c = search needs
+
 add-repeated : tie.Need-add-repeated
 add-repeated c =
     let s = c .before .before .before .before .before .before .before .before .before .before .before .before .before in
@@ -68,7 +86,7 @@ returns c =
     let a = s .args in
     let heard = l .listen .ensures in (
       ready-next (a .f) (a .s .now) (a .m) (a .y .now) (a .p) (l .listen .result) (d .grow .result) (s .pre .2) (h .hear .ensures) heard (d .grow .ensures) (s .pre .4 .placed),
-      did (a .f) (a .s .now) (a .m) (a .y .now) (a .p) (l .listen .result) (d .grow .result) (s .pre .2) (h .hear .ensures) heard (d .grow .ensures) (a .out .now) (a .i) (λ n. toZ-ofZ {w = w16} (sfits-of (c .before .before .before .before .read .ok)) ∙ c .before .before .before .before .read .ensures n),
+      did (a .f) (a .s .now) (a .m) (a .y .now) (a .p) (l .listen .result) (d .grow .result) (s .pre .2) (h .hear .ensures) heard (d .grow .ensures) (a .out .now) (tones (a .periods .now) (a .notes .now) (a .rates .now)) (a .i) (λ n. toZ-ofZ {w = w16} (sfits-of (c .before .before .before .before .read .ok)) ∙ c .before .before .before .before .read .ensures n),
     )
 
 pub step-spec : {M : Type 1} → statement M
@@ -83,6 +101,12 @@ step-spec =
     read-requires
     mul-o
     element-set-from-o
+    mul-periods
+    element-write-periods
+    mul-notes
+    element-write-notes
+    mul-rates
+    element-write-rates
     add-repeated
     add-dropped
     returns)

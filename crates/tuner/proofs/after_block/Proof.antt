@@ -19,7 +19,7 @@ arrays : (c : tie.Start) → Stores (c .args .t .heard)
 arrays c = stores (c .args .t) _ (c .good .0)
 
 abbrev opening : tie.After-run → tie.After-opened
-opening r = r .before .before .before .before .before .before .before .before
+opening r = r .before .before .before .before .before .before .before .before .before .before .before
 
 joined-requires : tie.Need-joined-requires
 joined-requires c κs = search needs
@@ -27,18 +27,18 @@ joined-requires c κs = search needs
 opened-requires : tie.Need-opened-requires
 opened-requires c κs = search needs
 
-cast-t21 : tie.Need-cast-t21
-cast-t21 c = let g = start (c .before) .pre .0 in omega (arith, g .heard .count)
+cast-t24 : tie.Need-cast-t24
+cast-t24 c = let g = start (c .before) .pre .0 in omega (arith, g .heard .count)
 
-cast-t22 : tie.Need-cast-t22
-cast-t22 c = let g = start (c .before .before) .pre .0 in omega (arith, g .head .behind)
+cast-t25 : tie.Need-cast-t25
+cast-t25 c = let g = start (c .before .before) .pre .0 in omega (arith, g .head .behind)
 
 slice-aggregate-run : tie.Need-slice-aggregate-run
 slice-aggregate-run c = search needs
 
 run-requires : tie.Need-run-requires
 run-requires c κs =
-    let o = c .before .before .before .before .before .before .before in
+    let o = c .before .before .before .before .before .before .before .before .before .before in
     let s = start o in
     let p = s .pre in
     let t = s .args .t in (
@@ -49,6 +49,7 @@ run-requires c κs =
       begin-ready t (p .0) (arrays s) (o .before .joined .ensures) (o .opened .ensures),
       record { places = refl; count = p .3; repeated = refl; dropped = refl },
       refl,
+      record { periods = refl; notes = refl; rates = refl },
     )
 
 few8 : (c : tie.After-run) → c .run .result .places ≤ 288
@@ -62,7 +63,7 @@ slice-aggregate-keep : tie.Need-slice-aggregate-keep
 slice-aggregate-keep c = search needs
 
 slice-aggregate-keep-2 : tie.Need-slice-aggregate-keep-2
-slice-aggregate-keep-2 c = search needs
+slice-aggregate-keep-2 c = let o = opening (c .before .before) in sym (o .before .joined .ensures .long)
 
 keep-requires : tie.Need-keep-requires
 keep-requires c κs = let o = opening (c .before .before) in omega (arith, o .before .joined .ensures .long, start o .pre .2)
@@ -79,23 +80,23 @@ sub-keep c = let r = c .before .before .before .before .before .before .before i
 keep-requires-2 : tie.Need-keep-requires-2
 keep-requires-2 c κs = let r = c .before .before .before .before .before .before .before in omega (arith, few8 r, r .run .ensures .0 .eighths .long, r .run .ensures .0 .placed)
 
-cast-t39 : tie.Need-cast-t39
-cast-t39 c = let r = c .before .before .before .before .before .before .before .before .before .before in omega (arith, r .run .ensures .2 .count, start (opening r) .pre .3)
+cast-t45 : tie.Need-cast-t45
+cast-t45 c = let r = c .before .before .before .before .before .before .before .before .before .before in omega (arith, r .run .ensures .2 .count, start (opening r) .pre .3)
 
 settled-requires : tie.Need-settled-requires
 settled-requires c κs = search needs
 
-cast-t46 : tie.Need-cast-t46
-cast-t46 c = let r = c .before .before .before .before .before .before .before .before .before .before .before .before in omega (arith, r .run .ensures .0 .near)
+cast-t52 : tie.Need-cast-t52
+cast-t52 c = let r = c .before .before .before .before .before .before .before .before .before .before .before .before in omega (arith, r .run .ensures .0 .near)
 
-cast-t48 : tie.Need-cast-t48
-cast-t48 c = let r = c .before .before .before .before .before .before .before .before .before .before .before .before in omega (arith, start (opening r) .pre .2)
+cast-t54 : tie.Need-cast-t54
+cast-t54 c = let r = c .before .before .before .before .before .before .before .before .before .before .before .before in omega (arith, start (opening r) .pre .2)
 
-cast-t49 : tie.Need-cast-t49
-cast-t49 c = let r = c .before .before .before .before .before .before .before .before .before .before .before .before .before in omega (arith, r .run .ensures .2 .repeated, start (opening r) .pre .2)
+cast-t55 : tie.Need-cast-t55
+cast-t55 c = let r = c .before .before .before .before .before .before .before .before .before .before .before .before .before in omega (arith, r .run .ensures .2 .repeated, start (opening r) .pre .2)
 
-cast-t50 : tie.Need-cast-t50
-cast-t50 c = let r = c .before .before .before .before .before .before .before .before .before .before .before .before .before .before in omega (arith, r .run .ensures .2 .dropped, start (opening r) .pre .2)
+cast-t56 : tie.Need-cast-t56
+cast-t56 c = let r = c .before .before .before .before .before .before .before .before .before .before .before .before .before .before in omega (arith, r .run .ensures .2 .dropped, start (opening r) .pre .2)
 
 returns : tie.Need-returns
 returns c =
@@ -115,8 +116,8 @@ after-block-spec =
     (tie.spec
     joined-requires
     opened-requires
-    cast-t21
-    cast-t22
+    cast-t24
+    cast-t25
     slice-aggregate-run
     run-requires
     slice-aggregate-keep
@@ -126,10 +127,10 @@ after-block-spec =
     slice-aggregate-keep-4
     sub-keep
     keep-requires-2
-    cast-t39
+    cast-t45
     settled-requires
-    cast-t46
-    cast-t48
-    cast-t49
-    cast-t50
+    cast-t52
+    cast-t54
+    cast-t55
+    cast-t56
     returns)
