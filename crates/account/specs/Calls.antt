@@ -17,15 +17,14 @@ use Rattle.whole.specs.Sums.{sum-within, total-zero}
 use Rattle.rules.specs.declared.Settings.{Settings}
 use Rattle.rules.specs.Rules.{Sound, silence, heard, heardAll, sq, E, H, noTone, inRange, defaults, after}
 use Rattle.rules.specs.Ranges.{in-range, is-in-range, defaults-in-range}
-use Rattle.rules.specs.Facts.{InRange, ForceIn, unpitched, valueAt, Right}
+use Rattle.rules.specs.Facts.{InRange, ForceIn, unpitched, valueAt, Right, keeping}
 use Rattle.rules.specs.Hearing.{all-heard}
 use Rattle.rules.specs.Position.{behind-in-bounds, in-bounds-behind}
 use Rattle.rules.specs.Sane.{Sane, after-sane}
-use Rattle.copying.specs.Copies.{keeping}
 use Rattle.pitch.specs.declared.Pitch.{Pitch as KeptPitch}
 use Rattle.pitch.specs.Keeping.{listed-right, kept-right}
 use Rattle.answers.specs.declared.Answer.{Answer}
-use Rattle.answers.specs.Numbers.{plain}
+use Rattle.answers.specs.Numbering.{plain}
 use Rattle.meters.specs.declared.Meter.{Meter}
 use Rattle.meters.specs.Meters.{Exact}
 use Rattle.record.specs.declared.Last.{Last}

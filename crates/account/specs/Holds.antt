@@ -14,7 +14,7 @@ use Rattle.rules.specs.declared.Settings.{Settings}
 use Rattle.rules.specs.declared.InForce.{InForce}
 use Rattle.rules.specs.Rules.{Sound, silence, heardAll, Mode, searching, tracking, Pitch, noTone, Take, Given, inputAt, freshTake, inRange, defaults, after, gives, samplesOut, gathered, allRepeated, allDropped}
 use Rattle.rules.specs.Ranges.{is-in-range, defaults-in-range}
-use Rattle.rules.specs.Facts.{ForceIn}
+use Rattle.rules.specs.Facts.{ForceIn, keeping}
 use Rattle.rules.specs.History.{Piece, afterPieces, overPieces, givesPieces, samplesPieces}
 use Rattle.pitch.specs.Keeping.{kept-pitch}
 use Rattle.pitch.specs.Listening.{lags-of}
@@ -26,7 +26,6 @@ use Rattle.rules.specs.Accounts.{InRanges, account, pieces-count, pieces-sound,
 use Rattle.rules.specs.Local.{reach, reachEighths, SameNewest, Agree, after-agree}
 use Rattle.tuner.specs.declared.Tuner.{Tuner}
 use Rattle.answers.specs.declared.Answer.{Answer}
-use Rattle.copying.specs.Copies.{keeping}
 use Rattle.record.specs.Records.{soundOf, freshHeard, freshPitch, freshHead, noLast}
 use Rattle.tuner.specs.Tuners.{freshTuner, takeOf, forceOf, Good, made, heardAfter, afterBlock, Took, Started, withSettings, Changed, Reset}
 use Rattle.tuner.specs.Taking.{kept-age, right-alike, made-append, after-eighths}

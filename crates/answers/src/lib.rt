@@ -3,7 +3,7 @@ ghost use mathlib.Core.Path.{_≡_};
 ghost use Prim.Native.Nat.{_+_, _-_, _≤_};
 ghost use lib.ListN.{length, drop};
 ghost use Rattle.whole.specs.Tests.{Decides};
-ghost use Rattle.answers.specs.Numbers.{HasNumber, following, Numbered, plain};
+ghost use Rattle.answers.specs.Numbering.{HasNumber, following, Numbered, plain};
 
 // Document 01's number, and the samples written, cycles repeated and cycles dropped.
 #[repr(C)]

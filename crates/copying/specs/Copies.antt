@@ -10,16 +10,12 @@ use lib.Seq.{take-nil, length-take-le, take-take, take-at, drop-at}
 use mir.Syntax.{w16}
 use mir.Val.{SFits}
 use Rattle.rules.specs.Rules.{silence, heardAll}
-use Rattle.rules.specs.Facts.{valueAt}
+use Rattle.rules.specs.Facts.{valueAt, keeping}
 use Rattle.ages.specs.Ages.{ago, Samples}
 
 -- the samples xs laid into a store from a place on
 abbrev pub laid : List ℤ → ℕ → List ℤ → List ℤ
 laid s from xs = take from s ++ xs ++ drop (from + length xs) s
-
--- the newest of what was kept and what came
-abbrev pub keeping : List ℤ → List ℤ → List ℤ
-keeping kept new = drop (length new) (kept ++ new)
 
 -- ---- the kept samples and what comes after them, in one store of n places
 pub record Joined (kept new : List ℤ) (n : ℕ) (r : List ℤ) : Type 0 where

@@ -1,9 +1,9 @@
 -- What is asked of numbers that are kept: settings and pitch in their ranges, a position in bounds, sums that are the direct ones. Definitions only.
 use mathlib.Core.Path.{_≡_}
-use mathlib.Core.List.{List}
+use mathlib.Core.List.{List, _++_}
 use Prim.Native.Nat.{ℕ, _+_, _*_, _≤_, _<_}
 use lib.IntN.{ℤ, pos, _-ℤ_}
-use lib.ListN.{length, getD}
+use lib.ListN.{length, getD, drop}
 use lib.Signed.{_≤ℤ_}
 use Rattle.whole.specs.Numbers.{listOf}
 use Rattle.rules.specs.declared.Settings.{Settings}
@@ -73,3 +73,7 @@ energiesOf x low n = listOf (λ (j : ℕ). E x (low + j)) n
 
 abbrev pub correlationsOf : Sound → ℕ → ℕ → List ℤ
 correlationsOf x low n = listOf (λ (j : ℕ). H x (low + j)) n
+
+-- the newest of what was kept and what came
+abbrev pub keeping : List ℤ → List ℤ → List ℤ
+keeping kept new = drop (length new) (kept ++ new)

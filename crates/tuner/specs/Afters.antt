@@ -10,10 +10,10 @@ use lib.Seq.{length-take-le}
 use Rattle.rules.specs.Rules.{Sound, silence, heardAll, Take, Given, inputAt, after, gives, samplesOut, allRepeated, allDropped}
 use Rattle.rules.specs.Hearing.{heardAll-append}
 use Rattle.rules.specs.Position.{Behind, behind-one}
-use Rattle.rules.specs.Facts.{Right}
+use Rattle.rules.specs.Facts.{Right, keeping}
 use Rattle.ages.specs.Ages.{ago}
 use Rattle.passing.specs.Distances.{Long}
-use Rattle.copying.specs.Copies.{keeping, Joined, joined-old, joined-new, joined-sound, joined-keeping, take-drop}
+use Rattle.copying.specs.Copies.{Joined, joined-old, joined-new, joined-sound, joined-keeping, take-drop}
 use Rattle.pitch.specs.declared.Pitch.{Pitch as KeptPitch}
 use Rattle.pitch.specs.Pitches.{pitchOf, PitchRight, keptOf}
 use Rattle.pitch.specs.Listening.{lags-of}

@@ -6,7 +6,7 @@ use Rattle.rules.specs.Rules.{inRange, defaults}
 use Rattle.rules.specs.Ranges.{defaults-in-range}
 use Rattle.tuner.specs.declared.Tuner.{Tuner}
 use Rattle.answers.specs.declared.Answer.{Answer}
-use Rattle.answers.specs.Numbers.{plain}
+use Rattle.answers.specs.Numbering.{plain}
 use Rattle.meters.specs.declared.Meter.{Meter}
 use Rattle.tuner.specs.Tuners.{freshTuner, Started, Metered, record-out-of-range, read}
 

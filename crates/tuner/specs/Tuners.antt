@@ -9,11 +9,10 @@ use lib.ListN.{length, take, drop, replicate}
 use Rattle.rules.specs.declared.Settings.{Settings}
 use Rattle.rules.specs.declared.InForce.{InForce}
 use Rattle.rules.specs.Rules.{Sound, heard, eighthDue, eighthSample, Take, Given, inputAt, inRange, defaults, after, gives, samplesOut, allRepeated, allDropped}
-use Rattle.rules.specs.Facts.{energiesOf, correlationsOf}
+use Rattle.rules.specs.Facts.{energiesOf, correlationsOf, keeping}
 use Rattle.pitch.specs.Pitches.{pitchOf, keptOf}
-use Rattle.copying.specs.Copies.{keeping}
 use Rattle.answers.specs.declared.Answer.{Answer}
-use Rattle.answers.specs.Numbers.{plain}
+use Rattle.answers.specs.Numbering.{plain}
 use Rattle.meters.specs.declared.Meter.{Meter}
 use Rattle.meters.specs.Meters.{shownOf, Exact}
 use Rattle.record.specs.declared.Heard.{Heard}

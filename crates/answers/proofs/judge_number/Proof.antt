@@ -2,7 +2,7 @@
 -- Assumes nothing.
 use mathlib.Core.Path.{sym, _∙_}
 use borrow.Author.Needs.{needs}
-use Rattle.answers.specs.Numbers.{neither, other, again, full, new}
+use Rattle.answers.specs.Numbering.{neither, other, again, full, new}
 use Rattle.answers.proofs.judge_number.Statement.{statement}
 use Rattle.answers.proofs.judge_number.Tie as tie
 
