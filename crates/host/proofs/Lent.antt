@@ -41,8 +41,8 @@ use denote.Triple.Walked.{Stays, AllGo, Walks, stay-ref, stay-none, fitsOf, hasO
 use Rattle.rules.specs.declared.Settings.{Settings}
 use Rattle.rules.proofs.Settings as S
 use Rattle.rules.proofs.Settings.Laws as S′
-use Rattle.tuner.proofs.Answer as E
-use Rattle.tuner.proofs.Answer.Laws as E′
+use Rattle.answers.proofs.Answer as E
+use Rattle.answers.proofs.Answer.Laws as E′
 use Rattle.host.specs.declared.Record.{Record}
 use Rattle.host.specs.declared.Done.{Done}
 use Rattle.host.proofs.Record as T

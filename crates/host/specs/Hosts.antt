@@ -1,83 +1,35 @@
--- What crosses to a host: a record of numbers, and what each call over it promises, by the tuner's own promises. Definitions only.
+-- What crosses to a host: a tuner with the number of its layout, and what each call over it promises, by the tuner's own promises. Definitions only.
 use mathlib.Core.Path.{_≡_}
-use mathlib.Core.Bool.{cond}
 use mathlib.Core.List.{List}
-use Prim.Native.Nat.{ℕ, _-_, _*_, _≤_, _<_, min}
-use lib.Dec.{eqb}
+use Prim.Native.Nat.{ℕ}
 use lib.IntN.{ℤ}
-use lib.ListN.{length, take, drop}
 use lib.Ieee.{Float, binary32, ofBits}
 use Rattle.rules.specs.declared.Settings.{Settings}
+use Rattle.answers.specs.declared.Answer.{Answer}
+use Rattle.answers.specs.Numbers.{plain}
+use Rattle.meters.specs.declared.Meter.{Meter}
+use Rattle.meters.specs.declared.Meter.the-variants.{Searching, Locking, Pitched, Refused}
 use Rattle.tuner.specs.declared.Tuner.{Tuner}
-use Rattle.tuner.specs.declared.Answer.{Answer}
-use Rattle.tuner.specs.declared.Meter.{Meter}
-use Rattle.tuner.specs.declared.Meter.the-variants.{Searching, Locking, Pitched, Refused}
-use Rattle.tuner.specs.Tuners.{plain, Took, Started, Changed, Reset}
-use Rattle.tuner.specs.Meters.{Metered}
+use Rattle.tuner.specs.Tuners.{Took, Started, Changed, Reset, Metered}
 use Rattle.host.specs.declared.Record.{Record}
 use Rattle.host.specs.declared.Shown.{Shown}
-use Rattle.host.specs.declared.Stretch.{Stretch}
 
--- ---- a tuner as numbers
+-- ---- the record
 
--- the tuner that a record holds, where `tracking` is 0 or 1
-unfoldable pub tunerOf : Record → Tuner
-tunerOf r =
-    record {
-      settings = r .settings;
-      count = r .count;
-      store = r .store;
-      eighths = r .eighths;
-      energies = r .energies;
-      correlations = r .correlations;
-      voice =
-          record {
-            tracking = eqb (r .tracking) 1;
-            period = r .period;
-            note = r .note;
-            rate = r .rate;
-            tracker = record { low = r .low; last = r .last; e = r .e; h = r .h };
-          };
-      behind = r .behind;
-      number = r .number;
-      length = r .length;
-      repeated = r .repeated;
-      dropped = r .dropped;
-      out = r .out;
-    }
+-- the number of this layout: no other layout has it
+abbrev pub layoutNumber : ℕ
+layoutNumber = 20003
 
 -- the record of a tuner
-unfoldable pub recordOf : Tuner → Record
-recordOf t =
-    record {
-      settings = t .settings;
-      count = t .count;
-      behind = t .behind;
-      tracking = cond (t .voice .tracking) 1 0;
-      period = t .voice .period;
-      note = t .voice .note;
-      rate = t .voice .rate;
-      low = t .voice .tracker .low;
-      last = t .voice .tracker .last;
-      number = t .number;
-      length = t .length;
-      repeated = t .repeated;
-      dropped = t .dropped;
-      e = t .voice .tracker .e;
-      h = t .voice .tracker .h;
-      energies = t .energies;
-      correlations = t .correlations;
-      store = t .store;
-      eighths = t .eighths;
-      out = t .out;
-    }
+abbrev pub recordOf : Tuner → Record
+recordOf t = record { layout = layoutNumber; tuner = t }
 
 -- ---- what a call promises
 
--- a call of the tuner, over a record lent: `Call t t′ a` promises what it does to the tuner held; a record that holds none is answered 9, and it and the output are left
+-- a call of the tuner, over a record lent: `Call t t′ a` promises what it does to the tuner held; a record of another layout is answered 9, and it and the output are left
 pub data Lent (Call : Tuner → Tuner → Answer → Type 0) (untouched : Type 0) (r r′ : Record) (a : Answer) : Type 0 where
-  held : r .tracking ≤ 1 → {t′ : Tuner} → Call (tunerOf r) t′ a → r′ ≡ recordOf t′ → Lent Call untouched r r′ a
-  unheld : 1 < r .tracking → a ≡ plain 9 → r′ ≡ r → untouched → Lent Call untouched r r′ a
+  held : r .layout ≡ layoutNumber → {t′ : Tuner} → Call (r .tuner) t′ a → r′ ≡ recordOf t′ → Lent Call untouched r r′ a
+  unheld : (r .layout ≡ layoutNumber → ⊥) → a ≡ plain 9 → r′ ≡ r → untouched → Lent Call untouched r r′ a
 
 -- a block
 abbrev pub HostTook : Record → ℕ → List ℤ → List ℤ → Record → Answer → List ℤ → Type 0
@@ -116,5 +68,5 @@ shownAs Refused = bare 9
 
 -- a read of the meter
 pub data HostMetered (r : Record) (m : Shown) : Type 0 where
-  held : r .tracking ≤ 1 → {x : Meter} → Metered (tunerOf r) x → m ≡ shownAs x → HostMetered r m
-  unheld : 1 < r .tracking → m ≡ shownAs Refused → HostMetered r m
+  held : r .layout ≡ layoutNumber → {x : Meter} → Metered (r .tuner) x → m ≡ shownAs x → HostMetered r m
+  unheld : (r .layout ≡ layoutNumber → ⊥) → m ≡ shownAs Refused → HostMetered r m

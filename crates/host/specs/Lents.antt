@@ -1,115 +1,58 @@
--- Laws of the host's promises: nothing is lost between a record and its tuner, a refusal changes nothing, and no second answer meets a promise.
+-- Laws of the host's promises: a call over a tuner's record is the tuner's call, a refusal changes nothing, and no second answer meets a promise.
 use mathlib.Core.Path.{_≡_, refl, sym, ap, _∙_, subst}
-use mathlib.Core.Bool.{Bool, true, false, cond}
+use mathlib.Core.Bool.{cond}
 use mathlib.Core.List.{List}
-use mathlib.Core.Logic.{_⊎_, inl, inr, ⊎-elim}
-use Prim.Native.Nat.{ℕ, zero, suc, _-_, _*_, _≤_, _<_, min}
-use native.Mathlib.Nat.{min-eq-left, min-eq-right}
-use native.Mathlib.Omega.{arith}
-use borrow.Author.Tests.{leb-true, leb-false, ne-eqb}
-use lib.Dec.{eqb, leb}
+use Prim.Native.Nat.{ℕ, zero, suc, _<_}
+use borrow.Author.Tests.{ne-eqb}
+use lib.Dec.{eqb}
 use lib.IntN.{ℤ}
-use lib.ListN.{length, take, drop, length-drop, drop-of-length-le}
-use lib.Seq.{take-all}
-use Rattle.whole.specs.Tests.{by, cond-no}
+use Rattle.whole.specs.Tests.{cond-no}
 use Rattle.rules.specs.Rules.{defaults}
 use Rattle.rules.specs.declared.Settings.{Settings}
+use Rattle.answers.specs.declared.Answer.{Answer}
+use Rattle.answers.specs.Numbers.{plain}
 use Rattle.tuner.specs.declared.Tuner.{Tuner}
-use Rattle.tuner.specs.declared.Answer.{Answer}
-use Rattle.tuner.specs.Tuners.{freshTuner, plain, answerBy, Took, Started}
-use Rattle.tuner.specs.Metering.{one-meter, one-start, default-start-taken}
+use Rattle.tuner.specs.Tuners.{freshTuner, answerBy, Took, Started}
+use Rattle.tuner.specs.Starts.{one-meter, one-start, default-start-taken}
 use Rattle.tuner.specs.Verdicts.{tuner-kept, by-refused, took-one, changed-one, reset-one}
 use Rattle.host.specs.declared.Record.{Record}
 use Rattle.host.specs.declared.Shown.{Shown}
-use Rattle.host.specs.declared.Stretch.{Stretch}
-use Rattle.host.specs.Hosts.{tunerOf, recordOf, Lent, held, unheld, HostTook, HostChanged, HostReset, HostStarted, shownAs, HostMetered, HostCut}
+use Rattle.host.specs.Hosts.{layoutNumber, recordOf, Lent, held, unheld, HostTook, HostChanged, HostReset, HostStarted, shownAs, HostMetered}
 
 -- ---- a promise of the tuner's call, met over the record
-
-pub over-one : (n : ℕ) → (n ≤ 1 → ⊥) → 1 < n
-over-one zero not = absurd (not (omega arith))
-over-one (suc zero) not = absurd (not (omega arith))
-over-one (suc (suc n)) not = omega arith
 
 -- an answer that is a number alone
 pub number-alone : {a a′ : Answer} {v : ℕ} → a ≡ plain v → a′ ≡ a → a ≡ plain (a′ .number)
 number-alone e f = e ∙ ap (λ (x : Answer). plain (x .number)) (sym e ∙ sym f)
 
 module _ {Call : Tuner → Tuner → Answer → Type 0} {untouched : Type 0} {r r′ : Record} where
-  pub held-by : {t : Tuner} (t′ : Tuner) {a a′ : Answer} → r .tracking ≤ 1 → t ≡ tunerOf r → Call t t′ a → r′ ≡ recordOf t′ → a ≡ a′ → Lent Call untouched r r′ a′
-  held-by {t} t′ {a′ = a′} h e p l f = held h (subst (λ (u : Tuner). Call u t′ a′) e (subst (Call t t′) f p)) l
+  pub held-by : (t′ : Tuner) {a a′ : Answer} → r .layout ≡ layoutNumber → Call (r .tuner) t′ a → r′ ≡ recordOf t′ → a ≡ a′ → Lent Call untouched r r′ a′
+  held-by t′ h p l f = held h (subst (Call (r .tuner) t′) f p) l
 
-  pub unheld-by : {a : Answer} → 1 < r .tracking → a ≡ plain 9 → r′ ≡ r → untouched → Lent Call untouched r r′ (plain (a .number))
+  pub unheld-by : {a : Answer} → (r .layout ≡ layoutNumber → ⊥) → a ≡ plain 9 → r′ ≡ r → untouched → Lent Call untouched r r′ (plain (a .number))
   unheld-by h e l u = unheld h (ap (λ (x : Answer). plain (x .number)) e) l u
 
 -- a start's
 pub started-by : {s : Settings} {t : Tuner} {a a′ : Answer} {r′ : Record} → Started s t a → r′ ≡ recordOf t → a′ ≡ a → HostStarted s r′ (a′ .number)
 started-by {s} {t} p l f = record { tuner = t; started = subst (Started s t) (number-alone (p .answer) f) p; left = l }
 
--- ---- nothing is lost
+-- a record of this layout is its tuner's
+record-same : (r : Record) → r .layout ≡ layoutNumber → recordOf (r .tuner) ≡ r
+record-same r h = λ i. record { layout = sym h i; tuner = r .tuner }
 
--- 0 and 1, as a truth and back
-zero-or-one : (n : ℕ) → n ≤ 1 → cond (eqb n 1) 1 0 ≡ n
-zero-or-one zero h = refl
-zero-or-one (suc zero) h = refl
-zero-or-one (suc (suc n)) h = absurd (omega arith)
-
-as-number : (b : Bool) → eqb (cond b 1 0) 1 ≡ b
-as-number true = refl
-as-number false = refl
-
--- a record that holds a tuner is that tuner's
-pub record-same : (r : Record) → r .tracking ≤ 1 → recordOf (tunerOf r) ≡ r
-unfolding recordOf tunerOf
-record-same r h =
-    λ i. record {
-      settings = r .settings;
-      count = r .count;
-      behind = r .behind;
-      tracking = zero-or-one (r .tracking) h i;
-      period = r .period;
-      note = r .note;
-      rate = r .rate;
-      low = r .low;
-      last = r .last;
-      number = r .number;
-      length = r .length;
-      repeated = r .repeated;
-      dropped = r .dropped;
-      e = r .e;
-      h = r .h;
-      energies = r .energies;
-      correlations = r .correlations;
-      store = r .store;
-      eighths = r .eighths;
-      out = r .out;
-    }
-
--- a tuner is held by its record, and is the one that it holds
-pub tuner-held : (t : Tuner) → recordOf t .tracking ≤ 1
-unfolding recordOf
-tuner-held t = truth (t .voice .tracking) where
-  truth : (b : Bool) → cond b 1 0 ≤ 1
-  truth true = omega arith
-  truth false = omega arith
-
-pub tuner-same : (t : Tuner) → tunerOf (recordOf t) ≡ t
-unfolding recordOf tunerOf
-tuner-same t = rw (as-number (t .voice .tracking))
-
--- so a call over a tuner's record is the tuner's call
+-- a call over a tuner's record is the tuner's call
 pub tuner's-call : {Call : Tuner → Tuner → Answer → Type 0} {untouched : Type 0} (t : Tuner) {r′ : Record} {a : Answer} → Lent Call untouched (recordOf t) r′ a → (t′ : Tuner) × Call t t′ a × (r′ ≡ recordOf t′)
-tuner's-call {Call} t {a = a} (held h {t′} p e) = (t′, subst (λ (u : Tuner). Call u t′ a) (tuner-same t) p, e)
-tuner's-call t (unheld h e l u) = let k = tuner-held t in absurd (omega arith)
+tuner's-call t (held h {t′} p e) = (t′, p, e)
+tuner's-call t (unheld h e l u) = absurd (h refl)
 
 -- ---- no second answer
 
 module _ {Call Call′ : Tuner → Tuner → Answer → Type 0} {untouched untouched′ Same : Type 0} {r r₁ r₂ : Record} {a₁ a₂ : Answer} where
-  lent-one : ((t₁ t₂ : Tuner) → Call (tunerOf r) t₁ a₁ → Call′ (tunerOf r) t₂ a₂ → (t₁ ≡ t₂) × (a₁ ≡ a₂) × Same) → (untouched → untouched′ → Same)
+  lent-one : ((t₁ t₂ : Tuner) → Call (r .tuner) t₁ a₁ → Call′ (r .tuner) t₂ a₂ → (t₁ ≡ t₂) × (a₁ ≡ a₂) × Same) → (untouched → untouched′ → Same)
       → Lent Call untouched r r₁ a₁ → Lent Call′ untouched′ r r₂ a₂ → (r₁ ≡ r₂) × (a₁ ≡ a₂) × Same
   lent-one f g (held h {t′ = t₁} p e) (held h′ {t′ = t₂} p′ e′) = let (t, a, s) = f t₁ t₂ p p′ in (e ∙ ap recordOf t ∙ sym e′, a, s)
-  lent-one f g (held h p e) (unheld h′ a′ e′ u′) = absurd (omega arith)
-  lent-one f g (unheld h a e u) (held h′ p′ e′) = absurd (omega arith)
+  lent-one f g (held h p e) (unheld h′ a′ e′ u′) = absurd (h′ h)
+  lent-one f g (unheld h a e u) (held h′ p′ e′) = absurd (h h′)
   lent-one f g (unheld h a e u) (unheld h′ a′ e′ u′) = (e ∙ sym e′, a ∙ sym a′, g u u′)
 
 -- answers that are numbers alone
@@ -135,14 +78,14 @@ host-default-start-taken {n = n} p = let (t, a) = default-start-taken (p .starte
 
 pub host-metered-one : {r : Record} {m m′ : Shown} → HostMetered r m → HostMetered r m′ → m ≡ m′
 host-metered-one (held h p e) (held h′ p′ e′) = e ∙ ap shownAs (one-meter p p′) ∙ sym e′
-host-metered-one (held h p e) (unheld h′ e′) = absurd (omega arith)
-host-metered-one (unheld h e) (held h′ p′ e′) = absurd (omega arith)
+host-metered-one (held h p e) (unheld h′ e′) = absurd (h′ h)
+host-metered-one (unheld h e) (held h′ p′ e′) = absurd (h h′)
 host-metered-one (unheld h e) (unheld h′ e′) = e ∙ sym e′
 
 -- ---- a refusal changes nothing
 
 -- what leaves the tuner leaves the record
-left-alone : {Call : Tuner → Tuner → Answer → Type 0} {untouched : Type 0} {r r′ : Record} {a : Answer} → ((t′ : Tuner) → Call (tunerOf r) t′ a → t′ ≡ tunerOf r) → Lent Call untouched r r′ a → r′ ≡ r
+left-alone : {Call : Tuner → Tuner → Answer → Type 0} {untouched : Type 0} {r r′ : Record} {a : Answer} → ((t′ : Tuner) → Call (r .tuner) t′ a → t′ ≡ r .tuner) → Lent Call untouched r r′ a → r′ ≡ r
 left-alone {r = r} f (held h {t′} p e) = e ∙ ap recordOf (f t′ p) ∙ record-same r h
 left-alone f (unheld h a e u) = e
 

@@ -1,8 +1,8 @@
--- `host::begun_again` meets its contract: a record that holds no tuner is left, and else the tuner held is reset.
+-- `host::begun_again` meets its contract: a record of another layout is left, and else the tuner held is reset.
 -- Assumes nothing.
 use borrow.Author.Needs.{needs}
 use Rattle.whole.specs.Tests.{passed, failed}
-use Rattle.host.specs.Lents.{over-one, held-by, unheld-by, number-alone}
+use Rattle.host.specs.Lents.{held-by, unheld-by, number-alone}
 use Rattle.host.proofs.begun_again.Statement.{statement}
 use Rattle.host.proofs.begun_again.Tie as tie
 
@@ -13,10 +13,7 @@ unheld-requires : tie.Need-unheld-requires
 unheld-requires c κs = search needs
 
 returns : tie.Need-returns
-returns c = unheld-by (over-one _ (failed (c .before .before .holds .ensures) (c .before .if1 .taken))) (c .unheld .ensures .1) (c .unheld .ensures .0) tt
-
-tuner-of-requires : tie.Need-tuner-of-requires
-tuner-of-requires c κs = search needs
+returns c = unheld-by (failed (c .before .before .holds .ensures) (c .before .if1 .taken)) (c .unheld .ensures .1) (c .unheld .ensures .0) tt
 
 reset-requires : tie.Need-reset-requires
 reset-requires c κs = search needs
@@ -28,7 +25,7 @@ returns-2 : tie.Need-returns-2
 returns-2 c =
     let f = c .finished .ensures in
     let p = c .before .reset .ensures in
-    held-by _ (passed (c .before .before .before .before .holds .ensures) (c .before .before .before .if1 .left)) (c .before .before .tuner-of .ensures) p (f .0) (number-alone (p .answer) (f .1))
+    held-by _ (passed (c .before .before .before .holds .ensures) (c .before .before .if1 .left)) p (f .0) (number-alone (p .answer) (f .1))
 
 pub begun-again-spec : {M : Type 1} → statement M
 begun-again-spec =
@@ -37,7 +34,6 @@ begun-again-spec =
     holds-requires
     unheld-requires
     returns
-    tuner-of-requires
     reset-requires
     finished-requires
     returns-2)

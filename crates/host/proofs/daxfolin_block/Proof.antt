@@ -38,8 +38,8 @@ use denote.Triple.Call.{calls-at}
 use denote.Triple.Clauses.{ensured, lasts, Lasts}
 use denote.Triple.Walked.{says, Stays, stay-ref, stay-none, stay-none-slice, gave-slice, walkOf, goes-ref, goes-none, goes-none-slice, goes-gave-slice, ends-at, walked}
 use denote.Exit.{yes}
-use Rattle.tuner.proofs.Answer as E
-use Rattle.tuner.proofs.Answer.Laws as E′
+use Rattle.answers.proofs.Answer as E
+use Rattle.answers.proofs.Answer.Laws as E′
 use Rattle.host.specs.Hosts.{HostTook}
 use Rattle.host.specs.declared.Record.{Record}
 use Rattle.host.specs.declared.Done.{Done}
