@@ -127,23 +127,24 @@ fn stretch(b: &[u8; 1050]) {
 // The record with its position too far behind, and mended again.
 fn spoilt(t: Tuner) -> Tuner {
     let mut u = t;
-    u.behind = 65536001;
+    u.head.behind = 65536001;
     u
 }
 
 // The record with its count near the take's limit, its phases kept.
 fn aged(t: Tuner) -> Tuner {
     let mut u = t;
-    let n = u.count;
+    let n = u.heard.count;
     if n < 999999990 {
-        u.count = n + 40 * ((999999990 - n) / 40);
+        let near = n + 40 * ((999999990 - n) / 40);
+        u.heard.count = near;
     }
     u
 }
 
 fn mended(t: Tuner) -> Tuner {
     let mut u = t;
-    u.behind = 0;
+    u.head.behind = 0;
     u
 }
 
