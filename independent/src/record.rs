@@ -1,8 +1,8 @@
 //! The record that hosts lend, as bytes, and what every call does to it.
 //!
-//! A record holds a tuner if it is good by document 01; then this program's own
-//! tuner is made of it, makes the call, and is turned into a record again.
-//! Every sum is reckoned directly.
+//! A record holds a tuner if it is of this layout and good by document 01; then
+//! this program's own tuner is made of it, makes the call, and is turned into a
+//! record again. Every sum is reckoned directly.
 
 use crate::history::History;
 use crate::rules::*;
@@ -15,29 +15,37 @@ pub const STORED: usize = 1_764;
 pub const EIGHTHS: usize = 224;
 pub const LAGS: usize = 109;
 /// The bytes of a record.
-pub const SIZE: usize = 6_928;
+pub const SIZE: usize = 6_944;
+/// The number that stands first in a record of this layout.
+pub const LAYOUT: u64 = 20_003;
 
+/// Every number of a record, in the order of its bytes.
 #[derive(Clone, Debug, PartialEq, Eq)]
 pub struct Record {
+    pub layout: u64,
     pub settings: Settings,
-    pub count: u32,
-    pub behind: u32,
-    pub tracking: u32,
-    pub period: u32,
-    pub note: u32,
-    pub rate: u32,
-    pub low: u32,
-    pub last: u32,
-    pub number: u16,
-    pub length: u16,
-    pub repeated: u16,
-    pub dropped: u16,
-    pub e: [u64; TRACKED],
-    pub h: [i64; TRACKED],
+    // What was heard.
+    pub count: u64,
     pub energies: [u64; LAGS],
     pub correlations: [i64; LAGS],
     pub store: [i16; STORED],
     pub eighths: [i16; EIGHTHS],
+    // The pitch: the eight lags, the tone, and which of the two modes.
+    pub low: u32,
+    pub last: u32,
+    pub e: [u64; TRACKED],
+    pub h: [i64; TRACKED],
+    pub period: u32,
+    pub note: u32,
+    pub rate: u32,
+    pub tracking: u32,
+    // The read head.
+    pub behind: u64,
+    // The last block.
+    pub number: u16,
+    pub length: u16,
+    pub repeated: u16,
+    pub dropped: u16,
     pub out: [i16; LONGEST_BLOCK],
 }
 
@@ -82,28 +90,29 @@ impl Left {
 
 macro_rules! in_order {
     ($record:ident, $number:ident) => {
+        $number!($record.layout);
         $number!($record.settings.scale);
         $number!($record.settings.eps);
         $number!($record.settings.decay);
         $number!($record.settings.floor);
         $number!($record.count);
-        $number!($record.behind);
-        $number!($record.tracking);
-        $number!($record.period);
-        $number!($record.note);
-        $number!($record.rate);
-        $number!($record.low);
-        $number!($record.last);
-        $number!($record.number);
-        $number!($record.length);
-        $number!($record.repeated);
-        $number!($record.dropped);
-        $number!(each $record.e);
-        $number!(each $record.h);
         $number!(each $record.energies);
         $number!(each $record.correlations);
         $number!(each $record.store);
         $number!(each $record.eighths);
+        $number!($record.low);
+        $number!($record.last);
+        $number!(each $record.e);
+        $number!(each $record.h);
+        $number!($record.period);
+        $number!($record.note);
+        $number!($record.rate);
+        $number!($record.tracking);
+        $number!($record.behind);
+        $number!($record.number);
+        $number!($record.length);
+        $number!($record.repeated);
+        $number!($record.dropped);
         $number!(each $record.out);
     };
 }
@@ -147,35 +156,36 @@ impl Record {
 
     pub fn fresh(settings: Settings) -> Record {
         Record {
+            layout: LAYOUT,
             settings,
             count: 0,
-            behind: 0,
-            tracking: 0,
-            period: 0,
-            note: 0,
-            rate: LEVEL_RATE as u32,
-            low: 0,
-            last: 0,
-            number: 0,
-            length: 0,
-            repeated: 0,
-            dropped: 0,
-            e: [0; TRACKED],
-            h: [0; TRACKED],
             energies: [0; LAGS],
             correlations: [0; LAGS],
             store: [0; STORED],
             eighths: [0; EIGHTHS],
+            low: 0,
+            last: 0,
+            e: [0; TRACKED],
+            h: [0; TRACKED],
+            period: 0,
+            note: 0,
+            rate: LEVEL_RATE as u32,
+            tracking: 0,
+            behind: 0,
+            number: 0,
+            length: 0,
+            repeated: 0,
+            dropped: 0,
             out: [0; LONGEST_BLOCK],
         }
     }
 
-    /// Document 01's condition, in its order.
+    /// This layout, and document 01's condition in its order.
     pub fn is_good(&self) -> bool {
         let kept = History::of(&self.store);
         let eighths = History::of(&self.eighths);
-        let before = |stored: &[i16], count: u32| {
-            let silent = stored.len().saturating_sub(count as usize);
+        let before = |stored: &[i16], count: u64| {
+            let silent = (stored.len() as u64).saturating_sub(count) as usize;
             stored[..silent].iter().all(|&sample| sample == 0)
         };
         let right = |history: &History, lowest: usize, e: &[u64], h: &[i64]| {
@@ -198,13 +208,14 @@ impl Record {
                     && (32_768..=131_072).contains(&self.rate)
             }
         };
-        self.tracking <= 1
+        self.layout == LAYOUT
+            && self.tracking <= 1
             && self.settings.in_range()
-            && self.count as usize <= TAKE_LIMIT
-            && usize::from(self.length) <= LONGEST_BLOCK.min(self.count as usize)
+            && self.count <= TAKE_LIMIT as u64
+            && u64::from(self.length) <= self.count.min(LONGEST_BLOCK as u64)
             && before(&self.store, self.count)
             && before(&self.eighths, self.count / 8)
-            && i64::from(self.behind) <= FARTHEST_BEHIND
+            && self.behind <= FARTHEST_BEHIND as u64
             && pitch_right
             && right(&eighths, 2, &self.energies, &self.correlations)
             && lags_right
@@ -263,7 +274,7 @@ impl Record {
                 }),
             },
             rate: i64::from(self.rate),
-            position: input_position(count) - i64::from(self.behind),
+            position: input_position(count) - self.behind as i64,
             last: (length > 0).then(|| LastBlock {
                 number: self.number,
                 samples: self.store[STORED - length..].to_vec(),
@@ -281,8 +292,8 @@ impl Record {
     fn after(&self, tuner: &Tuner, seen: &Statistics) -> Record {
         let mut record = Record::fresh(tuner.settings);
         let last = tuner.last.as_ref().expect("a block was taken");
-        record.count = self.count + last.samples.len() as u32;
-        record.behind = (input_position(tuner.take.count()) - tuner.position) as u32;
+        record.count = self.count + last.samples.len() as u64;
+        record.behind = (input_position(tuner.take.count()) - tuner.position) as u64;
         record.rate = tuner.rate as u32;
         // Without a period there is no wanted note; a record may hold some number there, and it stays until a lag is found or lost.
         let found = seen.finds_by_long_low + seen.finds_by_first_low + seen.finds_by_second_low;

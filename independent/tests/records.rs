@@ -1,13 +1,13 @@
-//! A take played over a record's bytes is the take played by the tuner.
+//! A take played over a record's bytes is the take played by the tuner, and a
+//! record out of range is refused by every call that reads it.
 
-use independent::record::{made, Call, Record, SIZE};
+use independent::generator::edges::{
+    bytes_of, calls_over, edges, fresh_of_version_2, BEGINNING_OF_OLD,
+};
+use independent::record::{made, Call, Record};
 use independent::settings::Settings;
 use independent::statistics::Statistics;
 use independent::tuner::{Meter, Tuner};
-
-fn bytes_of(record: &[u8]) -> [u8; SIZE] {
-    record.try_into().expect("a record's bytes")
-}
 
 #[test]
 fn a_take_over_a_record_is_the_tuner_s() {
@@ -15,7 +15,7 @@ fn a_take_over_a_record_is_the_tuner_s() {
         .map(|at| ((at % 101) * 90 + (at / 50 % 2) * 3_000 - 6_000) as i16)
         .collect();
     let mut tuner = Tuner::default_start();
-    let mut bytes = bytes_of(&Record::fresh(Settings::DEFAULT).bytes());
+    let mut bytes = bytes_of(Record::fresh(Settings::DEFAULT).bytes());
     let mut pitched = 0;
     for (number, samples) in (0..).zip(sung.chunks(173)) {
         let mut out = vec![7; samples.len() + 1];
@@ -29,7 +29,7 @@ fn a_take_over_a_record_is_the_tuner_s() {
         assert_eq!(left.number as usize, answer.number());
         assert_eq!(usize::from(left.counts[1]), counts.repeated);
         assert_eq!(left.out, out, "block {number}");
-        bytes = bytes_of(&left.record);
+        bytes = bytes_of(left.record);
         assert!(Record::of_bytes(&bytes).is_good());
         assert_eq!(Record::of_bytes(&bytes).bytes(), bytes);
         let shown = made(&bytes, &Call::Meter);
@@ -44,4 +44,37 @@ fn a_take_over_a_record_is_the_tuner_s() {
         }
     }
     assert!(pitched > 10, "the take is pitched for a while");
+}
+
+#[test]
+fn records_are_good_up_to_the_edges() {
+    for (place, (record, good)) in edges().into_iter().enumerate() {
+        assert_eq!(record.is_good(), good, "record {place}");
+        let bytes = bytes_of(record.bytes());
+        assert!(Record::of_bytes(&bytes) == record);
+        for call in calls_over(&record) {
+            let left = made(&bytes, &call);
+            let refused = left.number == 9 || left.state == 9;
+            assert_eq!(refused, !good, "record {place}, {call:?}");
+            if let (Call::Block { out, .. }, true) = (&call, refused) {
+                assert_eq!(&left.out, out);
+            }
+            assert!(good || left.record == bytes, "record {place}, {call:?}");
+        }
+    }
+}
+
+/// What versions 1 and 2 left is of another layout; a start asks nothing of it.
+#[test]
+fn records_of_older_versions_are_refused() {
+    let bytes = fresh_of_version_2();
+    assert_eq!(bytes[..8], BEGINNING_OF_OLD.to_le_bytes());
+    for call in calls_over(&Record::fresh(Settings::DEFAULT)) {
+        let left = made(&bytes, &call);
+        assert!(left.number == 9 || left.state == 9, "{call:?}");
+        assert!(left.record == bytes, "{call:?}");
+    }
+    let left = made(&bytes, &Call::StartDefault);
+    assert_eq!(left.number, 0);
+    assert_eq!(left.record, Record::fresh(Settings::DEFAULT).bytes());
 }

@@ -1,9 +1,10 @@
 //! Calls over records, good, damaged and of any bytes, with blocks, numbers,
-//! lengths and buffers of every sort.
+//! lengths and buffers of every sort; the records at the edges come first.
 
+use super::edges::{bytes_of, calls_over, edges, fresh_of_version_2, BEGINNING_OF_OLD};
 use super::random::Random;
 use super::sound::{period_of_note, sing, Passage, Wave};
-use crate::record::{made, Call, Record, SIZE};
+use crate::record::{made, Call, Record, LAYOUT, SIZE};
 use crate::rules::{LONGEST_BLOCK, TRACKED};
 use crate::settings::Settings;
 use crate::tuner::TAKE_LIMIT;
@@ -12,6 +13,8 @@ use crate::tuner::TAKE_LIMIT;
 pub const MOST: usize = 1_024;
 
 pub struct Cases {
+    /// The calls over the records at the edges that are still to come.
+    first: std::vec::IntoIter<([u8; SIZE], Call)>,
     random: Random,
     /// Records that calls from a start left.
     reached: Vec<Record>,
@@ -24,11 +27,25 @@ impl Cases {
         for _ in 0..40 {
             reach(&mut random, &mut reached);
         }
-        Cases { random, reached }
+        let mut first = Vec::new();
+        for (record, _) in edges() {
+            let calls = calls_over(&record).into_iter();
+            first.extend(calls.map(|call| (bytes_of(record.bytes()), call)));
+        }
+        let calls = calls_over(&reached[0]).into_iter();
+        first.extend(calls.map(|call| (fresh_of_version_2(), call)));
+        Cases {
+            first: first.into_iter(),
+            random,
+            reached,
+        }
     }
 
     /// A record's bytes, and a call over it.
     pub fn case(&mut self) -> ([u8; SIZE], Call) {
+        if let Some(case) = self.first.next() {
+            return case;
+        }
         let record = self.record();
         let random = &mut self.random;
         let call = match random.whole(0, 99) {
@@ -40,7 +57,7 @@ impl Cases {
             97 => Call::StartDefault,
             _ => Call::Cut(long(random), long(random) / 512),
         };
-        let mut bytes: [u8; SIZE] = record.bytes().try_into().expect("a record's bytes");
+        let mut bytes = bytes_of(record.bytes());
         match random.whole(0, 19) {
             0 | 1 => {
                 let bit = random.whole(0, 8 * SIZE - 1);
@@ -57,6 +74,8 @@ impl Cases {
                 let from = random.whole(0, SIZE);
                 bytes[from..].copy_from_slice(&self.reached[other].bytes()[from..]);
             }
+            // Without the layout's number.
+            6 => bytes.copy_within(8.., 0),
             _ => {}
         }
         (bytes, call)
@@ -67,7 +86,7 @@ impl Cases {
         let mut record = self.reached[random.whole(0, self.reached.len() - 1)].clone();
         if random.chance(150) && record.count >= 1_764 {
             let near = TAKE_LIMIT - random.whole(0, 600);
-            record.count = (near - near % 40) as u32 + record.count % 40;
+            record.count = (near - near % 40) as u64 + record.count % 40;
         }
         if random.chance(100) {
             noise(random, &mut record.store);
@@ -135,10 +154,9 @@ fn reach(random: &mut Random, reached: &mut Vec<Record>) {
                 samples: samples.to_vec(),
                 out: vec![0; samples.len()],
             };
-            let bytes: [u8; SIZE] = record.bytes().try_into().expect("a record's bytes");
-            let left = made(&bytes, &call);
+            let left = made(&bytes_of(record.bytes()), &call);
             assert_eq!(left.number, 0, "a take that is played is taken");
-            record = Record::of_bytes(&left.record.try_into().expect("a record's bytes"));
+            record = Record::of_bytes(&bytes_of(left.record));
             number = number.wrapping_add(1);
             if random.chance(150) {
                 reached.push(record.clone());
@@ -172,12 +190,14 @@ fn settings(random: &mut Random) -> Settings {
 fn alter(random: &mut Random, record: &mut Record) {
     let place = random.whole(0, LONGEST_BLOCK - 1);
     let few = random.whole(0, 2) as i64 - 1;
-    match random.whole(0, 24) {
+    // Past 32 bits, the rest as it was or 0: what lost high bits would make right.
+    let high = random.next() << 32;
+    match random.whole(0, 27) {
         0 => record.settings = settings(random),
         1 => record.count = random.one_of(&[0, 1, 7, 8, 1_763, 1_764, 1_765, 1_791, 1_792]),
-        2 => record.count = random.one_of(&[999_999_999, 1_000_000_000, 1_000_000_001, u32::MAX]),
-        3 => record.behind = random.one_of(&[0, 1, 65_535_999, 65_536_000, 65_536_001, u32::MAX]),
-        4 => record.behind = random.whole(0, 70_000_000) as u32,
+        2 => record.count = random.one_of(&[999_999_999, 1_000_000_000, 1_000_000_001, u64::MAX]),
+        3 => record.behind = random.one_of(&[0, 1, 65_535_999, 65_536_000, 65_536_001, u64::MAX]),
+        4 => record.behind = random.whole(0, 70_000_000) as u64,
         5 | 6 => record.tracking = random.one_of(&[0, 1, 2, 3, 255, 256, 1 << 31, u32::MAX]),
         7 => record.period = random.one_of(&[0, 1, 4_095, 4_096, 225_280, 225_281, u32::MAX]),
         8 => record.period = random.whole(4_096, 225_280) as u32,
@@ -205,6 +225,9 @@ fn alter(random: &mut Random, record: &mut Record) {
             record.h[place] = record.h[place].wrapping_add(few);
         }
         23 => (record.period, record.rate) = (0, 65_536),
+        24 => record.layout = random.one_of(&[0, LAYOUT - 1, LAYOUT + 1, BEGINNING_OF_OLD, high]),
+        25 => record.count = random.one_of(&[high, record.count | high]),
+        26 => record.behind = random.one_of(&[high, record.behind | high]),
         _ => {
             let place = random.whole(0, 108);
             record.energies[place] = record.energies[place].wrapping_add_signed(few);

@@ -1,0 +1,203 @@
+//! Records with a number at the end of its range, and with one just past it,
+//! number by number as `docs/RANGES.md` lists them; and calls over each.
+
+use crate::record::{made, Call, Record, LAYOUT, SIZE};
+use crate::settings::Settings;
+
+type Alter = fn(&mut Record);
+
+/// What a number of 32 bits would lose.
+const PAST_32_BITS: u64 = 1 << 32;
+/// Versions 1 and 2 of the calls had no number of a layout: their records began with scale and eps.
+pub const BEGINNING_OF_OLD: u64 = 4_095 | 100 << 32;
+
+/// Still good, with the sums of what is then kept.
+const GOOD: &[Alter] = &[
+    |_| {},
+    |record| *record = Record::fresh(Settings::DEFAULT),
+    |record| record.settings = settings([1, 0, 0, 1]),
+    |record| record.settings = settings([4_095, 409, 255, 1_000_000]),
+    |record| record.count = 1_000_000_000,
+    |record| alone(record, |fresh| fresh.count = 1_763),
+    |record| alone(record, |fresh| (fresh.count, fresh.store[0]) = (1_764, 1)),
+    |record| alone(record, |fresh| (fresh.count, fresh.eighths[0]) = (1_792, 1)),
+    |record| (record.low, record.last) = (16, 16),
+    |record| (record.low, record.last) = (16, 23),
+    |record| (record.low, record.last) = (873, 873),
+    |record| (record.low, record.last) = (873, 880),
+    |record| record.period = 4_096,
+    |record| record.period = 225_280,
+    |record| record.note = 32,
+    |record| record.note = 100,
+    |record| record.rate = 32_768,
+    |record| record.rate = 131_072,
+    // Locking, and searching with any lags: a note without a period is not looked at.
+    |record| (record.period, record.note, record.rate) = (0, u32::MAX, 65_536),
+    |record| {
+        searching(record);
+        (record.low, record.last, record.note) = (u32::MAX, 0, u32::MAX);
+        (record.e[0], record.h[7]) = (u64::MAX, i64::MIN);
+    },
+    |record| record.behind = 0,
+    |record| record.behind = 65_536_000,
+    |record| record.number = 65_535,
+    |record| record.length = 0,
+    |record| record.length = 512,
+    |record| alone(record, |fresh| (fresh.count, fresh.length) = (8, 8)),
+    |record| (record.repeated, record.dropped) = (u16::MAX, u16::MAX),
+    |record| record.out = [i16::MIN; 512],
+];
+
+/// No longer good, though the sums are those of what is then kept.
+const BAD: &[Alter] = &[
+    |record| record.layout = 0,
+    |record| record.layout = LAYOUT - 1,
+    |record| record.layout = LAYOUT + 1,
+    |record| record.layout = LAYOUT + PAST_32_BITS,
+    |record| record.layout = BEGINNING_OF_OLD,
+    |record| record.layout = u64::MAX,
+    |record| record.settings.scale = 0,
+    |record| record.settings.scale = 4_096,
+    |record| record.settings.eps = 410,
+    |record| record.settings.decay = 256,
+    |record| record.settings.floor = 0,
+    |record| record.settings.floor = 1_000_001,
+    |record| record.count = 1_000_000_001,
+    |record| record.count += PAST_32_BITS,
+    |record| record.count = u64::MAX,
+    |record| alone(record, |fresh| (fresh.count, fresh.store[0]) = (1_763, 1)),
+    |record| alone(record, |fresh| (fresh.count, fresh.eighths[0]) = (1_791, 1)),
+    |record| (record.low, record.last) = (15, 16),
+    |record| (record.low, record.last) = (874, 874),
+    |record| record.last = record.low - 1,
+    |record| record.last = record.low + 8,
+    |record| record.period = 1,
+    |record| record.period = 4_095,
+    |record| record.period = 225_281,
+    |record| record.note = 31,
+    |record| record.note = 101,
+    |record| record.rate = 32_767,
+    |record| record.rate = 131_073,
+    |record| (record.period, record.rate) = (0, 65_535),
+    |record| (record.period, record.rate) = (0, 65_537),
+    |record| {
+        searching(record);
+        record.rate = 65_537;
+    },
+    |record| record.tracking = 0,
+    |record| record.tracking = 2,
+    |record| record.tracking = 257,
+    |record| record.tracking = u32::MAX,
+    |record| {
+        searching(record);
+        record.tracking = 2;
+    },
+    |record| record.behind = 65_536_001,
+    |record| record.behind += PAST_32_BITS,
+    |record| record.behind = PAST_32_BITS,
+    |record| record.behind = u64::MAX,
+    |record| record.length = 513,
+    |record| alone(record, |fresh| (fresh.count, fresh.length) = (7, 8)),
+];
+
+/// A sum that is not the direct one.
+const WRONG_SUMS: &[Alter] = &[
+    |record| record.energies[0] += 1,
+    |record| record.energies[108] -= 1,
+    |record| record.correlations[0] -= 1,
+    |record| record.correlations[108] += 1,
+    |record| record.e[0] -= 1,
+    |record| record.e[7] += PAST_32_BITS,
+    |record| record.h[0] += 1,
+    |record| record.h[7] -= 1,
+    |record| record.low += 1,
+    |record| record.store[1_763] += 1,
+    |record| record.eighths[223] += 1,
+];
+
+fn settings([scale, eps, decay, floor]: [u32; 4]) -> Settings {
+    Settings {
+        scale,
+        eps,
+        decay,
+        floor,
+    }
+}
+
+fn searching(record: &mut Record) {
+    (record.tracking, record.period, record.rate) = (0, 0, 65_536);
+}
+
+/// A fresh record in the place of this one, so that nothing else is altered.
+fn alone(record: &mut Record, alter: Alter) {
+    *record = Record::fresh(Settings::DEFAULT);
+    alter(record);
+}
+
+/// A record that is pitched, after 2,400 samples of a square wave.
+fn pitched() -> Record {
+    let mut bytes = Record::fresh(Settings::DEFAULT).bytes();
+    let samples: Vec<i16> = (0..480).map(|at| 9_000 * (at / 48 % 2) - 4_500).collect();
+    for number in 0..5 {
+        let call = Call::Block {
+            number,
+            samples: samples.clone(),
+            out: vec![0; 480],
+        };
+        bytes = made(&bytes_of(bytes), &call).record;
+    }
+    let record = Record::of_bytes(&bytes_of(bytes));
+    assert!(record.period > 0, "the wave is tracked");
+    record
+}
+
+/// The fresh record of versions 1 and 2: settings, count, position, mode, period, note and rate, each of 32 bits, and then zeros. It
+/// had 6928 bytes; here it has today's.
+pub fn fresh_of_version_2() -> [u8; SIZE] {
+    let mut bytes = [0; SIZE];
+    let numbers: [u32; 10] = [4_095, 100, 0, 100, 0, 0, 0, 0, 0, 65_536];
+    for (place, number) in bytes.chunks_exact_mut(4).zip(numbers) {
+        place.copy_from_slice(&number.to_le_bytes());
+    }
+    bytes
+}
+
+pub fn bytes_of(record: Vec<u8>) -> [u8; SIZE] {
+    record.try_into().expect("a record's bytes")
+}
+
+/// The records, and whether each is good.
+pub fn edges() -> Vec<(Record, bool)> {
+    let pitched = pitched();
+    let altered = |alter: &Alter| {
+        let mut record = pitched.clone();
+        alter(&mut record);
+        record
+    };
+    let good = GOOD.iter().map(|by| (altered(by).with_right_sums(), true));
+    let bad = BAD.iter().map(|by| (altered(by).with_right_sums(), false));
+    let wrong = WRONG_SUMS.iter().map(|by| (altered(by), false));
+    good.chain(bad).chain(wrong).collect()
+}
+
+/// Every call that reads the record: the next block and the last again, a change that is allowed and one that isn't, a reset, the meter.
+pub fn calls_over(record: &Record) -> Vec<Call> {
+    let length = usize::from(record.length).min(512);
+    let block = |number, samples: &[i16]| Call::Block {
+        number,
+        samples: samples.to_vec(),
+        out: vec![77; samples.len() + 1],
+    };
+    let next = match length {
+        0 => 0,
+        _ => record.number.wrapping_add(1),
+    };
+    vec![
+        block(next, &[1_000, -1_000, 500]),
+        block(record.number, &record.store[record.store.len() - length..]),
+        Call::Change(Settings::DEFAULT),
+        Call::Change(settings([0, 100, 0, 100])),
+        Call::Reset,
+        Call::Meter,
+    ]
+}
