@@ -10,7 +10,7 @@
  * or host/build program.c OUT for both, also where the processor is another one (docs/HOST.md).
  *
  * What the proof takes for granted of the caller, as C cannot say it:
- * - a record is lent at an address that is a multiple of 8, all its 6928 bytes readable and, but for daxfolin_meter, writable;
+ * - a record is lent at an address that is a multiple of 8, all its 6944 bytes readable and, but for daxfolin_meter, writable;
  *   daxfolin_start and daxfolin_start_default write them all and read none, so there it may be fresh memory;
  * - `samples` and `out` stand at even addresses, with as many samples behind them as the length beside them says; of a length of 0
  *   nothing is read or written;
@@ -25,7 +25,8 @@
 extern "C" {
 #endif
 
-#define DAXFOLIN_VERSION 2u                /* of these calls: what daxfolin_version() answers */
+#define DAXFOLIN_VERSION 3u                /* of these calls: what daxfolin_version() answers */
+#define DAXFOLIN_LAYOUT 20003u             /* of the record: what stands first in it */
 #define DAXFOLIN_LONGEST_BLOCK 512u        /* samples of a block */
 #define DAXFOLIN_LONGEST_TAKE 1000000000u  /* samples of a take */
 
@@ -41,7 +42,7 @@ enum {
     DAXFOLIN_OTHER_SAMPLES = 6,        /* the last taken number, other length or samples */
     DAXFOLIN_TAKE_FULL = 7,            /* the take would pass 1,000,000,000 samples */
     DAXFOLIN_SETTING_OUT_OF_RANGE = 8, /* scale 0 is; a change leaves the record as it was, a start the default tuner */
-    DAXFOLIN_RECORD_OUT_OF_RANGE = 9   /* a number of the record is out of its range (docs/RANGES.md), or `tracking` over 1 */
+    DAXFOLIN_RECORD_OUT_OF_RANGE = 9   /* a number of the record is out of its range (docs/RANGES.md), its layout's among them */
 };
 
 typedef struct daxfolin_settings {
@@ -54,29 +55,59 @@ typedef struct daxfolin_settings {
 /* What daxfolin_start_default starts with: `daxfolin_settings settings = DAXFOLIN_DEFAULTS;`. */
 #define DAXFOLIN_DEFAULTS {4095, 100, 0, 100}
 
-/* A tuner, as numbers alone: any bytes are a record, and one that is not good is answered 9. It may be copied, stored and sent as
- * bytes (little-endian, no padding). A host has no need to look into it. */
-typedef struct daxfolin_record {
-    daxfolin_settings settings;
-    uint32_t count;             /* samples of the take */
-    uint32_t behind;            /* how far the read position lies behind the input, in 1/65536 sample */
-    uint32_t tracking;          /* 0 searching, 1 tracking */
-    uint32_t period;            /* in 1/256 sample; 0: no period */
-    uint32_t note;              /* the wanted note */
-    uint32_t rate;              /* in 1/65536 */
-    uint32_t low;               /* the lowest of the eight lags */
-    uint32_t last;              /* the last best lag */
-    uint16_t number;            /* the last block's number, length and counts */
-    uint16_t length;
+/* What was heard of the take. */
+typedef struct daxfolin_heard {
+    uint64_t count;            /* samples of the take */
+    uint64_t energies[109];    /* of the lags 2 to 110 at eighth rate */
+    int64_t correlations[109];
+    int16_t store[1764];       /* the newest samples, and the newest at eighth rate, oldest first */
+    int16_t eighths[224];
+} daxfolin_heard;
+
+/* The eight lags; looked at while tracking alone. */
+typedef struct daxfolin_tracker {
+    uint32_t low;  /* the lowest of them */
+    uint32_t last; /* the last best */
+    uint64_t e[8]; /* their energies and correlations */
+    int64_t h[8];
+} daxfolin_tracker;
+
+typedef struct daxfolin_tone {
+    uint32_t period; /* in 1/256 sample; 0: no period */
+    uint32_t note;   /* the wanted note */
+    uint32_t rate;   /* in 1/65536 */
+} daxfolin_tone;
+
+typedef struct daxfolin_pitch {
+    daxfolin_tracker tracker;
+    daxfolin_tone tone;
+    uint32_t tracking; /* 0 searching, 1 tracking; a record with any other number here is answered 9 */
+} daxfolin_pitch;
+
+/* The read head. */
+typedef struct daxfolin_head {
+    uint64_t behind; /* how far the read position lies behind the input, in 1/65536 sample */
+} daxfolin_head;
+
+/* The last block. */
+typedef struct daxfolin_last {
+    uint16_t number;
+    uint16_t length; /* 0: there is none */
     uint16_t repeated;
     uint16_t dropped;
-    uint64_t e[8];              /* energies and correlations of the eight lags */
-    int64_t h[8];
-    uint64_t energies[109];     /* and of the lags 2 to 110 at eighth rate */
-    int64_t correlations[109];
-    int16_t store[1764];        /* the newest samples, and the newest at eighth rate, oldest first */
-    int16_t eighths[224];
-    int16_t out[512];           /* the last block's output */
+    int16_t out[512];
+} daxfolin_last;
+
+/* A tuner, as numbers alone: any bytes are a record, and one that is not good is answered 9. It may be copied, stored and sent as
+ * bytes (little-endian, no padding); one that was stored by another version of these calls has another number first, and is answered
+ * 9. A host has no need to look into it. */
+typedef struct daxfolin_record {
+    uint64_t layout; /* DAXFOLIN_LAYOUT */
+    daxfolin_settings settings;
+    daxfolin_heard heard;
+    daxfolin_pitch pitch;
+    daxfolin_head head;
+    daxfolin_last last;
 } daxfolin_record;
 
 /* An answer's number and, of a block that is taken or given again, the samples written, cycles repeated and cycles dropped; else 0. */
@@ -109,10 +140,20 @@ typedef struct daxfolin_stretch {
 #else
 #define DAXFOLIN_SAME(a, b) _Static_assert((a) == (b), "layout")
 #endif
-DAXFOLIN_SAME(sizeof(daxfolin_record), 6928);
-DAXFOLIN_SAME(offsetof(daxfolin_record, e), 56);
-DAXFOLIN_SAME(offsetof(daxfolin_record, store), 1928);
-DAXFOLIN_SAME(sizeof(daxfolin_settings), 16);
+/* The record's parts lie one after the other, and so do the numbers of each: no padding. */
+DAXFOLIN_SAME(sizeof(daxfolin_settings), 4 * 4);
+DAXFOLIN_SAME(sizeof(daxfolin_heard), 8 + 109 * 8 + 109 * 8 + 1764 * 2 + 224 * 2);
+DAXFOLIN_SAME(sizeof(daxfolin_tracker), 4 + 4 + 8 * 8 + 8 * 8);
+DAXFOLIN_SAME(sizeof(daxfolin_tone), 3 * 4);
+DAXFOLIN_SAME(sizeof(daxfolin_pitch), 136 + 12 + 4);
+DAXFOLIN_SAME(sizeof(daxfolin_head), 8);
+DAXFOLIN_SAME(sizeof(daxfolin_last), 4 * 2 + 512 * 2);
+DAXFOLIN_SAME(offsetof(daxfolin_record, settings), 8);
+DAXFOLIN_SAME(offsetof(daxfolin_record, heard), 24);
+DAXFOLIN_SAME(offsetof(daxfolin_record, pitch), 5752);
+DAXFOLIN_SAME(offsetof(daxfolin_record, head), 5904);
+DAXFOLIN_SAME(offsetof(daxfolin_record, last), 5912);
+DAXFOLIN_SAME(sizeof(daxfolin_record), 6944);
 DAXFOLIN_SAME(sizeof(daxfolin_answer), 12);
 DAXFOLIN_SAME(sizeof(daxfolin_shown), 20);
 DAXFOLIN_SAME(sizeof(size_t), 8);

@@ -53,7 +53,19 @@ static void answer(struct said *said, daxfolin_answer a) {
     said->number = a.number, said->written = a.written, said->repeated = a.repeated, said->dropped = a.dropped;
 }
 
+/* The header's names stand where the library writes: a tuner after its first block. */
+static int misnamed(void) {
+    static daxfolin_record t;
+    daxfolin_settings settings = {1, 2, 3, 4};
+    int16_t block[3] = {1000, -1000, 500}, room[3];
+    if (daxfolin_start(&t, settings) || daxfolin_block(&t, 0, block, 3, room, 3).number) return 1;
+    return t.layout != DAXFOLIN_LAYOUT || memcmp(&t.settings, &settings, sizeof settings) || t.heard.count != 3 ||
+           memcmp(t.heard.store + 1761, block, sizeof block) || t.pitch.tone.rate != 65536 || t.pitch.tracking || t.head.behind ||
+           t.last.length != 3 || memcmp(t.last.out, room, sizeof room);
+}
+
 int main(void) {
+    if (misnamed()) return 4;
     struct asked asked;
     while (fread(&asked, sizeof asked, 1, stdin) == 1) {
         struct said said = {0};

@@ -21,7 +21,9 @@
 use std::fmt;
 
 /// The version of the calls.
-pub const VERSION: u32 = 2;
+pub const VERSION: u32 = 3;
+/// The number of the record's layout, which stands first in it.
+pub const LAYOUT: u64 = 20_003;
 /// The most samples of a block.
 pub const LONGEST_BLOCK: usize = 512;
 /// The most samples of a take.
@@ -46,7 +48,7 @@ pub const OTHER_SAMPLES: u32 = 6;
 pub const TAKE_FULL: u32 = 7;
 /// A setting is out of its range; scale 0 is. A change leaves the record as it was, a start hands back the default tuner.
 pub const SETTING_OUT_OF_RANGE: u32 = 8;
-/// A number of the record is out of its range.
+/// A number of the record is out of its range, its layout's among them.
 pub const RECORD_OUT_OF_RANGE: u32 = 9;
 
 /// What the host may set.
@@ -102,7 +104,8 @@ pub enum Meter {
     Refused,
 }
 
-/// A tuner, as numbers alone: any bytes are a record, and one that is not good is answered 9.
+/// A tuner, as numbers alone: any bytes are a record, and one that is not good is answered 9. So is one that another version of the
+/// calls left: it has another layout.
 #[repr(C)]
 #[derive(Clone, PartialEq, Eq)]
 pub struct Record {
@@ -148,7 +151,7 @@ mod archive {
 }
 
 const _: () = {
-    assert!(size_of::<Record>() == 6928 && align_of::<Record>() == 8);
+    assert!(size_of::<Record>() == 6944 && align_of::<Record>() == 8);
     assert!(size_of::<Settings>() == 16 && size_of::<Answer>() == 12);
     assert!(size_of::<archive::Shown>() == 20 && size_of::<archive::Stretch>() == 16);
 };
@@ -168,7 +171,7 @@ pub fn cut(recording: &[i16], k: usize) -> &[i16] {
 
 impl Record {
     /// The bytes of a record.
-    pub const SIZE: usize = 6928;
+    pub const SIZE: usize = 6944;
 
     fn blank() -> Record {
         assert_eq!(
@@ -238,6 +241,12 @@ impl Record {
             },
             _ => Meter::Refused,
         }
+    }
+
+    /// The number of the record's layout: where it is not [`LAYOUT`], another version left the record (or it is damaged), and every
+    /// call but a start answers 9.
+    pub fn layout(&self) -> u64 {
+        self.words[0]
     }
 
     /// The record as bytes, to be stored or sent: low byte first, the same on every machine.

@@ -1,11 +1,12 @@
-//! Calls over records, good, damaged and of any bytes, compared with the
-//! independent program: 9 and nothing changed, or the right answer; guards
-//! around every buffer stay as they were. DAXFOLIN_CASES says how many calls,
-//! DAXFOLIN_SEED which.
+//! Calls over records, good, damaged, of other layouts and of any bytes,
+//! compared with the independent program: 9 and nothing changed, or the right
+//! answer; guards around every buffer stay as they were. DAXFOLIN_CASES says how
+//! many calls, DAXFOLIN_SEED which.
 #![cfg(target_arch = "x86_64")]
 
-use daxfolin::{cut, Answer, Meter, Record, Settings};
+use daxfolin::{cut, Answer, Meter, Record, Settings, LAYOUT, RECORD_OUT_OF_RANGE, TAKEN};
 use independent::generator::cases::Cases;
+use independent::generator::edges::fresh_of_version_2;
 use independent::record::{made, Call, Left};
 
 const GUARD: usize = 64;
@@ -87,6 +88,57 @@ fn calls_over_any_record_are_the_independent_program_s() {
             "case {case}: {call:?}\nleft {left:?}\nright {right:?}"
         );
     }
+}
+
+/// Every call over it is answered 9, and leaves it and the output; a start asks nothing of it.
+fn is_of_another_layout(bytes: &[u8; Record::SIZE]) {
+    let mut record = Record::from_bytes(bytes);
+    assert_ne!(record.layout(), LAYOUT);
+    let mut out = [FILL; 8];
+    let answer = record.block(0, &[1, 2, 3], &mut out);
+    let refused = Answer {
+        number: RECORD_OUT_OF_RANGE,
+        written: 0,
+        repeated: 0,
+        dropped: 0,
+    };
+    assert_eq!((answer, out), (refused, [FILL; 8]));
+    assert_eq!(record.change(Settings::default()), RECORD_OUT_OF_RANGE);
+    let scale_0 = Settings {
+        scale: 0,
+        ..Settings::default()
+    };
+    assert_eq!(record.change(scale_0), RECORD_OUT_OF_RANGE);
+    assert_eq!(record.reset(), RECORD_OUT_OF_RANGE);
+    assert_eq!(record.meter(), Meter::Refused);
+    assert!(&record.to_bytes() == bytes, "the record was touched");
+    assert_eq!(Record::start_default(), (TAKEN, Record::default()));
+}
+
+#[test]
+fn a_record_of_another_layout_is_refused() {
+    let mut record = Record::default();
+    record.block(0, &[1_000, -1_000, 500], &mut [0; 3]);
+    assert_eq!(record.layout(), LAYOUT);
+    let good = record.to_bytes();
+    for layout in [
+        0,
+        1,
+        2,
+        3,
+        LAYOUT - 1,
+        LAYOUT + 1,
+        LAYOUT | 1 << 32,
+        u64::MAX,
+    ] {
+        let mut bytes = good;
+        bytes[..8].copy_from_slice(&layout.to_le_bytes());
+        is_of_another_layout(&bytes);
+    }
+    // Versions 1 and 2 had no such number: their records began with scale and eps.
+    let old = fresh_of_version_2();
+    assert_eq!(old[..8], [0xFF, 0x0F, 0, 0, 100, 0, 0, 0]);
+    is_of_another_layout(&old);
 }
 
 #[test]
