@@ -1,4 +1,5 @@
 pub mod Account
-pub mod Calls
 pub mod Holds
+pub mod Calls
+pub mod Hosted
 pub mod Wrong

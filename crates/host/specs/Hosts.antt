@@ -6,7 +6,7 @@ use lib.IntN.{ℤ}
 use lib.Ieee.{Float, binary32, ofBits}
 use Rattle.rules.specs.declared.Settings.{Settings}
 use Rattle.answers.specs.declared.Answer.{Answer}
-use Rattle.answers.specs.Numbers.{plain}
+use Rattle.answers.specs.Numbering.{plain}
 use Rattle.meters.specs.declared.Meter.{Meter}
 use Rattle.meters.specs.declared.Meter.the-variants.{Searching, Locking, Pitched, Refused}
 use Rattle.tuner.specs.declared.Tuner.{Tuner}

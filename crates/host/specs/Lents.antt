@@ -10,7 +10,7 @@ use Rattle.whole.specs.Tests.{cond-no}
 use Rattle.rules.specs.Rules.{defaults}
 use Rattle.rules.specs.declared.Settings.{Settings}
 use Rattle.answers.specs.declared.Answer.{Answer}
-use Rattle.answers.specs.Numbers.{plain}
+use Rattle.answers.specs.Numbering.{plain}
 use Rattle.tuner.specs.declared.Tuner.{Tuner}
 use Rattle.tuner.specs.Tuners.{freshTuner, answerBy, Took, Started}
 use Rattle.tuner.specs.Starts.{one-meter, one-start, default-start-taken}

@@ -8,7 +8,7 @@ use tuner::Tuner;
 ghost use mathlib.Core.Path.{_≡_};
 ghost use Rattle.whole.specs.Tests.{Decides};
 ghost use Rattle.rules.specs.Rules.{defaults};
-ghost use Rattle.answers.specs.Numbers.{plain};
+ghost use Rattle.answers.specs.Numbering.{plain};
 ghost use Rattle.cutting.specs.Cuts.{Cut};
 ghost use Rattle.host.specs.Hosts.{layoutNumber, recordOf, bare, shownAs, HostStarted, HostChanged, HostTook, HostReset, HostMetered};
 
