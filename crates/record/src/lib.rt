@@ -217,7 +217,7 @@ fn pitch_right(v: Pitch, store: &[i16]) -> bool
         let k = v.tracker;
         return tracker_right(k, store);
     }
-    if v.tracking != 0 {
+    if v.tracking > 1 {
         return false;
     }
     tone.period == 0

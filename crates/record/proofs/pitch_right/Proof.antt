@@ -25,7 +25,7 @@ returns-2 c =
     (λ p. tracking-right (c2 .if2 .taken) p)
 
 returns-3 : tie.Need-returns-3
-returns-3 c = refused (λ p. c .if3 .taken (let f = p .flag in let n = c .before .before .if2 .left in omega arith))
+returns-3 c = refused (λ p. let t = c .if3 .taken in let f = p .flag in omega arith)
 
 returns-4 : tie.Need-returns-4
 returns-4 c =
@@ -33,7 +33,7 @@ returns-4 c =
     let c2 = c3 .before .before in
     let c1 = c2 .before .before in
     decides-as (decides-eq _ _)
-    (λ z. right-searching (c3 .if3 .left) (passed (c1 .before .tone-right .ensures) (c1 .if1 .left)) z)
+    (λ z. right-searching (let l = c3 .if3 .left in let n = c2 .if2 .left in omega arith) (passed (c1 .before .tone-right .ensures) (c1 .if1 .left)) z)
     (λ p. searching-right (c2 .if2 .left) p)
 
 pub pitch-right-spec : {M : Type 1} → statement M
