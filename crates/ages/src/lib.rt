@@ -1,7 +1,7 @@
 // Samples in a linear store, oldest first: which sample is how far back.
 
 ghost use mathlib.Core.Path.{_≡_};
-ghost use Prim.Native.Nat.{ℕ, _+_, _≤_, _<_};
+ghost use Prim.Native.Nat.{_+_, _≤_, _<_};
 ghost use lib.ListN.{length};
 ghost use Rattle.rules.specs.Rules.{eighthSample};
 ghost use Rattle.ages.specs.Ages.{ago, Samples};

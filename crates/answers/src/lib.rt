@@ -1,4 +1,5 @@
 // The numbers that answer a block whose record is good and that fits: given again, or refused by its number, or taken.
+use rules::KEPT_SAMPLES;
 ghost use mathlib.Core.Path.{_≡_};
 ghost use Prim.Native.Nat.{_+_, _-_, _≤_};
 ghost use lib.ListN.{length, drop};
@@ -27,7 +28,7 @@ pub fn plain(number: u32) -> Answer
 }
 
 // The samples are those of the store from a place on.
-fn same(samples: &[i16], store: &[i16; 1764], from: usize) -> bool
+fn same(samples: &[i16], store: &[i16; KEPT_SAMPLES], from: usize) -> bool
     requires { ⌜ (length (now store) ≡ 1764) × (from + length (now samples) ≡ 1764) ⌝ }
     ensures { λ r. ⌜ Decides r (now (samples .entry) ≡ drop from (now (store .entry))) ⌝ }
 {
@@ -42,7 +43,7 @@ fn same(samples: &[i16], store: &[i16; 1764], from: usize) -> bool
 }
 
 // The samples are those of the last block: the newest of the store, so many as it had.
-fn again(samples: &[i16], store: &[i16; 1764], size: u16) -> bool
+fn again(samples: &[i16], store: &[i16; KEPT_SAMPLES], size: u16) -> bool
     requires { ⌜ (length (now store) ≡ 1764) × (size ≤ 512) ⌝ }
     ensures { λ r. ⌜ Decides r (now (samples .entry) ≡ drop (1764 - size) (now (store .entry))) ⌝ }
 {
@@ -50,7 +51,7 @@ fn again(samples: &[i16], store: &[i16; 1764], size: u16) -> bool
     if samples.len() != n {
         return false;
     }
-    same(samples, store, 1764 - n)
+    same(samples, store, KEPT_SAMPLES - n)
 }
 
 // There is a last block, and it has this number.
@@ -78,7 +79,7 @@ pub fn judge_number(
     count: u64,
     last: u16,
     size: u16,
-    store: &[i16; 1764],
+    store: &[i16; KEPT_SAMPLES],
     number: u16,
     samples: &[i16],
 ) -> u32
@@ -94,7 +95,7 @@ pub fn judge_number(
     if number != next_number(size, last) {
         return 5;
     }
-    if count + samples.len() as u64 > 1000000000 {
+    if count + samples.len() as u64 > rules::TAKE_LIMIT {
         return 7;
     }
     0

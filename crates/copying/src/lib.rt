@@ -1,4 +1,8 @@
 // Samples copied between stores: the kept ones and a block's laid one after the other, and what is newest kept again.
+use rules::KEPT_EIGHTHS;
+use rules::KEPT_SAMPLES;
+use rules::OPEN_EIGHTHS;
+use rules::OPEN_SAMPLES;
 ghost use mathlib.Core.Path.{_≡_};
 ghost use mathlib.Core.List.{_++_, []};
 ghost use Prim.Native.Nat.{_+_, _≤_};
@@ -21,21 +25,21 @@ pub fn lay(into: &mut [i16], from: usize, xs: &[i16])
 }
 
 // The kept samples, and the block's after them, in one store.
-pub fn joined(store: [i16; 1764], samples: &[i16]) -> [i16; 2276]
+pub fn joined(store: [i16; KEPT_SAMPLES], samples: &[i16]) -> [i16; OPEN_SAMPLES]
     requires { ⌜ length (now samples) ≤ 512 ⌝ }
     ensures { λ r. ⌜ Joined store (now (samples .entry)) 2276 r ⌝ }
 {
-    let mut all = [0i16; 2276];
+    let mut all = [0i16; OPEN_SAMPLES];
     lay(&mut all, 0, &store);
-    lay(&mut all, 1764, samples);
+    lay(&mut all, KEPT_SAMPLES, samples);
     all
 }
 
 // The kept eighth-rate samples, with places for those of a block.
-pub fn opened(eighths: [i16; 224]) -> [i16; 288]
+pub fn opened(eighths: [i16; KEPT_EIGHTHS]) -> [i16; OPEN_EIGHTHS]
     ensures { λ r. ⌜ Joined eighths [] 288 r ⌝ }
 {
-    let mut all = [0i16; 288];
+    let mut all = [0i16; OPEN_EIGHTHS];
     lay(&mut all, 0, &eighths);
     all
 }

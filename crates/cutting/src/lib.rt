@@ -1,4 +1,5 @@
 // Cutting: a recording's stretches of 512 samples.
+use rules::LONGEST_BLOCK;
 ghost use mathlib.Core.Path.{_≡_};
 ghost use Prim.Native.Nat.{_*_};
 ghost use lib.ListN.{take, drop};
@@ -15,11 +16,19 @@ pub struct Stretch {
 pub fn place(length: usize, k: usize) -> Stretch
     ensures { λ r. ⌜ Cut length k r ⌝ }
 {
-    let from = if k <= length / 512 { 512 * k } else { length };
+    let from = if k <= length / LONGEST_BLOCK {
+        LONGEST_BLOCK * k
+    } else {
+        length
+    };
     let rest = length - from;
     Stretch {
         from: from,
-        count: if rest < 512 { rest } else { 512 },
+        count: if rest < LONGEST_BLOCK {
+            rest
+        } else {
+            LONGEST_BLOCK
+        },
     }
 }
 

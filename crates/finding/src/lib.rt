@@ -1,19 +1,23 @@
 // Finding a period.
-
+use rules::EIGHTH_LAGS;
+use rules::LAST_EIGHTH_LAG;
 use rules::Settings;
 ghost use mathlib.Core.Path.{_≡_};
 ghost use mathlib.Core.Bool.{true};
 ghost use mathlib.Core.Option.{some};
-ghost use Prim.Native.Nat.{ℕ, _-_, _*_, _/_, _^_, _≤_, _<_};
-ghost use lib.ListN.{length, getD};
-ghost use Rattle.rules.specs.Rules.{Sound, E, D, passes, isLow, choice, found};
+ghost use Prim.Native.Nat.{_-_, _*_, _/_, _≤_, _<_};
+ghost use lib.ListN.{getD};
+ghost use Rattle.rules.specs.Rules.{Sound, D, isLow, choice, found};
 ghost use Rattle.ages.specs.Ages.{ago};
-ghost use Rattle.sums.specs.Kept.{RightAt, Enough, Kept};
+ghost use Rattle.sums.specs.Kept.{Enough, Kept};
 ghost use Rattle.rules.specs.Facts.{Right};
 ghost use Rattle.finding.specs.Quiet.{Quiet};
 ghost use Rattle.finding.specs.Finding.{lagOf, Measured};
-ghost use Rattle.passing.specs.Distances.{Modest, Long, One, Distances, Small};
+ghost use Rattle.passing.specs.Distances.{Modest, Long, Small};
 ghost use Rattle.finding.specs.Scan.{InOrder, Leasts, Passed};
+
+// The longest lag at eighth rate that can be a low.
+const LONGEST_LOW: usize = 109;
 
 pub enum Found {
     At(usize),
@@ -21,7 +25,7 @@ pub enum Found {
 }
 
 // A low at the lag l; the places 0 to 108 are the lags 2 to 110.
-fn low_at(d: &[u64; 109], e: &[u64; 109], g: Settings, l: usize) -> bool
+fn low_at(d: &[u64; EIGHTH_LAGS], e: &[u64; EIGHTH_LAGS], g: Settings, l: usize) -> bool
     requires { ⌜ (3 ≤ l) × (l ≤ 109) × Modest g × Small 109 (now d) × Small 109 (now e) ⌝ }
     ensures { λ r. ⌜ ((y : Sound) → Measured y (now (d .entry)) (now (e .entry)) → r ≡ isLow g y l) ⌝ }
 {
@@ -47,16 +51,16 @@ struct Lows {
 }
 
 // The greatest D with which a lag can pass: 1/1024 of eps x E at lag 110, the greatest E.
-fn greatest(e: &[u64; 109], g: Settings) -> u64
+fn greatest(e: &[u64; EIGHTH_LAGS], g: Settings) -> u64
     requires { ⌜ Modest g × Small 109 (now e) ⌝ }
     ensures { λ r. ⌜ r ≡ g .eps * getD (now (e .entry)) 108 0 / 1024 ⌝ }
 {
     let p = g.eps as u64;
-    p * e[108] / 1024
+    p * e[LAST_EIGHTH_LAG] / 1024
 }
 
 // The next lag, from l down, whose D is not too great, and 2 where there is none. (Apart from the scan below, since it takes 3 instructions a lag so.)
-fn next_down(d: &[u64; 109], most: u64, l: usize) -> usize
+fn next_down(d: &[u64; EIGHTH_LAGS], most: u64, l: usize) -> usize
     requires { ⌜ (2 ≤ l) × (l ≤ 109) ⌝ }
     ensures { λ r. ⌜ Passed (now (d .entry)) most r l ⌝ }
 {
@@ -71,7 +75,7 @@ fn next_down(d: &[u64; 109], most: u64, l: usize) -> usize
 }
 
 // The lag l is looked at, after those above it.
-fn with_lag(d: &[u64; 109], e: &[u64; 109], g: Settings, l: usize, t: Lows) -> Lows
+fn with_lag(d: &[u64; EIGHTH_LAGS], e: &[u64; EIGHTH_LAGS], g: Settings, l: usize, t: Lows) -> Lows
     requires { ⌜ (3 ≤ l) × (l ≤ 109) × Modest g × Small 109 (now d) × Small 109 (now e) × InOrder l t ⌝ }
     ensures { λ r. ⌜ InOrder (l - 1) r × ((y : Sound) → Measured y (now (d .entry)) (now (e .entry)) → Leasts g y l t → Leasts g y (l - 1) r) ⌝ }
 {
@@ -86,7 +90,7 @@ fn with_lag(d: &[u64; 109], e: &[u64; 109], g: Settings, l: usize, t: Lows) -> L
 }
 
 // The two least lows.
-fn two_least(d: &[u64; 109], e: &[u64; 109], g: Settings) -> Lows
+fn two_least(d: &[u64; EIGHTH_LAGS], e: &[u64; EIGHTH_LAGS], g: Settings) -> Lows
     requires { ⌜ Modest g × Small 109 (now d) × Small 109 (now e) ⌝ }
     ensures { λ r. ⌜ InOrder 2 r × ((y : Sound) → Measured y (now (d .entry)) (now (e .entry)) → Leasts g y 2 r) ⌝ }
 {
@@ -95,7 +99,7 @@ fn two_least(d: &[u64; 109], e: &[u64; 109], g: Settings) -> Lows
         first: 0,
         second: 0,
     };
-    let mut l = next_down(d, most, 109);
+    let mut l = next_down(d, most, LONGEST_LOW);
     while 2 < l {
         t = with_lag(d, e, g, l, t);
         l = next_down(d, most, l - 1);
@@ -142,23 +146,29 @@ fn found_by(s: &[i16], m: usize, t: Lows) -> Found
 }
 
 // Too quiet for any lag to pass: E at lag 110 is below what the floor asks at lag 3.
-fn quiet(e: &[u64; 109], g: Settings) -> bool
+fn quiet(e: &[u64; EIGHTH_LAGS], g: Settings) -> bool
     requires { ⌜ Modest g ⌝ }
     ensures { λ r. ⌜ (r ≡ true → Quiet g (now (e .entry))) ⌝ }
 {
     let f = g.floor as u64;
-    e[108] < f * 6
+    e[LAST_EIGHTH_LAG] < f * 6
 }
 
 // The lag found, from the eighth-rate sums and the first m samples of a store.
-pub fn find(e: &[u64; 109], h: &[i64; 109], g: Settings, s: &[i16], m: usize) -> Found
+pub fn find(
+    e: &[u64; EIGHTH_LAGS],
+    h: &[i64; EIGHTH_LAGS],
+    g: Settings,
+    s: &[i16],
+    m: usize,
+) -> Found
     requires { ⌜ Kept 109 (now e) (now h) × Modest g × Long (now s) m ⌝ }
     ensures { λ r. ⌜ ((y : Sound) → Right y 2 109 (now (e .entry)) (now (h .entry)) → lagOf r ≡ found g (ago (now (s .entry)) m) y) ⌝ }
 {
     if quiet(e, g) {
         return Found::Nothing;
     }
-    let mut d = [0u64; 109];
+    let mut d = [0u64; EIGHTH_LAGS];
     passing::distances(&mut d, e, h);
     let t = two_least(&d, e, g);
     found_by(s, m, t)

@@ -49,10 +49,6 @@ put-fits : {s t s′ : List ℕ} {r : ℕ} → Put s 0 t s′ r → length s′ 
 put-fits {s} {t} p e = omega (arith, ap length (p .text), length-append t (drop (0 + length t) s), e)
 
 -- what was written is within the output
-pub answered-within : {t : Tuner} {line out : List ℕ} {t′ : Tuner} {n : ℕ} {out′ : List ℕ} → Answered t line out t′ n out′ → length out′ ≡ length out → n ≤ length out′
-answered-within (answered r s p) e = omega (arith, p .next, put-fits p e)
-answered-within (no-room r e n o) k = omega arith
-
 pub all-within : {t : Tuner} {input out : List ℕ} {t′ : Tuner} {at n : ℕ} {out′ : List ℕ} → AnsweredAll t input out t′ at n out′ → length out′ ≡ length out → n ≤ length out′
 all-within a e = omega (arith, a .put .next, put-fits (a .put) e)
 

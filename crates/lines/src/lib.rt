@@ -1,13 +1,14 @@
 // The line program's lines: a line is read, answered by the tuner's calls, and the answer is written.
+use rules::LONGEST_BLOCK;
 use tuner::Answer;
 use tuner::Settings;
 use tuner::Tuner;
 ghost use mathlib.Core.Path.{_≡_};
 ghost use mathlib.Core.Bool.{false};
-ghost use Prim.Native.Nat.{ℕ, _+_, _*_, _≤_, _<_};
-ghost use lib.ListN.{length, take};
+ghost use Prim.Native.Nat.{_+_, _≤_, _<_};
+ghost use lib.ListN.{length};
 ghost use Rattle.text.specs.Text.{fields, Put};
-ghost use Rattle.text.specs.Places.{First, optional};
+ghost use Rattle.text.specs.Places.{optional};
 ghost use Rattle.text.specs.Fields.{later};
 ghost use Rattle.lines.specs.Lines.{settingsIn, recordIn, startIn, changeIn, blockIn, resetIn, numberLine, blockLine, Answered, AnsweredAll, unreadable};
 ghost use Rattle.lines.specs.Steps.{NumberRead, SampleRead, SamplesRead, wordOf, Replied};
@@ -271,7 +272,7 @@ fn block_line(t: Tuner, line: &[u8], at: usize, out: &mut [u8]) -> Reply
     }
     let number = k.value as u16;
     let n = c.value;
-    let mut ys = [0i16; 512];
+    let mut ys = [0i16; LONGEST_BLOCK];
     let d = t.block(number, &xs[..n], &mut ys);
     let length = say_block(out, d.answer, &ys);
     let u = d.tuner;

@@ -1,6 +1,8 @@
 // The wanted note of a scale, and the rate toward it.
+use rules::FIRST_NOTE;
 use rules::Goal;
 use rules::InForce;
+use rules::NOTES;
 use rules::Tone;
 ghost use mathlib.Core.Path.{_≡_};
 ghost use mathlib.Core.Option.{some};
@@ -9,8 +11,11 @@ ghost use Rattle.rules.specs.Rules.{table, notePeriod, ofScale, wanted, rawRate
 ghost use Rattle.rules.specs.Facts.{ForceIn, OfTable, ToneIn};
 ghost use Rattle.notes.specs.Around.{Halving, Longer, LastOfScale, FirstOfScale};
 
+// The place past the last note of the table.
+const PAST: u32 = NOTES as u32;
+
 // Places 0 to 68 are the notes 32 to 100. Each use lays the array out anew: once a search.
-const PERIODS: [u32; 69] = [
+const PERIODS: [u32; NOTES] = [
     217471,
     205265,
     193745,
@@ -86,7 +91,7 @@ pub fn note_period(note: u32) -> u32
     requires { ⌜ OfTable note ⌝ }
     ensures { λ r. ⌜ r ≡ notePeriod note ⌝ }
 {
-    PERIODS[(note - 32) as usize]
+    PERIODS[(note - FIRST_NOTE) as usize]
 }
 
 // A note whose number mod 12 is c is of the scale.
@@ -119,7 +124,7 @@ struct Span {
 }
 
 // The half in which the notes with a longer period end.
-fn halved(periods: &[u32; 69], period: u32, s: Span) -> Span
+fn halved(periods: &[u32; NOTES], period: u32, s: Span) -> Span
     requires { ⌜ (now periods ≡ table) × (s .low < s .high) × Halving period (s .low) (s .high) ⌝ }
     ensures { λ r. ⌜ Halving period (r .low) (r .high) × (r .high - r .low < s .high - s .low) ⌝ }
 {
@@ -138,11 +143,11 @@ fn halved(periods: &[u32; 69], period: u32, s: Span) -> Span
 }
 
 // How many notes have a longer period: they are the first of the table.
-fn longer(periods: &[u32; 69], period: u32) -> u32
+fn longer(periods: &[u32; NOTES], period: u32) -> u32
     requires { ⌜ now periods ≡ table ⌝ }
     ensures { λ r. ⌜ Longer period r ⌝ }
 {
-    let mut s = Span { low: 0, high: 69 };
+    let mut s = Span { low: 0, high: PAST };
     while s.low < s.high {
         s = halved(periods, period, s);
     }
@@ -172,8 +177,8 @@ fn first_of_scale(scale: u32, k: u32) -> u32
     ensures { λ r. ⌜ FirstOfScale scale k r ⌝ }
 {
     let mut j = k;
-    let mut c = (32 + k) % 12;
-    while j < 69 {
+    let mut c = (FIRST_NOTE + k) % 12;
+    while j < PAST {
         if of_scale(scale, c) {
             return j;
         }
@@ -184,7 +189,7 @@ fn first_of_scale(scale: u32, k: u32) -> u32
 }
 
 // The place of the wanted note.
-fn nearest(periods: &[u32; 69], scale: u32, period: u32) -> u32
+fn nearest(periods: &[u32; NOTES], scale: u32, period: u32) -> u32
     requires { ⌜ (now periods ≡ table) × (1 ≤ scale) × (scale ≤ 4095) ⌝ }
     ensures { λ r. ⌜ (r < 69) × (wanted scale period ≡ some (32 + r)) ⌝ }
 {
@@ -194,7 +199,7 @@ fn nearest(periods: &[u32; 69], scale: u32, period: u32) -> u32
     if low == 0 {
         return high;
     }
-    if high == 69 {
+    if high == PAST {
         return low - 1;
     }
     let a = periods[(low - 1) as usize];
@@ -234,7 +239,7 @@ fn goal(f: InForce, period: u32) -> Goal
     let k = nearest(&periods, scale, period);
     let raw = raw_rate(period, periods[k as usize]);
     Goal {
-        note: 32 + k,
+        note: FIRST_NOTE + k,
         raw: raw,
     }
 }

@@ -3,7 +3,7 @@ use rules::Settings;
 ghost use mathlib.Core.Path.{_≡_};
 ghost use Prim.Native.Nat.{ℕ, _^_, _≤_};
 ghost use lib.ListN.{length};
-ghost use Rattle.rules.specs.Rules.{Sound, E, D, passes};
+ghost use Rattle.rules.specs.Rules.{Sound, E, D, passes, highestLag};
 ghost use Rattle.rules.specs.Facts.{Right};
 ghost use Rattle.sums.specs.Kept.{RightAt, Kept};
 ghost use Rattle.passing.specs.Distances.{One, Distances, Modest};
@@ -34,7 +34,7 @@ pub fn distances(d: &mut [u64], e: &[u64], h: &[i64])
 
 // A lag passes.
 pub fn passing(g: Settings, d: u64, e: u64, lag: usize) -> bool
-    requires { ⌜ Modest g × (d ≤ 2 ^ 42) × (e ≤ 2 ^ 42) × (lag ≤ 880) ⌝ }
+    requires { ⌜ Modest g × (d ≤ 2 ^ 42) × (e ≤ 2 ^ 42) × (lag ≤ highestLag) ⌝ }
     ensures { λ r. ⌜ ((x : Sound) → d ≡ D x lag → e ≡ E x lag → r ≡ passes g x lag) ⌝ }
 {
     let p = g.eps as u64;

@@ -1,5 +1,6 @@
 // What the sound is found to be: searching for a period, and tracking it.
 use finding::Found;
+use rules::EIGHTH_LAGS;
 use rules::InForce;
 use rules::Tone;
 use tracking::Tracker;
@@ -28,7 +29,7 @@ pub fn no_tone() -> Tone
     Tone {
         period: 0,
         note: 0,
-        rate: 65536,
+        rate: rules::FRESH_RATE,
     }
 }
 
@@ -61,7 +62,14 @@ fn locked(lag: usize, s: &[i16], m: usize) -> Pitch
 }
 
 // Searching, when an eighth-rate sample was just made.
-fn search(v: Pitch, f: InForce, e: &[u64; 109], h: &[i64; 109], s: &[i16], m: usize) -> Pitch
+fn search(
+    v: Pitch,
+    f: InForce,
+    e: &[u64; EIGHTH_LAGS],
+    h: &[i64; EIGHTH_LAGS],
+    s: &[i16],
+    m: usize,
+) -> Pitch
     requires { ⌜ PitchRight (ago (now s) m) v × ForceIn f × Eighth (now e) (now h) × Long (now s) m ⌝ }
     ensures { λ r. ⌜ Searched f (ago (now (s .entry)) m) (now (e .entry)) (now (h .entry)) v r ⌝ }
 {
@@ -117,8 +125,8 @@ pub fn listen(
     v: Pitch,
     f: InForce,
     n: u32,
-    e: &[u64; 109],
-    h: &[i64; 109],
+    e: &[u64; EIGHTH_LAGS],
+    h: &[i64; EIGHTH_LAGS],
     s: &[i16],
     m: usize,
 ) -> Pitch

@@ -1,5 +1,4 @@
 // The read position's growth, and the sample read.
-
 ghost use mathlib.Core.Path.{_≡_};
 ghost use Prim.Native.Nat.{ℕ, _≤_};
 ghost use lib.IntN.{pos, _-ℤ_};
@@ -17,7 +16,7 @@ pub struct Growth {
 
 // How far the position lies behind the input after one sample more; a cycle is repeated or dropped.
 pub fn grow(behind: u32, rate: u32, period: u32) -> Growth
-    requires { ⌜ (behind ≤ 65536000) × Paced rate period ⌝ }
+    requires { ⌜ (behind ≤ rules.farthest) × Paced rate period ⌝ }
     ensures { λ r. ⌜ Grown behind rate period r ⌝ }
 {
     let b = behind + 65536;
@@ -29,7 +28,7 @@ pub fn grow(behind: u32, rate: u32, period: u32) -> Growth
         };
     }
     let k = b - rate;
-    if 65536000 < k {
+    if rules::FARTHEST < k {
         return Growth {
             behind: k - 256 * period,
             repeated: 0,
@@ -56,7 +55,7 @@ fn between(a: i16, b: i16, f: u32) -> i16
 
 // The output, read 5 samples before a position that lies so far behind the newest of the first m samples.
 pub fn read(s: &[i16], m: usize, behind: u32) -> i16
-    requires { ⌜ (m ≤ length (now s)) × (1005 ≤ m) × (behind ≤ 65536000) ⌝ }
+    requires { ⌜ (m ≤ length (now s)) × (1005 ≤ m) × (behind ≤ rules.farthest) ⌝ }
     ensures { λ r. ⌜ ((n : ℕ) → r ≡ rules.reading (ago (now (s .entry)) m) n (rules.inputAt n -ℤ pos behind)) ⌝ }
 {
     let q = (behind + 65535) / 65536;

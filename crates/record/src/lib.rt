@@ -1,6 +1,10 @@
 // The parts of a tuner's record: what was heard, the read head and the last block; each fresh, and each tested. A record is numbers alone, and each
 // part fills whole eights of bytes.
 use pitch::Pitch;
+use rules::EIGHTH_LAGS;
+use rules::KEPT_EIGHTHS;
+use rules::KEPT_SAMPLES;
+use rules::LONGEST_BLOCK;
 use rules::Settings;
 use rules::Tone;
 use tracking::Tracker;
@@ -9,22 +13,27 @@ ghost use Prim.Native.Nat.{ℕ, _+_, _-_, _≤_, _<_};
 ghost use lib.IntN.{pos};
 ghost use lib.ListN.{length};
 ghost use Rattle.whole.specs.Tests.{Decides};
-ghost use Rattle.rules.specs.Rules.{inRange, defaults, notes, firstNote};
-ghost use Rattle.rules.specs.Facts.{ToneIn, OfTable, valueAt};
+ghost use Rattle.rules.specs.Rules.{inRange, defaults};
+ghost use Rattle.rules.specs.Facts.{ToneIn, valueAt};
 ghost use Rattle.ages.specs.Ages.{Samples};
 ghost use Rattle.pitch.specs.Pitches.{PitchRight};
-ghost use Rattle.record.specs.Records.{soundOf, HeardRight, HeadRight, LastRight, AllRight, freshHeard, freshPitch, freshHead, noLast};
+ghost use Rattle.record.specs.Records.{keptSamples, soundOf, HeardRight, LastRight, AllRight, freshHeard, freshPitch, freshHead, noLast};
 ghost use Rattle.record.specs.Parts.{TrackerRight};
+
+// A longest block and how far behind a head may lie, as the record's numbers have them.
+const LONGEST_LENGTH: u16 = LONGEST_BLOCK as u16;
+
+const FARTHEST: u64 = rules::FARTHEST as u64;
 
 // What was heard of a take: its sample count, the newest samples and the newest at eighth rate, oldest first, and the eighth-rate energies and
 // correlations of the lags 2 to 110.
 #[repr(C)]
 pub struct Heard {
     pub count: u64,
-    pub energies: [u64; 109],
-    pub correlations: [i64; 109],
-    pub store: [i16; 1764],
-    pub eighths: [i16; 224],
+    pub energies: [u64; EIGHTH_LAGS],
+    pub correlations: [i64; EIGHTH_LAGS],
+    pub store: [i16; KEPT_SAMPLES],
+    pub eighths: [i16; KEPT_EIGHTHS],
 }
 
 // The read head: how far it lies behind the input, in 1/65536 sample.
@@ -40,7 +49,7 @@ pub struct Last {
     pub length: u16,
     pub repeated: u16,
     pub dropped: u16,
-    pub out: [i16; 512],
+    pub out: [i16; LONGEST_BLOCK],
 }
 
 // ---- fresh
@@ -59,10 +68,10 @@ pub fn default_settings() -> Settings
 pub fn fresh_heard() -> Heard
     ensures { λ r. ⌜ r ≡ freshHeard ⌝ }
 {
-    let energies = [0u64; 109];
-    let correlations = [0i64; 109];
-    let store = [0i16; 1764];
-    let eighths = [0i16; 224];
+    let energies = [0u64; EIGHTH_LAGS];
+    let correlations = [0i64; EIGHTH_LAGS];
+    let store = [0i16; KEPT_SAMPLES];
+    let eighths = [0i16; KEPT_EIGHTHS];
     Heard {
         count: 0,
         energies: energies,
@@ -91,7 +100,7 @@ pub fn fresh_head() -> Head
 pub fn no_last() -> Last
     ensures { λ r. ⌜ r ≡ noLast ⌝ }
 {
-    let out = [0i16; 512];
+    let out = [0i16; LONGEST_BLOCK];
     Last {
         number: 0,
         length: 0,
@@ -156,20 +165,20 @@ fn before(count: u64, kept: usize) -> usize
 fn heard_right(h: Heard) -> bool
     ensures { λ r. ⌜ Decides r (HeardRight h) ⌝ }
 {
-    if h.count > 1000000000 {
+    if h.count > rules::TAKE_LIMIT {
         return false;
     }
     let s = h.store;
-    if !silent(&s, before(h.count, 1764)) {
+    if !silent(&s, before(h.count, KEPT_SAMPLES)) {
         return false;
     }
     let y = h.eighths;
-    if !silent(&y, before(h.count / 8, 224)) {
+    if !silent(&y, before(h.count / 8, KEPT_EIGHTHS)) {
         return false;
     }
     let e = h.energies;
     let c = h.correlations;
-    sums::all_right(&e, &c, 2, &y, 224)
+    sums::all_right(&e, &c, 2, &y, KEPT_EIGHTHS)
 }
 
 // Either a period, a wanted note and a rate in their ranges, or no period and the rate 65536.
@@ -177,23 +186,23 @@ fn tone_right(t: Tone) -> bool
     ensures { λ r. ⌜ Decides r (ToneIn t) ⌝ }
 {
     if t.period == 0 {
-        return t.rate == 65536;
+        return t.rate == rules::FRESH_RATE;
     }
-    if !within(t.period, 4096, 225280) {
+    if !within(t.period, rules::LEAST_PERIOD, rules::GREATEST_PERIOD) {
         return false;
     }
-    if !within(t.note, 32, 100) {
+    if !within(t.note, rules::FIRST_NOTE, rules::LAST_NOTE) {
         return false;
     }
-    within(t.rate, 32768, 131072)
+    within(t.rate, rules::LEAST_RATE, rules::GREATEST_RATE)
 }
 
 // The eight lags while tracking.
 fn tracker_right(t: Tracker, store: &[i16]) -> bool
-    requires { ⌜ (length (now store) ≡ 1764) × Samples (now store) ⌝ }
+    requires { ⌜ (length (now store) ≡ keptSamples) × Samples (now store) ⌝ }
     ensures { λ r. ⌜ Decides r (TrackerRight (soundOf (now (store .entry))) t) ⌝ }
 {
-    if !within(t.low, 16, 873) {
+    if !within(t.low, rules::LOWEST_LAG, rules::HIGHEST_LOW) {
         return false;
     }
     if !within(t.last, t.low, t.low + 7) {
@@ -201,12 +210,12 @@ fn tracker_right(t: Tracker, store: &[i16]) -> bool
     }
     let e = t.e;
     let h = t.h;
-    sums::all_right(&e, &h, t.low as usize, store, 1764)
+    sums::all_right(&e, &h, t.low as usize, store, KEPT_SAMPLES)
 }
 
 // The pitch: searching without a period, or tracking the eight lags.
 fn pitch_right(v: Pitch, store: &[i16]) -> bool
-    requires { ⌜ (length (now store) ≡ 1764) × Samples (now store) ⌝ }
+    requires { ⌜ (length (now store) ≡ keptSamples) × Samples (now store) ⌝ }
     ensures { λ r. ⌜ Decides r (PitchRight (soundOf (now (store .entry))) v) ⌝ }
 {
     let tone = v.tone;
@@ -227,7 +236,7 @@ fn pitch_right(v: Pitch, store: &[i16]) -> bool
 fn last_right(l: Last, count: u64) -> bool
     ensures { λ r. ⌜ Decides r (LastRight count l) ⌝ }
 {
-    if l.length > 512 {
+    if l.length > LONGEST_LENGTH {
         return false;
     }
     l.length as u64 <= count
@@ -243,7 +252,7 @@ pub fn all_right(s: Settings, h: Heard, v: Pitch, d: Head, l: Last) -> bool
     if !last_right(l, h.count) {
         return false;
     }
-    if d.behind > 65536000 {
+    if d.behind > FARTHEST {
         return false;
     }
     if !heard_right(h) {

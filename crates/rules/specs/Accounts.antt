@@ -24,10 +24,6 @@ accounted at rates gs = at +ℤ pos (totalOf rates) -ℤ pos (cycles (allRepeate
 
 -- ---- a take made of pieces
 
--- a change of the settings alone: a piece without samples
-abbrev pub unheard : InForce → Piece
-unheard f = record { inForce = f; samples = [] }
-
 -- what is in force at each piece is in its ranges
 abbrev pub InRanges : List Piece → Type 0
 InRanges [] = Unit
@@ -147,31 +143,6 @@ module _ (t : Take) (ps : List Piece) (p : Piece) where
   pub givesPieces-more : givesPieces t (ps ++ (p ∷ [])) ≡ givesPieces t ps ++ gives (p .inForce) (afterPieces t ps) (p .samples)
   givesPieces-more = overPieces-more gives
 
-  pub ratesPieces-more : ratesPieces t (ps ++ (p ∷ [])) ≡ ratesPieces t ps ++ ratesUsed (p .inForce) (afterPieces t ps) (p .samples)
-  ratesPieces-more = overPieces-more ratesUsed
-
--- a change of the settings alone, anywhere, adds nothing
-module _ (t : Take) (ps : List Piece) (f : InForce) (qs : List Piece) where
-  pub afterPieces-unheard : afterPieces t (ps ++ (unheard f ∷ qs)) ≡ afterPieces t (ps ++ qs)
-  unfolding afterPieces after
-  afterPieces-unheard = afterPieces-append t ps (unheard f ∷ qs) ∙ sym (afterPieces-append t ps qs)
-
-  overPieces-unheard : {A : Type 0} (part : InForce → Take → List ℤ → List A) → ((u : Take) → part f u [] ≡ [])
-      → overPieces part t (ps ++ (unheard f ∷ qs)) ≡ overPieces part t (ps ++ qs)
-  unfolding overPieces after
-  overPieces-unheard part e =
-      overPieces-append part t ps (unheard f ∷ qs)
-      ∙ ap (λ l. overPieces part t ps ++ (l ++ overPieces part (afterPieces t ps) qs)) (e (afterPieces t ps))
-      ∙ sym (overPieces-append part t ps qs)
-
-  pub givesPieces-unheard : givesPieces t (ps ++ (unheard f ∷ qs)) ≡ givesPieces t (ps ++ qs)
-  unfolding gives
-  givesPieces-unheard = overPieces-unheard gives (λ u. refl)
-
-  pub ratesPieces-unheard : ratesPieces t (ps ++ (unheard f ∷ qs)) ≡ ratesPieces t (ps ++ qs)
-  unfolding ratesUsed
-  ratesPieces-unheard = overPieces-unheard ratesUsed (λ u. refl)
-
 -- ---- settings in range: every range is kept, at every sample
 sane-from : {t : Take} → Sane t → (ps : List Piece) → InRanges ps → Sane (afterPieces t ps)
 unfolding afterPieces
@@ -181,10 +152,6 @@ sane-from h (p ∷ ps) r = sane-from (after-sane (r .0) h (p .samples)) ps (r .1
 module _ (ps : List Piece) (r : InRanges ps) where
   pub pieces-sane : Sane (afterPieces freshTake ps)
   pieces-sane = sane-from fresh-sane ps r
-
-  -- also within a piece: xs is any beginning of the samples that come next
-  pub pieces-sane-within : {f : InForce} → ForceIn f → (xs : List ℤ) → Sane (after f (afterPieces freshTake ps) xs)
-  pieces-sane-within q xs = after-sane q pieces-sane xs
 
   -- never ahead, never over 1,000 samples behind
   pub pieces-in-bounds : {f : InForce} → ForceIn f → (xs : List ℤ) → InBounds (length (samplesPieces ps) + length xs) (after f (afterPieces freshTake ps) xs .position)

@@ -69,13 +69,6 @@ module _ (test : ℕ → Bool) (from n : ℕ) where
   pub least-none : leastFrom test from n ≡ none → (m : ℕ) → from ≤ m → m < from + n → test m ≡ false
   least-none e = subst (Answers test from n) e (least-answers test from n)
 
-  pub is-least : {L : ℕ} → Least test from (from + n) L → leastFrom test from n ≡ some L
-  is-least {L} l = go (leastFrom test from n) (least-answers test from n)
-    where
-      go : (o : Option ℕ) → Answers test from n o → o ≡ some L
-      go none f = absurd (yes-and-no (l .holds) (f L (l .over) (l .under)))
-      go (some M) r = ap some (least-one r l)
-
   pub is-none : ((m : ℕ) → from ≤ m → m < from + n → test m ≡ false) → leastFrom test from n ≡ none
   is-none f = go (leastFrom test from n) (least-answers test from n)
     where

@@ -1,4 +1,57 @@
-// Document 01 as definitions, with their laws: they stand in specs/. What code and definitions share is declared here.
+// Document 01 as definitions, with their laws: they stand in specs/. What code and definitions share is declared here, and numbers that code has in more than one place.
+
+// The most samples of a block.
+pub const LONGEST_BLOCK: usize = 512;
+
+// The most samples of a take.
+pub const TAKE_LIMIT: u64 = 1000000000;
+
+// The newest samples that are kept.
+pub const KEPT_SAMPLES: usize = 1764;
+
+// The newest samples at eighth rate that are kept.
+pub const KEPT_EIGHTHS: usize = 224;
+
+// Places for the kept samples and a block's.
+pub const OPEN_SAMPLES: usize = KEPT_SAMPLES + LONGEST_BLOCK;
+
+// Places for the kept samples at eighth rate and a block's.
+pub const OPEN_EIGHTHS: usize = KEPT_EIGHTHS + LONGEST_BLOCK / 8;
+
+// The lags 2 to 110 at eighth rate.
+pub const EIGHTH_LAGS: usize = 109;
+
+// The place of the longest of them.
+pub const LAST_EIGHTH_LAG: usize = EIGHTH_LAGS - 1;
+
+// The lags that are tracked, and so the periods in 1/256 sample.
+pub const LOWEST_LAG: u32 = 16;
+
+pub const HIGHEST_LAG: u32 = 880;
+
+pub const LEAST_PERIOD: u32 = 256 * LOWEST_LAG;
+
+pub const GREATEST_PERIOD: u32 = 256 * HIGHEST_LAG;
+
+// The highest that the lowest of eight lags can be.
+pub const HIGHEST_LOW: u32 = HIGHEST_LAG - 7;
+
+// The table: its first note, its last, and how many it holds.
+pub const FIRST_NOTE: u32 = 32;
+
+pub const LAST_NOTE: u32 = 100;
+
+pub const NOTES: usize = 69;
+
+// The rate of a fresh tuner, and the least and the greatest.
+pub const FRESH_RATE: u32 = 65536;
+
+pub const LEAST_RATE: u32 = 32768;
+
+pub const GREATEST_RATE: u32 = 131072;
+
+// How far the position may lie behind the input: 1,000 samples.
+pub const FARTHEST: u32 = 1000 * 65536;
 
 // scale: a mask of 12 bits, bit = note number mod 12; eps in 1/1024; decay in 1/256; floor: a mean square.
 #[repr(C)]

@@ -1,6 +1,10 @@
 // One sample after the other: what a block does.
 use pitch::Pitch;
+use rules::EIGHTH_LAGS;
 use rules::InForce;
+use rules::LAST_EIGHTH_LAG;
+use rules::LONGEST_BLOCK;
+use rules::OPEN_EIGHTHS;
 ghost use mathlib.Core.Path.{_≡_};
 ghost use mathlib.Core.Bool.{true, false};
 ghost use Prim.Native.Nat.{_+_, _%_, _≤_, _<_};
@@ -25,18 +29,22 @@ pub struct Progress {
 }
 
 // Silence goes on: the sample is 0, and so are those that the sums look at.
-fn still_silent(x: i16, e: &[u64; 109]) -> bool
+fn still_silent(x: i16, e: &[u64; EIGHTH_LAGS]) -> bool
     ensures { λ r. ⌜ (r ≡ true → (x ≡ pos 0) × (getD (now (e .entry)) 108 0 ≡ 0)) ⌝ }
 {
-    if x == 0 { e[108] == 0 } else { false }
+    if x == 0 {
+        e[LAST_EIGHTH_LAG] == 0
+    } else {
+        false
+    }
 }
 
 // The eighth-rate sample is made and stored, and the sums at eighth rate are brought up to it.
 fn eighth(
-    y: &mut [i16; 288],
+    y: &mut [i16; OPEN_EIGHTHS],
     places: usize,
-    e: &mut [u64; 109],
-    h: &mut [i64; 109],
+    e: &mut [u64; EIGHTH_LAGS],
+    h: &mut [i64; EIGHTH_LAGS],
     s: &[i16],
     m: usize,
 )
@@ -53,10 +61,10 @@ fn eighth(
 
 // An eighth-rate sample is made after samples 8, 16, 24, ..: sample number n is the newest of the first m. How many are stored then.
 fn hear(
-    y: &mut [i16; 288],
+    y: &mut [i16; OPEN_EIGHTHS],
     places: usize,
-    e: &mut [u64; 109],
-    h: &mut [i64; 109],
+    e: &mut [u64; EIGHTH_LAGS],
+    h: &mut [i64; EIGHTH_LAGS],
     n: u32,
     s: &[i16],
     m: usize,
@@ -75,15 +83,15 @@ fn hear(
 fn step(
     p: Progress,
     f: InForce,
-    y: &mut [i16; 288],
-    e: &mut [u64; 109],
-    h: &mut [i64; 109],
+    y: &mut [i16; OPEN_EIGHTHS],
+    e: &mut [u64; EIGHTH_LAGS],
+    h: &mut [i64; EIGHTH_LAGS],
     s: &[i16],
     m: usize,
-    out: &mut [i16; 512],
-    periods: &mut [u32; 512],
-    notes: &mut [u32; 512],
-    rates: &mut [u32; 512],
+    out: &mut [i16; LONGEST_BLOCK],
+    periods: &mut [u32; LONGEST_BLOCK],
+    notes: &mut [u32; LONGEST_BLOCK],
+    rates: &mut [u32; LONGEST_BLOCK],
     i: usize,
 ) -> Progress
     requires { ⌜ ForceIn f × Long (now s) m × (m < length (now s)) × (i < 512) × Ready (now s) m (now y) (now e) (now h) p × Room p ⌝ }
@@ -116,16 +124,16 @@ fn step(
 pub fn run(
     p: Progress,
     f: InForce,
-    y: &mut [i16; 288],
-    e: &mut [u64; 109],
-    h: &mut [i64; 109],
+    y: &mut [i16; OPEN_EIGHTHS],
+    e: &mut [u64; EIGHTH_LAGS],
+    h: &mut [i64; EIGHTH_LAGS],
     s: &[i16],
     m: usize,
     b: usize,
-    out: &mut [i16; 512],
-    periods: &mut [u32; 512],
-    notes: &mut [u32; 512],
-    rates: &mut [u32; 512],
+    out: &mut [i16; LONGEST_BLOCK],
+    periods: &mut [u32; LONGEST_BLOCK],
+    notes: &mut [u32; LONGEST_BLOCK],
+    rates: &mut [u32; LONGEST_BLOCK],
 ) -> Progress
     requires { ⌜ ForceIn f × Long (now s) m × (m + b ≤ length (now s)) × (b ≤ 512) × Ready (now s) m (now y) (now e) (now h) p × Begins b p × (length (now out) ≡ 512) × Long512 (tones (now periods) (now notes) (now rates)) ⌝ }
     ensures { λ r. ⌜ Ready (now (s .entry)) (m + b) (now (y .exit)) (now (e .exit)) (now (h .exit)) r × Ran f (takeSoFar (now (s .entry)) m (now (y .entry)) p) (take b (drop m (now (s .entry)))) (takeSoFar (now (s .entry)) (m + b) (now (y .exit)) r) (now (out .entry)) (now (out .exit)) (tones (now (periods .entry)) (now (notes .entry)) (now (rates .entry))) (tones (now (periods .exit)) (now (notes .exit)) (now (rates .exit))) p r × Ended b p r ⌝ }

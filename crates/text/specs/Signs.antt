@@ -17,10 +17,6 @@ pub below-fits : (n : ℕ) → n ≤ 32768 → SFits w16 (negℤ (pos n))
 below-fits zero h = record { sfits = omega arith }
 below-fits (suc n) h = record { sfits = omega arith }
 
-pub below-size : (n : ℕ) → natAbs (negℤ (pos n)) ≡ n
-below-size zero = refl
-below-size (suc n) = refl
-
 -- a sample below 0
 pub turned-up : (x : ℤ) → x <ℤ pos 0 → SFits w16 x → T (nonNeg (negℤ x)) × Fits w32 (natAbs (negℤ x)) × (natAbs (negℤ x) ≡ natAbs x)
 turned-up (pos n) l f = absurd (omega (arith, ltb→lt n 0 (l .lt)))

@@ -5,7 +5,7 @@ ghost use Prim.Native.Nat.{_+_, _-_, _*_, _^_, _≤_, _<_};
 ghost use lib.IntN.{natAbs};
 ghost use Rattle.whole.specs.Numbers.{floorDiv};
 ghost use Rattle.rules.specs.Facts.{Right};
-ghost use Rattle.rules.specs.Rules.{Sound, older, E, D, isLost, offset, moved};
+ghost use Rattle.rules.specs.Rules.{Sound, older, E, D, lowestLag, highestLag, isLost, offset, moved};
 ghost use Rattle.rules.specs.Choosing.{First};
 ghost use Rattle.ages.specs.Ages.{ago};
 ghost use Rattle.passing.specs.Distances.{Modest, Long, Distances, Small};
@@ -68,7 +68,7 @@ fn least(d: &[u64; 8]) -> usize
 
 // The period in 1/256 sample, where the best of the eight lags from low on is the one at a place.
 fn period(d: &[u64; 8], low: u32, at: usize) -> u32
-    requires { ⌜ First (place (now d)) 8 at × (16 ≤ low) × (low ≤ 873) × Small 8 (now d) ⌝ }
+    requires { ⌜ First (place (now d)) 8 at × (lowestLag ≤ low) × (low ≤ highestLag - 7) × Small 8 (now d) ⌝ }
     ensures { λ r. ⌜ ((x : Sound) → Distances x low 8 (now (d .entry)) → PeriodAt x low at r) ⌝ }
 {
     let n = at as u32;
@@ -89,13 +89,21 @@ fn period(d: &[u64; 8], low: u32, at: usize) -> u32
 
 // The lowest lag after the step.
 fn moved_low(low: u32, at: usize) -> u32
-    requires { ⌜ (16 ≤ low) × (low ≤ 873) × (at < 8) ⌝ }
+    requires { ⌜ (lowestLag ≤ low) × (low ≤ highestLag - 7) × (at < 8) ⌝ }
     ensures { λ r. ⌜ r ≡ moved low at ⌝ }
 {
     if at < 3 {
-        if low == 16 { low } else { low - 1 }
+        if low == rules::LOWEST_LAG {
+            low
+        } else {
+            low - 1
+        }
     } else if 4 < at {
-        if low == 873 { low } else { low + 1 }
+        if low == rules::HIGHEST_LOW {
+            low
+        } else {
+            low + 1
+        }
     } else {
         low
     }
@@ -103,7 +111,7 @@ fn moved_low(low: u32, at: usize) -> u32
 
 // Lost: the best lag doesn't pass, or differs by more than 3 from the last.
 fn lost(d: u64, e: u64, g: Settings, lag: u32, last: u32) -> bool
-    requires { ⌜ Modest g × (d ≤ 2 ^ 42) × (e ≤ 2 ^ 42) × (lag ≤ 880) × (last ≤ 880) ⌝ }
+    requires { ⌜ Modest g × (d ≤ 2 ^ 42) × (e ≤ 2 ^ 42) × (lag ≤ highestLag) × (last ≤ highestLag) ⌝ }
     ensures { λ r. ⌜ ((x : Sound) → d ≡ D x lag → e ≡ E x lag → r ≡ isLost g x lag last) ⌝ }
 {
     if lag > last + 3 {
@@ -124,7 +132,7 @@ pub struct Tracked {
 
 // The sums of the eight lags from another lowest on; where it is the same, they stay.
 fn moved_sums(e: &mut [u64; 8], h: &mut [i64; 8], from: u32, to: u32, s: &[i16], m: usize)
-    requires { ⌜ (16 ≤ to) × (to ≤ 873) × Long (now s) m × Right (ago (now s) m) from 8 (now e) (now h) ⌝ }
+    requires { ⌜ (lowestLag ≤ to) × (to ≤ highestLag - 7) × Long (now s) m × Right (ago (now s) m) from 8 (now e) (now h) ⌝ }
     ensures { λ r. ⌜ Right (ago (now (s .entry)) m) to 8 (now (e .exit)) (now (h .exit)) ⌝ }
 {
     if from == to {
@@ -136,7 +144,7 @@ fn moved_sums(e: &mut [u64; 8], h: &mut [i64; 8], from: u32, to: u32, s: &[i16],
 impl Tracker {
     // Tracks the eight lags from low on, with a last best lag, their sums right at once.
     pub fn at(low: u32, last: u32, s: &[i16], m: usize) -> Tracker
-        requires { ⌜ (16 ≤ low) × (low ≤ 873) × Long (now s) m ⌝ }
+        requires { ⌜ (lowestLag ≤ low) × (low ≤ highestLag - 7) × Long (now s) m ⌝ }
         ensures { λ r. ⌜ Tracks (ago (now (s .entry)) m) low last r ⌝ }
     {
         let mut e = [0u64; 8];
@@ -152,7 +160,7 @@ impl Tracker {
 
     // One more sample.
     pub fn update(self, s: &[i16], m: usize) -> Tracker
-        requires { ⌜ (16 ≤ self .low) × (self .low ≤ 873) × Long (now s) m × Right (older (ago (now s) m)) (self .low) 8 (self .e) (self .h) ⌝ }
+        requires { ⌜ (lowestLag ≤ self .low) × (self .low ≤ highestLag - 7) × Long (now s) m × Right (older (ago (now s) m)) (self .low) 8 (self .e) (self .h) ⌝ }
         ensures { λ r. ⌜ Tracks (ago (now (s .entry)) m) (self .low) (self .last) r ⌝ }
     {
         let low = self.low;
@@ -169,7 +177,7 @@ impl Tracker {
 
     // A tracking step.
     pub fn step(self, g: Settings, s: &[i16], m: usize) -> Tracked
-        requires { ⌜ (16 ≤ self .low) × (self .low ≤ 873) × (self .last ≤ 880) × Modest g × Long (now s) m × Right (ago (now s) m) (self .low) 8 (self .e) (self .h) ⌝ }
+        requires { ⌜ (lowestLag ≤ self .low) × (self .low ≤ highestLag - 7) × (self .last ≤ highestLag) × Modest g × Long (now s) m × Right (ago (now s) m) (self .low) 8 (self .e) (self .h) ⌝ }
         ensures { λ r. ⌜ Stepped g (ago (now (s .entry)) m) self r ⌝ }
     {
         let mut e = self.e;

@@ -8,6 +8,9 @@ use record::Head;
 use record::Heard;
 use record::Last;
 use rules::InForce;
+use rules::KEPT_EIGHTHS;
+use rules::KEPT_SAMPLES;
+use rules::LONGEST_BLOCK;
 pub use rules::Settings;
 use steps::Progress;
 ghost use mathlib.Core.Path.{_≡_};
@@ -92,7 +95,7 @@ fn judge(t: Tuner, number: u16, samples: &[i16], room: usize) -> u32
     if n == 0 {
         return 2;
     }
-    if n > 512 {
+    if n > LONGEST_BLOCK {
         return 3;
     }
     if room < n {
@@ -124,13 +127,13 @@ fn after_block(t: Tuner, number: u16, samples: &[i16]) -> Tuner
     let v = t.pitch;
     let s = copying::joined(store, samples);
     let mut y = copying::opened(eighths);
-    let mut out = [0i16; 512];
-    let mut periods = [0u32; 512];
-    let mut notes = [0u32; 512];
-    let mut rates = [0u32; 512];
+    let mut out = [0i16; LONGEST_BLOCK];
+    let mut periods = [0u32; LONGEST_BLOCK];
+    let mut notes = [0u32; LONGEST_BLOCK];
+    let mut rates = [0u32; LONGEST_BLOCK];
     let p = Progress {
         count: t.heard.count as u32,
-        places: 224,
+        places: KEPT_EIGHTHS,
         behind: t.head.behind as u32,
         repeated: 0,
         dropped: 0,
@@ -143,17 +146,17 @@ fn after_block(t: Tuner, number: u16, samples: &[i16]) -> Tuner
         &mut e,
         &mut h,
         &s,
-        1764,
+        KEPT_SAMPLES,
         n,
         &mut out,
         &mut periods,
         &mut notes,
         &mut rates,
     );
-    let mut kept = [0i16; 1764];
+    let mut kept = [0i16; KEPT_SAMPLES];
     copying::keep(&mut kept, &s, n);
-    let mut kept8 = [0i16; 224];
-    copying::keep(&mut kept8, &y, q.places - 224);
+    let mut kept8 = [0i16; KEPT_EIGHTHS];
+    copying::keep(&mut kept8, &y, q.places - KEPT_EIGHTHS);
     Tuner {
         settings: g,
         heard: Heard {

@@ -96,9 +96,6 @@ near-range n b (pos a) h k = (omega arith, omega arith)
 near-range n b (negsuc a) h k = rw (subℕ-ge n (suc a) (omega arith)) (omega arith, omega arith)
 
 -- ---- what is not negative
-pub pos-nonneg : (n : ℕ) → pos 0 ≤ℤ pos n
-pos-nonneg n = record { le = le→leb 0 n (omega arith) }
-
 pub square-pos : (a : ℤ) → pos (natAbs (a *ℤ a)) ≡ a *ℤ a
 square-pos (pos n) = refl
 square-pos (negsuc n) = refl

@@ -40,10 +40,6 @@ pub and-no : (a : Bool) {b : Bool} → b ≡ false → a && b ≡ false
 and-no true e = e
 and-no false e = refl
 
-pub T-true : {b : Bool} → T b → b ≡ true
-T-true {b = true} t = refl
-T-true {b = false} t = absurd t
-
 pub true-T : {b : Bool} → b ≡ true → T b
 true-T e = subst T (sym e) tt
 

@@ -94,9 +94,6 @@ module _ {w : Width} {A B m n : ℕ} {a b : ℤ} (p : Bits w A m a) (q : Bits w 
   mul t = kept (λ i. p .reads i *ℤ q .reads i) (w-mul (p .size) (q .size)) t
 
   -- a quotient, rounded toward zero
-  pub div-ok : T (ltb A (2 ^ hbits w)) → SFits w (quotZ (toZ w m) (toZ w n))
-  div-ok t = ok (λ i. quotZ (p .reads i) (q .reads i)) (record { within = le-trans (natAbs-quot a b) (p .size .within) }) t
-
   pub div : T (ltb A (2 ^ hbits w)) → Bits w A (ofZ w (quotZ (toZ w m) (toZ w n))) (quotZ a b)
   div t = kept (λ i. quotZ (p .reads i) (q .reads i)) (record { within = le-trans (natAbs-quot a b) (p .size .within) }) t
 
