@@ -1,9 +1,7 @@
 //! All samples of a take. Samples before the first count as 0.
 
-use crate::rules::HIGHEST_LAG;
-
-/// As many zeros stand before the take as the longest energy reaches back.
-const SILENCE_BEFORE: usize = 2 * HIGHEST_LAG;
+/// As many zeros stand before the take as anything looks back.
+pub const SILENCE_BEFORE: usize = 1_760;
 
 #[derive(Clone, Debug, PartialEq, Eq)]
 pub struct History {

@@ -5,7 +5,7 @@
 //! in the vertex and 2^52 in the test of eps. Positions stay below
 //! 10^9 x 2^16 < 2^46.
 
-use crate::history::History;
+use crate::history::{History, SILENCE_BEFORE};
 use crate::settings::Settings;
 use crate::table::{period_of, HIGHEST_NOTE, LOWEST_NOTE};
 
@@ -14,6 +14,9 @@ pub const LOWEST_LAG: usize = 16;
 pub const HIGHEST_LAG: usize = 880;
 /// How many lags are tracked.
 pub const TRACKED: usize = 8;
+
+/// The longest energy does not reach back beyond the silence before a take.
+const _: () = assert!(2 * HIGHEST_LAG <= SILENCE_BEFORE);
 
 /// Period units (1/256 sample) and position units (1/65536) in a sample.
 pub const PERIOD_UNIT: i64 = 256;
