@@ -36,12 +36,12 @@ pub const GREATEST_PERIOD: u32 = 256 * HIGHEST_LAG;
 // The highest that the lowest of eight lags can be.
 pub const HIGHEST_LOW: u32 = HIGHEST_LAG - 7;
 
-// The table: its first note, its last, and how many it holds.
+// The table: how many notes it holds, its first and its last.
+pub const NOTES: usize = 69;
+
 pub const FIRST_NOTE: u32 = 32;
 
-pub const LAST_NOTE: u32 = 100;
-
-pub const NOTES: usize = 69;
+pub const LAST_NOTE: u32 = FIRST_NOTE + NOTES as u32 - 1;
 
 // The rate of a fresh tuner, and the least and the greatest.
 pub const FRESH_RATE: u32 = 65536;
