@@ -6,6 +6,7 @@ use Prim.Native.Nat.{ℕ, _+_, _-_, _%_, _≤_, _<_}
 use lib.Dec.{eqb}
 use lib.IntN.{ℤ}
 use lib.ListN.{length, drop}
+use Rattle.rules.specs.Rules.{takeLimit, keptSamples}
 use Rattle.answers.specs.declared.Answer.{Answer}
 
 -- an answer with this number and counts 0
@@ -23,7 +24,7 @@ following size last = cond (eqb size 0) 0 ((last + 1) % 65536)
 -- given again, refused with 5, 6 or 7, or taken
 pub data Numbered (count last size : ℕ) (store : List ℤ) (k : ℕ) (xs : List ℤ) : ℕ → Type 0 where
   neither : (HasNumber size last k → ⊥) → (k ≡ following size last → ⊥) → Numbered count last size store k xs 5
-  other : HasNumber size last k → (xs ≡ drop (1764 - size) store → ⊥) → Numbered count last size store k xs 6
-  again : HasNumber size last k → xs ≡ drop (1764 - size) store → Numbered count last size store k xs 1
-  full : (HasNumber size last k → ⊥) → k ≡ following size last → 1000000000 < count + length xs → Numbered count last size store k xs 7
-  new : (HasNumber size last k → ⊥) → k ≡ following size last → count + length xs ≤ 1000000000 → Numbered count last size store k xs 0
+  other : HasNumber size last k → (xs ≡ drop (keptSamples - size) store → ⊥) → Numbered count last size store k xs 6
+  again : HasNumber size last k → xs ≡ drop (keptSamples - size) store → Numbered count last size store k xs 1
+  full : (HasNumber size last k → ⊥) → k ≡ following size last → takeLimit < count + length xs → Numbered count last size store k xs 7
+  new : (HasNumber size last k → ⊥) → k ≡ following size last → count + length xs ≤ takeLimit → Numbered count last size store k xs 0

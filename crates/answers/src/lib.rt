@@ -3,6 +3,7 @@ use rules::KEPT_SAMPLES;
 ghost use mathlib.Core.Path.{_≡_};
 ghost use Prim.Native.Nat.{_+_, _-_, _≤_};
 ghost use lib.ListN.{length, drop};
+ghost use Rattle.rules.specs.Rules.{takeLimit, longestBlock, keptSamples};
 ghost use Rattle.whole.specs.Tests.{Decides};
 ghost use Rattle.answers.specs.Numbering.{HasNumber, following, Numbered, plain};
 
@@ -29,7 +30,7 @@ pub fn plain(number: u32) -> Answer
 
 // The samples are those of the store from a place on.
 fn same(samples: &[i16], store: &[i16; KEPT_SAMPLES], from: usize) -> bool
-    requires { ⌜ (length (now store) ≡ 1764) × (from + length (now samples) ≡ 1764) ⌝ }
+    requires { ⌜ (length (now store) ≡ keptSamples) × (from + length (now samples) ≡ keptSamples) ⌝ }
     ensures { λ r. ⌜ Decides r (now (samples .entry) ≡ drop from (now (store .entry))) ⌝ }
 {
     let mut i: usize = 0;
@@ -44,8 +45,8 @@ fn same(samples: &[i16], store: &[i16; KEPT_SAMPLES], from: usize) -> bool
 
 // The samples are those of the last block: the newest of the store, so many as it had.
 fn again(samples: &[i16], store: &[i16; KEPT_SAMPLES], size: u16) -> bool
-    requires { ⌜ (length (now store) ≡ 1764) × (size ≤ 512) ⌝ }
-    ensures { λ r. ⌜ Decides r (now (samples .entry) ≡ drop (1764 - size) (now (store .entry))) ⌝ }
+    requires { ⌜ (length (now store) ≡ keptSamples) × (size ≤ longestBlock) ⌝ }
+    ensures { λ r. ⌜ Decides r (now (samples .entry) ≡ drop (keptSamples - size) (now (store .entry))) ⌝ }
 {
     let n = size as usize;
     if samples.len() != n {
@@ -83,7 +84,7 @@ pub fn judge_number(
     number: u16,
     samples: &[i16],
 ) -> u32
-    requires { ⌜ (length (now store) ≡ 1764) × (count ≤ 1000000000) × (size ≤ 512) × (length (now samples) ≤ 512) ⌝ }
+    requires { ⌜ (length (now store) ≡ keptSamples) × (count ≤ takeLimit) × (size ≤ longestBlock) × (length (now samples) ≤ longestBlock) ⌝ }
     ensures { λ r. ⌜ Numbered count last size (now (store .entry)) number (now (samples .entry)) r ⌝ }
 {
     if is_last(size, last, number) {

@@ -7,6 +7,7 @@ ghost use mathlib.Core.Path.{_≡_};
 ghost use mathlib.Core.List.{_++_, []};
 ghost use Prim.Native.Nat.{_+_, _≤_};
 ghost use lib.ListN.{length, take, drop};
+ghost use Rattle.rules.specs.Rules.{longestBlock};
 ghost use Rattle.ages.specs.Ages.{Samples};
 ghost use Rattle.copying.specs.Copies.{laid, Joined};
 
@@ -26,7 +27,7 @@ pub fn lay(into: &mut [i16], from: usize, xs: &[i16])
 
 // The kept samples, and the block's after them, in one store.
 pub fn joined(store: [i16; KEPT_SAMPLES], samples: &[i16]) -> [i16; OPEN_SAMPLES]
-    requires { ⌜ length (now samples) ≤ 512 ⌝ }
+    requires { ⌜ length (now samples) ≤ longestBlock ⌝ }
     ensures { λ r. ⌜ Joined store (now (samples .entry)) 2276 r ⌝ }
 {
     let mut all = [0i16; OPEN_SAMPLES];

@@ -3,6 +3,7 @@ use rules::LONGEST_BLOCK;
 ghost use mathlib.Core.Path.{_≡_};
 ghost use Prim.Native.Nat.{_*_};
 ghost use lib.ListN.{take, drop};
+ghost use Rattle.rules.specs.Rules.{longestBlock};
 ghost use Rattle.cutting.specs.Cuts.{Cut};
 
 // A stretch of a recording: the sample where it begins, and how many it has.
@@ -34,7 +35,7 @@ pub fn place(length: usize, k: usize) -> Stretch
 
 // That stretch of the caller's own samples.
 pub fn cut<'a>(recording: &'a [i16], k: usize) -> &'a [i16]
-    ensures { λ r. ⌜ now r ≡ take 512 (drop (512 * k) (now (recording .entry))) ⌝ }
+    ensures { λ r. ⌜ now r ≡ take longestBlock (drop (longestBlock * k) (now (recording .entry))) ⌝ }
 {
     let s = place(recording.len(), k);
     let from = s.from;

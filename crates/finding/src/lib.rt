@@ -7,7 +7,7 @@ ghost use mathlib.Core.Bool.{true};
 ghost use mathlib.Core.Option.{some};
 ghost use Prim.Native.Nat.{_-_, _*_, _/_, _≤_, _<_};
 ghost use lib.ListN.{getD};
-ghost use Rattle.rules.specs.Rules.{Sound, D, isLow, choice, found};
+ghost use Rattle.rules.specs.Rules.{Sound, D, isLow, choice, found, eighthLags};
 ghost use Rattle.ages.specs.Ages.{ago};
 ghost use Rattle.sums.specs.Kept.{Enough, Kept};
 ghost use Rattle.rules.specs.Facts.{Right};
@@ -26,7 +26,7 @@ pub enum Found {
 
 // A low at the lag l; the places 0 to 108 are the lags 2 to 110.
 fn low_at(d: &[u64; EIGHTH_LAGS], e: &[u64; EIGHTH_LAGS], g: Settings, l: usize) -> bool
-    requires { ⌜ (3 ≤ l) × (l ≤ 109) × Modest g × Small 109 (now d) × Small 109 (now e) ⌝ }
+    requires { ⌜ (3 ≤ l) × (l ≤ 109) × Modest g × Small eighthLags (now d) × Small eighthLags (now e) ⌝ }
     ensures { λ r. ⌜ ((y : Sound) → Measured y (now (d .entry)) (now (e .entry)) → r ≡ isLow g y l) ⌝ }
 {
     let d1 = d[l - 3];
@@ -52,7 +52,7 @@ struct Lows {
 
 // The greatest D with which a lag can pass: 1/1024 of eps x E at lag 110, the greatest E.
 fn greatest(e: &[u64; EIGHTH_LAGS], g: Settings) -> u64
-    requires { ⌜ Modest g × Small 109 (now e) ⌝ }
+    requires { ⌜ Modest g × Small eighthLags (now e) ⌝ }
     ensures { λ r. ⌜ r ≡ g .eps * getD (now (e .entry)) 108 0 / 1024 ⌝ }
 {
     let p = g.eps as u64;
@@ -76,7 +76,7 @@ fn next_down(d: &[u64; EIGHTH_LAGS], most: u64, l: usize) -> usize
 
 // The lag l is looked at, after those above it.
 fn with_lag(d: &[u64; EIGHTH_LAGS], e: &[u64; EIGHTH_LAGS], g: Settings, l: usize, t: Lows) -> Lows
-    requires { ⌜ (3 ≤ l) × (l ≤ 109) × Modest g × Small 109 (now d) × Small 109 (now e) × InOrder l t ⌝ }
+    requires { ⌜ (3 ≤ l) × (l ≤ 109) × Modest g × Small eighthLags (now d) × Small eighthLags (now e) × InOrder l t ⌝ }
     ensures { λ r. ⌜ InOrder (l - 1) r × ((y : Sound) → Measured y (now (d .entry)) (now (e .entry)) → Leasts g y l t → Leasts g y (l - 1) r) ⌝ }
 {
     if low_at(d, e, g, l) {
@@ -91,7 +91,7 @@ fn with_lag(d: &[u64; EIGHTH_LAGS], e: &[u64; EIGHTH_LAGS], g: Settings, l: usiz
 
 // The two least lows.
 fn two_least(d: &[u64; EIGHTH_LAGS], e: &[u64; EIGHTH_LAGS], g: Settings) -> Lows
-    requires { ⌜ Modest g × Small 109 (now d) × Small 109 (now e) ⌝ }
+    requires { ⌜ Modest g × Small eighthLags (now d) × Small eighthLags (now e) ⌝ }
     ensures { λ r. ⌜ InOrder 2 r × ((y : Sound) → Measured y (now (d .entry)) (now (e .entry)) → Leasts g y 2 r) ⌝ }
 {
     let most = greatest(e, g);
@@ -162,8 +162,8 @@ pub fn find(
     s: &[i16],
     m: usize,
 ) -> Found
-    requires { ⌜ Kept 109 (now e) (now h) × Modest g × Long (now s) m ⌝ }
-    ensures { λ r. ⌜ ((y : Sound) → Right y 2 109 (now (e .entry)) (now (h .entry)) → lagOf r ≡ found g (ago (now (s .entry)) m) y) ⌝ }
+    requires { ⌜ Kept eighthLags (now e) (now h) × Modest g × Long (now s) m ⌝ }
+    ensures { λ r. ⌜ ((y : Sound) → Right y 2 eighthLags (now (e .entry)) (now (h .entry)) → lagOf r ≡ found g (ago (now (s .entry)) m) y) ⌝ }
 {
     if quiet(e, g) {
         return Found::Nothing;

@@ -7,6 +7,7 @@ ghost use mathlib.Core.Path.{_≡_};
 ghost use mathlib.Core.Bool.{false};
 ghost use Prim.Native.Nat.{_+_, _≤_, _<_};
 ghost use lib.ListN.{length};
+ghost use Rattle.rules.specs.Rules.{longestBlock};
 ghost use Rattle.text.specs.Text.{fields, Put};
 ghost use Rattle.text.specs.Places.{optional};
 ghost use Rattle.text.specs.Fields.{later};
@@ -174,7 +175,7 @@ fn say_number(out: &mut [u8], n: u32) -> usize
 
 // Writes the line that answers a block.
 fn say_block(out: &mut [u8], a: Answer, ys: &[i16]) -> usize
-    requires { ⌜ (4096 ≤ length (now out)) × (a .written ≤ 512) × (length (now ys) ≡ 512) ⌝ }
+    requires { ⌜ (4096 ≤ length (now out)) × (a .written ≤ longestBlock) × (length (now ys) ≡ longestBlock) ⌝ }
     ensures { λ r. ⌜ Put (now (out .entry)) 0 (blockLine a (now (ys .entry))) (now (out .exit)) r ⌝ }
 {
     let p = text::put_number(out, 0, a.number);

@@ -14,7 +14,7 @@ use Rattle.whole.specs.Tests.{cond-yes, cond-no}
 use Rattle.rules.specs.declared.Settings.{Settings}
 use Rattle.rules.specs.declared.InForce.{InForce}
 use Rattle.rules.specs.declared.Tone.{Tone}
-use Rattle.rules.specs.Rules.{Sound, Mode, searching, tracking, Pitch, noTone, noPeriod, searched, found, tracked, tuned, best, period, moved, isLost, eighthDue, stepDue, listenedIn, listened}
+use Rattle.rules.specs.Rules.{Sound, Mode, searching, tracking, Pitch, noTone, noPeriod, searched, found, tracked, tuned, best, period, moved, isLost, eighthDue, stepDue, listenedIn, listened, eighthLags}
 use Rattle.rules.specs.Facts.{InRange, ForceIn, ToneIn, unpitched, LagsIn, ModeIn, PitchIn, Right}
 use Rattle.rules.specs.Choosing.{found-range}
 use Rattle.rules.specs.Notes.{tuned-in}
@@ -33,7 +33,7 @@ use Rattle.pitch.specs.Pitches.{modeOf, pitchOf, PitchRight}
 pub record Eighth (e : List ℕ) (h : List ℤ) : Type 0 where
   pub sound : Sound
   pub fits : (k : ℕ) → SFits w16 (sound k)
-  pub right : Right sound 2 109 e h
+  pub right : Right sound 2 eighthLags e h
 
 -- the pitch p, right over the sound x
 pub record Became (x : Sound) (p : Pitch) (r : KeptPitch) : Type 0 where
@@ -43,13 +43,13 @@ pub record Became (x : Sound) (p : Pitch) (r : KeptPitch) : Type 0 where
 -- what searching leaves, and what listening to sample number n leaves, whichever sound y has the sums e and h at eighth rate
 pub record Searched (f : InForce) (x : Sound) (e : List ℕ) (h : List ℤ) (v r : KeptPitch) : Type 0 where
   pub right : PitchRight x r
-  pub pitch : (y : Sound) → Right y 2 109 e h → pitchOf r ≡ searched (pitchOf v) (found (f .settings) x y)
+  pub pitch : (y : Sound) → Right y 2 eighthLags e h → pitchOf r ≡ searched (pitchOf v) (found (f .settings) x y)
 
 pub record Listened (f : InForce) (n : ℕ) (x : Sound) (e : List ℕ) (h : List ℤ) (v r : KeptPitch) : Type 0 where
   pub right : PitchRight x r
-  pub pitch : (y : Sound) → Right y 2 109 e h → pitchOf r ≡ listened f n x y (pitchOf v)
+  pub pitch : (y : Sound) → Right y 2 eighthLags e h → pitchOf r ≡ listened f n x y (pitchOf v)
 
-pub kept-sums : {e : List ℕ} {h : List ℤ} → Eighth e h → Kept 109 e h
+pub kept-sums : {e : List ℕ} {h : List ℤ} → Eighth e h → Kept eighthLags e h
 kept-sums k = record { sound = k .sound; fits = k .fits; low = 2; upto = omega arith; right = k .right }
 
 pub modest : {f : InForce} → ForceIn f → Modest (f .settings)
@@ -151,7 +151,7 @@ module _ {f : InForce} {x : Sound} (v : KeptPitch) {r : Tracked} (s : Stepped (f
       })
 
 -- ---- a search
-module _ (f : InForce) (x : Sound) (v : KeptPitch) (l : Found) {e : List ℕ} {h : List ℤ} (finds : (y : Sound) → Right y 2 109 e h → lagOf l ≡ found (f .settings) x y) where
+module _ (f : InForce) (x : Sound) (v : KeptPitch) (l : Found) {e : List ℕ} {h : List ℤ} (finds : (y : Sound) → Right y 2 eighthLags e h → lagOf l ≡ found (f .settings) x y) where
   pub found-lag : Eighth e h → (lag : ℕ) → lagOf l ≡ some lag → (24 ≤ lag) × (lag ≤ 872)
   found-lag k lag q = found-range (f .settings) x (k .sound) lag (sym (finds (k .sound) (k .right)) ∙ q)
 

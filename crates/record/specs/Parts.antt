@@ -9,7 +9,7 @@ use lib.ListN.{length}
 use lib.Seq.{take-all}
 use Rattle.whole.specs.Tests.{Decides, by, yes-and-no, decides-as}
 use Rattle.rules.specs.declared.Settings.{Settings}
-use Rattle.rules.specs.Rules.{Sound, silence, heardAll, inRange, searching, tracking}
+use Rattle.rules.specs.Rules.{Sound, silence, heardAll, inRange, searching, tracking, keptSamples, keptEighths, eighthLags}
 use Rattle.rules.specs.Ranges.{in-range, is-in-range}
 use Rattle.rules.specs.Facts.{InRange, ToneIn, LagsIn, PitchIn, valueAt, Right}
 use Rattle.rules.specs.Sane.{tracking-is-not-searching}
@@ -45,10 +45,10 @@ right-of s m n p q d = rw (ago-all s m p, q) at d
 
 -- what its types say
 pub record Stores (h : Heard) : Type 0 where
-  pub store : length (h .store) ≡ 1764
-  pub eighths : length (h .eighths) ≡ 224
-  pub energies : length (h .energies) ≡ 109
-  pub correlations : length (h .correlations) ≡ 109
+  pub store : length (h .store) ≡ keptSamples
+  pub eighths : length (h .eighths) ≡ keptEighths
+  pub energies : length (h .energies) ≡ eighthLags
+  pub correlations : length (h .correlations) ≡ eighthLags
   pub storeFits : Samples (h .store)
   pub eighthsFit : Samples (h .eighths)
 

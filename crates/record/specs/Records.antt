@@ -5,27 +5,13 @@ use Prim.Native.Nat.{ℕ, _+_, _/_, _≤_, _<_}
 use lib.IntN.{ℤ, pos}
 use lib.ListN.{replicate}
 use Rattle.rules.specs.declared.Settings.{Settings}
-use Rattle.rules.specs.Rules.{Sound, silence, heardAll, farthest, noTone}
+use Rattle.rules.specs.Rules.{Sound, silence, heardAll, farthest, noTone, takeLimit, longestBlock, keptSamples, keptEighths, eighthLags}
 use Rattle.rules.specs.Facts.{InRange, valueAt, Right}
 use Rattle.pitch.specs.declared.Pitch.{Pitch as KeptPitch}
 use Rattle.pitch.specs.Pitches.{PitchRight, blank}
 use Rattle.record.specs.declared.Heard.{Heard}
 use Rattle.record.specs.declared.Head.{Head}
 use Rattle.record.specs.declared.Last.{Last}
-
--- a take holds at most 1,000,000,000 samples, a block 1 to 512
-abbrev pub takeLimit : ℕ
-takeLimit = 1000000000
-
-abbrev pub longestBlock : ℕ
-longestBlock = 512
-
--- so many samples are kept, and so many at eighth rate
-abbrev pub keptSamples : ℕ
-keptSamples = 1764
-
-abbrev pub keptEighths : ℕ
-keptEighths = 224
 
 -- the sound of the kept samples: what is from before them counts as 0
 abbrev pub soundOf : List ℤ → Sound
@@ -38,14 +24,14 @@ pub record HeardRight (h : Heard) : Type 0 where
   pub count : h .count ≤ takeLimit
   pub before : (i : ℕ) → i + h .count < keptSamples → valueAt (h .store) i ≡ pos 0
   pub eighthsBefore : (i : ℕ) → i + h .count / 8 < keptEighths → valueAt (h .eighths) i ≡ pos 0
-  pub sums : Right (soundOf (h .eighths)) 2 109 (h .energies) (h .correlations)
+  pub sums : Right (soundOf (h .eighths)) 2 eighthLags (h .energies) (h .correlations)
 
 unfoldable pub freshHeard : Heard
 freshHeard =
     record {
       count = 0;
-      energies = replicate 109 0;
-      correlations = replicate 109 (pos 0);
+      energies = replicate eighthLags 0;
+      correlations = replicate eighthLags (pos 0);
       store = replicate keptSamples (pos 0);
       eighths = replicate keptEighths (pos 0);
     }

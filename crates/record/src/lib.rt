@@ -13,11 +13,11 @@ ghost use Prim.Native.Nat.{ℕ, _+_, _-_, _≤_, _<_};
 ghost use lib.IntN.{pos};
 ghost use lib.ListN.{length};
 ghost use Rattle.whole.specs.Tests.{Decides};
-ghost use Rattle.rules.specs.Rules.{inRange, defaults};
+ghost use Rattle.rules.specs.Rules.{inRange, defaults, keptSamples};
 ghost use Rattle.rules.specs.Facts.{ToneIn, valueAt};
 ghost use Rattle.ages.specs.Ages.{Samples};
 ghost use Rattle.pitch.specs.Pitches.{PitchRight};
-ghost use Rattle.record.specs.Records.{keptSamples, soundOf, HeardRight, LastRight, AllRight, freshHeard, freshPitch, freshHead, noLast};
+ghost use Rattle.record.specs.Records.{soundOf, HeardRight, LastRight, AllRight, freshHeard, freshPitch, freshHead, noLast};
 ghost use Rattle.record.specs.Parts.{TrackerRight};
 
 // A longest block and how far behind a head may lie, as the record's numbers have them.

@@ -393,6 +393,23 @@ stepped f t new =
 
 -- ---- A block: the fold of the step over its samples
 
+-- a take holds at most 1,000,000,000 samples, a block 1 to 512
+abbrev pub takeLimit : ℕ
+takeLimit = 1000000000
+
+abbrev pub longestBlock : ℕ
+longestBlock = 512
+
+-- so many samples are kept, so many at eighth rate, and sums for so many lags at eighth rate, from 2 on
+abbrev pub keptSamples : ℕ
+keptSamples = 1764
+
+abbrev pub keptEighths : ℕ
+keptEighths = 224
+
+abbrev pub eighthLags : ℕ
+eighthLags = 109
+
 -- the take after the samples
 unfoldable pub after : InForce → Take → List ℤ → Take
 after f t [] = t

@@ -10,7 +10,7 @@ use lib.ListN.{length, length-map, getD, take, drop, set, length-drop, length-ap
 use lib.Seq.{take-suc, length-take-le, getD-drop, drop-cons, set-at, append-snoc}
 use Rattle.rules.specs.declared.InForce.{InForce}
 use Rattle.rules.specs.declared.Tone.{Tone}
-use Rattle.rules.specs.Rules.{Take, Given, Step, after, gives, stepped, samplesOut, gathered, allRepeated, allDropped}
+use Rattle.rules.specs.Rules.{Take, Given, Step, after, gives, stepped, samplesOut, gathered, allRepeated, allDropped, longestBlock}
 use Rattle.rules.specs.Blocks.{after-more, gives-more, gives-length, given-length, samplesOut-append, gathered-more}
 use Rattle.rules.specs.Facts.{valueAt}
 use Rattle.passing.specs.Distances.{Long}
@@ -33,7 +33,7 @@ one-given part gs before g l =
     one-out 0 (map (λ (k : Given). part (k .tone)) gs) before (length gs) (part (g .tone)) (length-map gs _) l
     ∙ (λ j. sym (map-append (λ (k : Given). part (k .tone)) gs (g ∷ [])) j ++ drop (sym (length-append gs (g ∷ [])) j) before)
 
-ran-more : {f : InForce} {t t₁ t₂ : Take} {xs : List ℤ} {x : ℤ} {out out₁ out₂ : List ℤ} {ts ts₁ ts₂ : Tones} {p q r : Progress} → length xs < length out → length xs < 512 → Long512 ts
+ran-more : {f : InForce} {t t₁ t₂ : Take} {xs : List ℤ} {x : ℤ} {out out₁ out₂ : List ℤ} {ts ts₁ ts₂ : Tones} {p q r : Progress} → length xs < length out → length xs < longestBlock → Long512 ts
     → Ran f t xs t₁ out out₁ ts ts₁ p q → Did f t₁ x t₂ out₁ (length xs) out₂ ts₁ ts₂ q r → Ran f t (xs ++ (x ∷ [])) t₂ out out₂ ts ts₂ p r
 unfolding samplesOut
 ran-more {f} {t} {xs = xs} {x = x} {out = out} {ts = ts} l few long a d =
@@ -95,7 +95,7 @@ going-none f {s} {m} {y} {e} {h} out ts {p} r k =
     }
 
 module _ {f : InForce} {s : List ℤ} {m : ℕ} {y₀ out₀ : List ℤ} {ts₀ : Tones} {p : Progress} {i : ℕ} {y : List ℤ} {e : List ℕ} {h : List ℤ} {out : List ℤ} {ts : Tones} {q : Progress}
-    (k : Going f s m y₀ out₀ ts₀ p i y e h out ts q) (b : ℕ) (l : i < b) (few : b ≤ 512) (fits : m + b ≤ length s) where
+    (k : Going f s m y₀ out₀ ts₀ p i y e h out ts q) (b : ℕ) (l : i < b) (few : b ≤ longestBlock) (fits : m + b ≤ length s) where
   -- there is room for one more
   pub going-room : Begins b p → Room q
   going-room n =

@@ -8,7 +8,7 @@ use lib.IntN.{ℤ, pos, _-ℤ_}
 use lib.ListN.{length, getD, take, drop, set, replicate, length-replicate}
 use Rattle.rules.specs.declared.InForce.{InForce}
 use Rattle.rules.specs.declared.Tone.{Tone}
-use Rattle.rules.specs.Rules.{Sound, Take, Given, Step, Pitch, Growth, inputAt, heard, eighthsAfter, listened, growth, reading, after, gives, stepped, samplesOut, allRepeated, allDropped}
+use Rattle.rules.specs.Rules.{Sound, Take, Given, Step, Pitch, Growth, inputAt, heard, eighthsAfter, listened, growth, reading, after, gives, stepped, samplesOut, allRepeated, allDropped, takeLimit, longestBlock, keptEighths}
 use Rattle.ages.specs.Ages.{ago, ago-next, ago-fits}
 use Rattle.rules.specs.Facts.{valueAt}
 use Rattle.pitch.specs.Pitches.{pitchOf, PitchRight}
@@ -36,14 +36,14 @@ pub record Ready (s : List ℤ) (m : ℕ) (y : List ℤ) (e : List ℕ) (h : Lis
   pub right : PitchRight (ago s m) (p .pitch)
   pub eighths : Eighths y (p .places) e h
   pub near : p .behind ≤ 65536000
-  pub placed : 224 ≤ p .places
+  pub placed : keptEighths ≤ p .places
 
 -- there is room for one sample more
 pub record Room (p : Progress) : Type 0 where
   pub places : (p .count + 1) % 8 ≡ 0 → p .places < 288
-  pub count : p .count < 1000000000
-  pub repeated : p .repeated ≤ 512
-  pub dropped : p .dropped ≤ 512
+  pub count : p .count < takeLimit
+  pub repeated : p .repeated ≤ longestBlock
+  pub dropped : p .dropped ≤ longestBlock
 
 -- the tones after samples, number by number
 pub record Tones : Type 0 where
@@ -67,9 +67,9 @@ tonesGiven ts gs = tones (given (λ (o : Tone). o .period) gs (ts .periods)) (gi
 
 -- there are 512 places for each
 pub record Long512 (ts : Tones) : Type 0 where
-  pub periods : length (ts .periods) ≡ 512
-  pub notes : length (ts .notes) ≡ 512
-  pub rates : length (ts .rates) ≡ 512
+  pub periods : length (ts .periods) ≡ longestBlock
+  pub notes : length (ts .notes) ≡ longestBlock
+  pub rates : length (ts .rates) ≡ longestBlock
 
 -- one sample: from p to r, the output and the tone at place i
 pub record Did (f : InForce) (t : Take) (new : ℤ) (t′ : Take) (outs : List ℤ) (i : ℕ) (outs′ : List ℤ) (ts ts′ : Tones) (p r : Progress) : Type 0 where
@@ -80,7 +80,7 @@ pub record Did (f : InForce) (t : Take) (new : ℤ) (t′ : Take) (outs : List �
   pub dropped : r .dropped ≡ p .dropped + length (stepped f t new .given .drops)
   pub few : (r .repeated ≤ p .repeated + 1) × (r .dropped ≤ p .dropped + 1)
   pub count : r .count ≡ p .count + 1
-  pub phase : (f : ℕ) → p .places + f ≡ 224 + p .count / 8 → r .places + f ≡ 224 + r .count / 8
+  pub phase : (f : ℕ) → p .places + f ≡ keptEighths + p .count / 8 → r .places + f ≡ keptEighths + r .count / 8
 
 -- the samples xs: from p to r, the outputs and the tones from the first place on
 pub record Ran (f : InForce) (t : Take) (xs : List ℤ) (t′ : Take) (outs outs′ : List ℤ) (ts ts′ : Tones) (p r : Progress) : Type 0 where
@@ -92,15 +92,15 @@ pub record Ran (f : InForce) (t : Take) (xs : List ℤ) (t′ : Take) (outs outs
 
 -- where a block of b samples begins
 pub record Begins (b : ℕ) (p : Progress) : Type 0 where
-  pub places : p .places ≡ 224
-  pub count : p .count + b ≤ 1000000000
+  pub places : p .places ≡ keptEighths
+  pub count : p .count + b ≤ takeLimit
   pub repeated : p .repeated ≡ 0
   pub dropped : p .dropped ≡ 0
 
 -- and where it ends
 pub record Ended (b : ℕ) (p r : Progress) : Type 0 where
   pub count : r .count ≡ p .count + b
-  pub places : r .places + p .count / 8 ≡ 224 + r .count / 8
+  pub places : r .places + p .count / 8 ≡ keptEighths + r .count / 8
   pub repeated : r .repeated ≤ b
   pub dropped : r .dropped ≤ b
 
@@ -163,7 +163,7 @@ module _ (f : InForce) (s : List ℤ) (m : ℕ) (y : List ℤ) (p : Progress) {y
         phase = λ f k. hd .phase f (p .count) refl k;
       }
 
-  pub ready-next : 224 ≤ p .places → Ready s (m + 1) y′ e h (nextOf p q v r)
+  pub ready-next : keptEighths ≤ p .places → Ready s (m + 1) y′ e h (nextOf p q v r)
   ready-next k = record { right = ls .right; eighths = hd .eighths; near = gr .near; placed = omega (arith, hd .more) }
 
 -- what searching asks, of what is stored

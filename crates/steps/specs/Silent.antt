@@ -5,7 +5,7 @@ use Prim.Native.Nat.{ℕ, zero, suc, _+_, _*_, _≤_, _<_}
 use native.Mathlib.Omega.{arith}
 use lib.IntN.{ℤ, pos}
 use lib.ListN.{getD}
-use Rattle.rules.specs.Rules.{Sound, heard}
+use Rattle.rules.specs.Rules.{Sound, heard, eighthLags}
 use Rattle.rules.specs.Energies.{no-energy, E-same, H-same}
 use Rattle.rules.specs.Facts.{Right}
 
@@ -15,11 +15,11 @@ unfolding heard
 zero-more x n zeros zero h = zeros 0 h
 zero-more x n zeros (suc k) h = zeros (suc k) h ∙ sym (zeros k (omega arith))
 
-module _ {x : Sound} {e : List ℕ} {h : List ℤ} (r : Right x 2 109 e h) (none : getD e 108 0 ≡ 0) where
-  same : (j : ℕ) → j < 109 → (k : ℕ) → k < 2 * (2 + j) → x k ≡ heard (pos 0) x k
+module _ {x : Sound} {e : List ℕ} {h : List ℤ} (r : Right x 2 eighthLags e h) (none : getD e 108 0 ≡ 0) where
+  same : (j : ℕ) → j < eighthLags → (k : ℕ) → k < 2 * (2 + j) → x k ≡ heard (pos 0) x k
   same j l k m = zero-more x 220 (no-energy x 110 (sym (r .energy 108 (omega arith)) ∙ none)) k (omega arith)
 
-  pub still-right : Right (heard (pos 0) x) 2 109 e h
+  pub still-right : Right (heard (pos 0) x) 2 eighthLags e h
   still-right =
       record {
         energies = r .energies;

@@ -10,7 +10,7 @@ ghost use mathlib.Core.Bool.{true, false};
 ghost use Prim.Native.Nat.{_+_, _%_, _≤_, _<_};
 ghost use lib.IntN.{pos};
 ghost use lib.ListN.{length, getD, set, take, drop};
-ghost use Rattle.rules.specs.Rules.{eighthSample};
+ghost use Rattle.rules.specs.Rules.{eighthSample, longestBlock, keptEighths};
 ghost use Rattle.rules.specs.Facts.{ForceIn, valueAt};
 ghost use Rattle.ages.specs.Ages.{ago, Samples};
 ghost use Rattle.passing.specs.Distances.{Long};
@@ -48,7 +48,7 @@ fn eighth(
     s: &[i16],
     m: usize,
 )
-    requires { ⌜ (8 ≤ m) × (m ≤ length (now s)) × Samples (now s) × (224 ≤ places) × (places < 288) × Eighths (now y) places (now e) (now h) ⌝ }
+    requires { ⌜ (8 ≤ m) × (m ≤ length (now s)) × Samples (now s) × (keptEighths ≤ places) × (places < 288) × Eighths (now y) places (now e) (now h) ⌝ }
     ensures { λ r. ⌜ (now (y .exit) ≡ set (now (y .entry)) places (eighthSample (ago (now (s .entry)) m))) × Eighths (now (y .exit)) (places + 1) (now (e .exit)) (now (h .exit)) ⌝ }
 {
     let x = ages::eighth_sample(s, m);
@@ -69,7 +69,7 @@ fn hear(
     s: &[i16],
     m: usize,
 ) -> usize
-    requires { ⌜ (8 ≤ m) × (m ≤ length (now s)) × Samples (now s) × (224 ≤ places) × (n % 8 ≡ 0 → places < 288) × Eighths (now y) places (now e) (now h) ⌝ }
+    requires { ⌜ (8 ≤ m) × (m ≤ length (now s)) × Samples (now s) × (keptEighths ≤ places) × (n % 8 ≡ 0 → places < 288) × Eighths (now y) places (now e) (now h) ⌝ }
     ensures { λ r. ⌜ Heard n (ago (now (s .entry)) m) (now (y .entry)) places (now (y .exit)) r (now (e .exit)) (now (h .exit)) ⌝ }
 {
     if n % 8 == 0 {
@@ -94,7 +94,7 @@ fn step(
     rates: &mut [u32; LONGEST_BLOCK],
     i: usize,
 ) -> Progress
-    requires { ⌜ ForceIn f × Long (now s) m × (m < length (now s)) × (i < 512) × Ready (now s) m (now y) (now e) (now h) p × Room p ⌝ }
+    requires { ⌜ ForceIn f × Long (now s) m × (m < length (now s)) × (i < longestBlock) × Ready (now s) m (now y) (now e) (now h) p × Room p ⌝ }
     ensures { λ r. ⌜ Ready (now (s .entry)) (m + 1) (now (y .exit)) (now (e .exit)) (now (h .exit)) r × Did f (takeSoFar (now (s .entry)) m (now (y .entry)) p) (valueAt (now (s .entry)) m) (takeSoFar (now (s .entry)) (m + 1) (now (y .exit)) r) (now (out .entry)) i (now (out .exit)) (tones (now (periods .entry)) (now (notes .entry)) (now (rates .entry))) (tones (now (periods .exit)) (now (notes .exit)) (now (rates .exit))) p r ⌝ }
 {
     let n = p.count + 1;
@@ -135,7 +135,7 @@ pub fn run(
     notes: &mut [u32; LONGEST_BLOCK],
     rates: &mut [u32; LONGEST_BLOCK],
 ) -> Progress
-    requires { ⌜ ForceIn f × Long (now s) m × (m + b ≤ length (now s)) × (b ≤ 512) × Ready (now s) m (now y) (now e) (now h) p × Begins b p × (length (now out) ≡ 512) × Long512 (tones (now periods) (now notes) (now rates)) ⌝ }
+    requires { ⌜ ForceIn f × Long (now s) m × (m + b ≤ length (now s)) × (b ≤ longestBlock) × Ready (now s) m (now y) (now e) (now h) p × Begins b p × (length (now out) ≡ longestBlock) × Long512 (tones (now periods) (now notes) (now rates)) ⌝ }
     ensures { λ r. ⌜ Ready (now (s .entry)) (m + b) (now (y .exit)) (now (e .exit)) (now (h .exit)) r × Ran f (takeSoFar (now (s .entry)) m (now (y .entry)) p) (take b (drop m (now (s .entry)))) (takeSoFar (now (s .entry)) (m + b) (now (y .exit)) r) (now (out .entry)) (now (out .exit)) (tones (now (periods .entry)) (now (notes .entry)) (now (rates .entry))) (tones (now (periods .exit)) (now (notes .exit)) (now (rates .exit))) p r × Ended b p r ⌝ }
 {
     let mut q = p;

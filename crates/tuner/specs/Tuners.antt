@@ -8,7 +8,7 @@ use lib.IntN.{ℤ, pos, natAbs, _-ℤ_}
 use lib.ListN.{length, take, drop, replicate}
 use Rattle.rules.specs.declared.Settings.{Settings}
 use Rattle.rules.specs.declared.InForce.{InForce}
-use Rattle.rules.specs.Rules.{Sound, heard, eighthDue, eighthSample, Take, Given, inputAt, inRange, defaults, after, gives, samplesOut, allRepeated, allDropped}
+use Rattle.rules.specs.Rules.{Sound, heard, eighthDue, eighthSample, Take, Given, inputAt, inRange, defaults, after, gives, samplesOut, allRepeated, allDropped, takeLimit, longestBlock, keptSamples, eighthLags}
 use Rattle.rules.specs.Facts.{energiesOf, correlationsOf, keeping}
 use Rattle.pitch.specs.Pitches.{pitchOf, keptOf}
 use Rattle.answers.specs.declared.Answer.{Answer}
@@ -18,7 +18,7 @@ use Rattle.meters.specs.Meters.{shownOf, Exact}
 use Rattle.record.specs.declared.Heard.{Heard}
 use Rattle.record.specs.declared.Head.{Head}
 use Rattle.record.specs.declared.Last.{Last}
-use Rattle.record.specs.Records.{takeLimit, longestBlock, keptSamples, soundOf, AllRight, freshHeard, freshPitch, freshHead, noLast}
+use Rattle.record.specs.Records.{soundOf, AllRight, freshHeard, freshPitch, freshHead, noLast}
 use Rattle.tuner.specs.declared.Tuner.{Tuner}
 
 -- ---- the take that a tuner holds, and what is in force
@@ -59,8 +59,8 @@ heardAfter h xs =
     let eighths = keeping (h .eighths) (made (h .count) (soundOf (h .store)) xs) in
     record {
       count = h .count + length xs;
-      energies = energiesOf (soundOf eighths) 2 109;
-      correlations = correlationsOf (soundOf eighths) 2 109;
+      energies = energiesOf (soundOf eighths) 2 eighthLags;
+      correlations = correlationsOf (soundOf eighths) 2 eighthLags;
       store = keeping (h .store) xs;
       eighths = eighths;
     }

@@ -15,7 +15,6 @@ use Rattle.rules.specs.Blocks.{gives-length}
 use Rattle.tuner.specs.declared.Tuner.{Tuner}
 use Rattle.answers.specs.declared.Answer.{Answer}
 use Rattle.answers.specs.Numbering.{plain, HasNumber, following, Numbered, neither, other, again, full, new}
-use Rattle.record.specs.Records.{takeLimit, longestBlock}
 use Rattle.tuner.specs.Tuners.{Good, freshTuner, afterBlock, IsLast, lastSamples, nextNumber, Fits, Verdict, record-out-of-range, block-empty, block-over-512, output-short, number-neither, other-samples, given-again, take-full, taken, tunerBy, answerBy, outBy, Took, ChangeVerdict, withSettings, setting-out-of-range, changed, Changed, ResetVerdict, begun-again, Reset}
 
 module _ {t : Tuner} {k : ℕ} {xs : List ℤ} {room : ℕ} where

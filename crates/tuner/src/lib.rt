@@ -17,8 +17,7 @@ ghost use mathlib.Core.Path.{_≡_};
 ghost use Prim.Native.Nat.{_+_, _≤_, _<_};
 ghost use lib.ListN.{length};
 ghost use Rattle.whole.specs.Tests.{Decides};
-ghost use Rattle.rules.specs.Rules.{defaults};
-ghost use Rattle.record.specs.Records.{takeLimit, longestBlock};
+ghost use Rattle.rules.specs.Rules.{defaults, takeLimit, longestBlock};
 ghost use Rattle.tuner.specs.Tuners.{Good, freshTuner, afterBlock, Verdict, Took, Started, Changed, Reset, Metered};
 
 // The record, in its parts.
