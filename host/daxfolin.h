@@ -25,24 +25,28 @@
 extern "C" {
 #endif
 
-#define DAXFOLIN_VERSION 3u                /* of these calls: what daxfolin_version() answers */
+#define DAXFOLIN_VERSION 4u                /* of these calls: what daxfolin_version() answers */
 #define DAXFOLIN_LAYOUT 20003u             /* of the record: what stands first in it */
 #define DAXFOLIN_LONGEST_BLOCK 512u        /* samples of a block */
 #define DAXFOLIN_LONGEST_TAKE 1000000000u  /* samples of a take */
 
-/* The answers. After 2 to 9 the record is as it was, and so is every sample of the output; but a start that is refused (8) leaves
- * the default tuner in the record, and what that held is gone. */
+/* The answers. After a refusal, any number from 2 on, the record is as it was, and so is every sample of the output; but a start that
+ * is refused (8, 11, 12 or 13) leaves the default tuner in the record, and what that held is gone. Of settings the first bad one is
+ * named, in the order scale, eps, decay, floor. 10 answers lines that cannot be read, and so none of these calls. */
 enum {
-    DAXFOLIN_TAKEN = 0,                /* taken: start, change, block or reset */
-    DAXFOLIN_GIVEN_AGAIN = 1,          /* the last block's number, length and samples: the same counts and output again, record unchanged */
+    DAXFOLIN_TAKEN = 0,               /* taken: start, change, block or reset */
+    DAXFOLIN_GIVEN_AGAIN = 1,         /* the last block's number, length and samples: the same counts and output again, record unchanged */
     DAXFOLIN_BLOCK_EMPTY = 2,
     DAXFOLIN_BLOCK_OVER_512 = 3,
-    DAXFOLIN_OUTPUT_SHORT = 4,         /* shorter than the block */
-    DAXFOLIN_NUMBER_NEITHER = 5,       /* neither the next number nor the last taken */
-    DAXFOLIN_OTHER_SAMPLES = 6,        /* the last taken number, other length or samples */
-    DAXFOLIN_TAKE_FULL = 7,            /* the take would pass 1,000,000,000 samples */
-    DAXFOLIN_SETTING_OUT_OF_RANGE = 8, /* scale 0 is; a change leaves the record as it was, a start the default tuner */
-    DAXFOLIN_RECORD_OUT_OF_RANGE = 9   /* a number of the record is out of its range (docs/RANGES.md), its layout's among them */
+    DAXFOLIN_OUTPUT_SHORT = 4,        /* shorter than the block */
+    DAXFOLIN_NUMBER_NEITHER = 5,      /* neither the next number nor the last taken */
+    DAXFOLIN_OTHER_SAMPLES = 6,       /* the last taken number, other length or samples */
+    DAXFOLIN_TAKE_FULL = 7,           /* the take would pass 1,000,000,000 samples */
+    DAXFOLIN_SCALE_OUT_OF_RANGE = 8,  /* 0, or over 4095; here and below, a change leaves the record as it was, a start the default tuner */
+    DAXFOLIN_RECORD_OUT_OF_RANGE = 9, /* a number of the record is out of its range (docs/RANGES.md), its layout's among them */
+    DAXFOLIN_EPS_OUT_OF_RANGE = 11,   /* over 409 */
+    DAXFOLIN_DECAY_OUT_OF_RANGE = 12, /* over 255 */
+    DAXFOLIN_FLOOR_OUT_OF_RANGE = 13  /* 0, or over 1,000,000 */
 };
 
 typedef struct daxfolin_settings {
@@ -162,13 +166,15 @@ DAXFOLIN_SAME(sizeof(size_t), 8);
 /* The version of these calls: DAXFOLIN_VERSION. */
 uint32_t daxfolin_version(void);
 
-/* A fresh tuner with these settings. 0; or 8, and the record is not as it was: it is the default tuner. */
+/* A fresh tuner with these settings. 0; or the number of the first bad setting (8, 11, 12, 13), and the record is not as it was: it is
+ * the default tuner. */
 uint32_t daxfolin_start(daxfolin_record *record, daxfolin_settings settings);
 
 /* A fresh tuner with the default settings. 0. */
 uint32_t daxfolin_start_default(daxfolin_record *record);
 
-/* New settings, which count from the next sample. 0; or 9, then 8, and the record is as it was. */
+/* New settings, which count from the next sample. 0; or 9, then the number of the first bad setting (8, 11, 12, 13), and the record is
+ * as it was. */
 uint32_t daxfolin_change(daxfolin_record *record, daxfolin_settings settings);
 
 /* Block `number` of the take (the first is 0, and 65535 is followed by 0): 1 to 512 samples in, as many out; samples of `out` past

@@ -150,11 +150,14 @@ pub fn script() -> Vec<u8> {
     let stretch =
         |from: usize, length: usize| -> Vec<i16> { (from..from + length).map(voice).collect() };
     let none: &[i16] = &[];
-    let refused: [[u32; 4]; 5] = [
+    // Each refusal of a setting: the first bad one is named.
+    let refused: [[u32; 4]; 7] = [
         [0, 100, 0, 100],
-        [4096, 100, 0, 100],
+        [4096, 410, 256, 0],
         [4095, 410, 0, 100],
-        [4095, 100, 256, 100],
+        [4095, 410, 256, 0],
+        [4095, 409, 256, 0],
+        [4095, 409, 255, 0],
         [4095, 100, 0, 1_000_001],
     ];
     add(Call::Meter, 0, 0, ALL, none);
@@ -180,7 +183,7 @@ pub fn script() -> Vec<u8> {
             add(Call::Block, number + 1, 513, ALL, &stretch(at, 513));
             add(Call::Block, number + 1, 9, ALL, &stretch(at, 10));
             add(Call::Block, number + 2, 512, ALL, &stretch(at, 10));
-            add(Call::Change, 0, 0, refused[usize::from(number % 5)], none);
+            add(Call::Change, 0, 0, refused[usize::from(number / 7)], none);
             add(
                 Call::Change,
                 0,

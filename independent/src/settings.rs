@@ -1,4 +1,6 @@
-//! What the host may set.
+//! What the host may set, and which setting is wrong.
+
+use crate::tuner::Answer;
 
 #[derive(Clone, Copy, Debug, PartialEq, Eq)]
 pub struct Settings {
@@ -20,10 +22,25 @@ impl Settings {
         floor: 100,
     };
 
+    /// What these settings are answered: the first that is out of its range
+    /// is named.
+    pub fn answer(&self) -> Answer {
+        if !(1..=4095).contains(&self.scale) {
+            return Answer::ScaleOutOfRange;
+        }
+        if self.eps > 409 {
+            return Answer::EpsOutOfRange;
+        }
+        if self.decay > 255 {
+            return Answer::DecayOutOfRange;
+        }
+        if !(1..=1_000_000).contains(&self.floor) {
+            return Answer::FloorOutOfRange;
+        }
+        Answer::Taken
+    }
+
     pub fn in_range(&self) -> bool {
-        (1..=4095).contains(&self.scale)
-            && self.eps <= 409
-            && self.decay <= 255
-            && (1..=1_000_000).contains(&self.floor)
+        self.answer() == Answer::Taken
     }
 }

@@ -4,7 +4,7 @@ use crate::rules::*;
 use std::fmt;
 
 /// Numbers of answers, 10 for a line that cannot be read among them.
-pub const ANSWERS: usize = 11;
+pub const ANSWERS: usize = 14;
 
 macro_rules! counters {
     ($($(#[$meaning:meta])* $name:ident,)*) => {

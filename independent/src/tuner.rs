@@ -9,7 +9,8 @@ use crate::table::{period_of, HIGHEST_NOTE, LOWEST_NOTE};
 /// The most samples in a take.
 pub const TAKE_LIMIT: usize = 1_000_000_000;
 
-/// Document 01's answers, each with its number.
+/// The answers of documents 01 and 02, each with its number; 10 is the line
+/// program's own.
 #[derive(Clone, Copy, Debug, PartialEq, Eq)]
 pub enum Answer {
     Taken = 0,
@@ -20,8 +21,11 @@ pub enum Answer {
     NumberNeitherNextNorLast = 5,
     LastNumberOtherSamples = 6,
     TakeFull = 7,
-    SettingOutOfRange = 8,
+    ScaleOutOfRange = 8,
     RecordOutOfRange = 9,
+    EpsOutOfRange = 11,
+    DecayOutOfRange = 12,
+    FloorOutOfRange = 13,
 }
 
 impl Answer {
@@ -105,19 +109,20 @@ impl Tuner {
         Tuner::fresh(Settings::DEFAULT, TAKE_LIMIT)
     }
 
-    /// A tuner started with these settings, or the default one beside 8.
+    /// A tuner started with these settings, or the default one beside the
+    /// number of the first bad setting.
     pub fn start(settings: Settings) -> (Answer, Tuner) {
         Tuner::start_with_limit(settings, TAKE_LIMIT)
     }
 
     /// The same with another limit of the take, so that it can be reached.
     pub fn start_with_limit(settings: Settings, limit: usize) -> (Answer, Tuner) {
-        if settings.in_range() {
-            (Answer::Taken, Tuner::fresh(settings, limit))
-        } else {
-            let tuner = Tuner::fresh(Settings::DEFAULT, limit);
-            (Answer::SettingOutOfRange, tuner)
-        }
+        let answer = settings.answer();
+        let allowed = match answer {
+            Answer::Taken => settings,
+            _ => Settings::DEFAULT,
+        };
+        (answer, Tuner::fresh(allowed, limit))
     }
 
     fn fresh(settings: Settings, limit: usize) -> Tuner {
@@ -133,16 +138,17 @@ impl Tuner {
         }
     }
 
-    /// New settings count from the next sample.
+    /// New settings count from the next sample. Order: 9, then the settings'
+    /// own.
     pub fn change(&mut self, settings: Settings) -> Answer {
         if !self.is_good() {
             return Answer::RecordOutOfRange;
         }
-        if !settings.in_range() {
-            return Answer::SettingOutOfRange;
+        let answer = settings.answer();
+        if answer == Answer::Taken {
+            self.settings = settings;
         }
-        self.settings = settings;
-        Answer::Taken
+        answer
     }
 
     /// Settings kept, everything else fresh.

@@ -105,9 +105,9 @@ fn lines_that_are_read() {
         (b"change\t0001\t000\t0255\t00000000000000000001", "0\n"),
         (b"start\t4096\t100\t0\t100", "8\n"),
         (b"start\t0\t100\t0\t100", "8\n"),
-        (b"change\t4095\t410\t0\t100", "8\n"),
+        (b"change\t4095\t410\t0\t100", "11\n"),
         (b"change\t4294967295\t0\t0\t1", "8\n"),
-        (b"change\t4095\t100\t4294967295\t1", "8\n"),
+        (b"change\t4095\t100\t4294967295\t1", "12\n"),
         (b"block\t0", "2 0 0 0\n"),
         (b"block\t65535", "2 0 0 0\n"),
         (b"block\t0\t-0", "0 1 0 0 0\n"),
@@ -119,6 +119,39 @@ fn lines_that_are_read() {
     for (line, expected) in read {
         let shown = String::from_utf8_lossy(line);
         assert_eq!(answer(line), *expected, "{shown}");
+    }
+}
+
+/// The first bad setting is named, in the order scale, eps, decay, floor.
+#[test]
+fn each_setting_has_its_own_refusal() {
+    let table = [
+        ("start 0 410 256 0", "8"),
+        ("start 1 410 256 0", "11"),
+        ("start 1 409 256 0", "12"),
+        ("start 1 409 255 0", "13"),
+        ("start 1 409 255 1", "0"),
+        ("change 1 410 0 0", "11"),
+        ("change 4096 410 256 1000001", "8"),
+        ("change 4095 409 255 1000001", "13"),
+        ("change 4095 409 255 1000000", "0"),
+        ("start 0 410 256 4294967296", "10"),
+    ];
+    for (line, number) in table {
+        assert_eq!(answers(line), format!("{number}\n"), "{line}");
+    }
+}
+
+/// Whichever setting is refused, the take goes on as it was.
+#[test]
+fn refused_settings_keep_the_tuner() {
+    let refused = ["0 0 0 1", "1 410 0 1", "1 0 256 1", "1 0 0 0"];
+    for (settings, number) in refused.iter().zip([8, 11, 12, 13]) {
+        for word in ["start", "change"] {
+            let input = format!("block 0 9 8 7\n{word} {settings}\nblock 0 9 8 7\nblock 1 6 5\n");
+            let right = format!("0 3 0 0 0 0 0\n{number}\n1 3 0 0 0 0 0\n0 2 0 0 0 9\n");
+            assert_eq!(answers(&input), right);
+        }
     }
 }
 

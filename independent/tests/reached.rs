@@ -4,7 +4,7 @@
 use independent::generator::kinds::{kind_named, KINDS};
 use independent::generator::night::{write_night, NIGHT};
 use independent::generator::script::script;
-use independent::lines::{answers_to, Program};
+use independent::lines::{answers_to, Program, Record};
 use independent::statistics::Statistics;
 use std::collections::{HashMap, HashSet};
 
@@ -49,8 +49,11 @@ const REACHED: &[(&str, &str, u64)] = &[
     ("answer_3", "rough", 1),
     ("answer_5", "rough", 1),
     ("answer_6", "rough", 1),
-    ("answer_8", "rough", 1),
+    ("answer_8", "choices", 1),
     ("answer_10", "unreadable", 1),
+    ("answer_11", "choices", 1),
+    ("answer_12", "choices", 1),
+    ("answer_13", "choices", 1),
 ];
 
 /// No script reaches these: the line program always has room for 512 samples
@@ -116,6 +119,35 @@ fn the_night_reaches_every_branch() {
         let reachable = !NEVER.contains(&name.as_str());
         assert_eq!(count > 0, reachable, "{name}: {count}");
     }
+}
+
+/// Every choice of good and bad settings, to start with and to change to, with
+/// a block taken after each.
+#[test]
+fn the_night_has_every_choice_of_settings() {
+    let &(_, seed, samples) = NIGHT.iter().find(|row| row.0 == "choices").unwrap();
+    let script = script(kind_named("choices").unwrap(), seed, samples);
+    let answers = String::from_utf8(answers_to(&script).0).unwrap();
+    let lines = script.split(|&byte| byte == b'\n').map(Record::on);
+    let mut met = HashSet::new();
+    for (record, answer) in lines.zip(answers.lines()) {
+        let (word, settings) = match record {
+            Some(Record::Start(settings)) => ("start", settings),
+            Some(Record::Change(settings)) => ("change", settings),
+            _ => continue,
+        };
+        let bad = [
+            !(1..=4_095).contains(&settings.scale),
+            settings.eps > 409,
+            settings.decay > 255,
+            !(1..=1_000_000).contains(&settings.floor),
+        ];
+        let first = bad.iter().position(|&bad| bad);
+        let number = first.map_or("0", |place| ["8", "11", "12", "13"][place]);
+        assert_eq!(answer, number, "{settings:?}");
+        met.insert((word, bad));
+    }
+    assert_eq!(met.len(), 2 * 16);
 }
 
 #[test]

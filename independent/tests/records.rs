@@ -2,12 +2,13 @@
 //! record out of range is refused by every call that reads it.
 
 use independent::generator::edges::{
-    bytes_of, calls_over, edges, fresh_of_version_2, BEGINNING_OF_OLD,
+    bytes_of, calls_over, choices, edges, fresh_of_version_2, BEGINNING_OF_OLD,
 };
 use independent::record::{made, Call, Record};
 use independent::settings::Settings;
 use independent::statistics::Statistics;
 use independent::tuner::{Meter, Tuner};
+use std::collections::BTreeSet;
 
 #[test]
 fn a_take_over_a_record_is_the_tuner_s() {
@@ -62,6 +63,22 @@ fn records_are_good_up_to_the_edges() {
             assert!(good || left.record == bytes, "record {place}, {call:?}");
         }
     }
+}
+
+/// A refused start leaves the default tuner, a refused change the record.
+#[test]
+fn refused_settings_over_a_record() {
+    let mut numbers = BTreeSet::new();
+    for (record, call) in choices() {
+        let left = made(&bytes_of(record.bytes()), &call);
+        let refused = match &call {
+            Call::Start(_) => Record::fresh(Settings::DEFAULT),
+            _ => record,
+        };
+        assert_eq!(left.number > 0, left.record == refused.bytes(), "{call:?}");
+        numbers.insert(left.number);
+    }
+    assert_eq!(Vec::from_iter(numbers), [0, 8, 11, 12, 13]);
 }
 
 /// What versions 1 and 2 left is of another layout; a start asks nothing of it.

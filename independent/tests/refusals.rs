@@ -49,10 +49,14 @@ fn numbers_of_the_answers() {
         Answer::NumberNeitherNextNorLast,
         Answer::LastNumberOtherSamples,
         Answer::TakeFull,
-        Answer::SettingOutOfRange,
+        Answer::ScaleOutOfRange,
         Answer::RecordOutOfRange,
+        Answer::EpsOutOfRange,
+        Answer::DecayOutOfRange,
+        Answer::FloorOutOfRange,
     ];
-    assert_eq!(answers.map(Answer::number), [0, 1, 2, 3, 4, 5, 6, 7, 8, 9]);
+    let numbers = [0, 1, 2, 3, 4, 5, 6, 7, 8, 9, 11, 12, 13];
+    assert_eq!(answers.map(Answer::number), numbers);
 }
 
 #[test]
@@ -110,7 +114,7 @@ fn the_repeat_outlives_all_but_start_and_reset() {
     settings.scale = 1;
     assert_eq!(tuner.change(settings), Answer::Taken);
     settings.scale = 0;
-    assert_eq!(tuner.change(settings), Answer::SettingOutOfRange);
+    assert_eq!(tuner.change(settings), Answer::ScaleOutOfRange);
     refused(&mut tuner, 2, 10, &[], 512);
     refused(&mut tuner, 5, 8, &sung[..480], 512);
     refused(&mut tuner, 6, 9, &sung[1..], 512);
@@ -156,25 +160,28 @@ fn settings_keep_their_ranges() {
         Settings::DEFAULT,
     ];
     let bad = [
-        settings(0, 100, 0, 100),
-        settings(4_096, 100, 0, 100),
-        settings(4_095, 410, 0, 100),
-        settings(4_095, 100, 256, 100),
-        settings(4_095, 100, 0, 0),
-        settings(4_095, 100, 0, 1_000_001),
-        settings(u32::MAX, u32::MAX, u32::MAX, u32::MAX),
+        (8, settings(0, 100, 0, 100)),
+        (8, settings(4_096, 100, 0, 100)),
+        (11, settings(4_095, 410, 0, 100)),
+        (12, settings(4_095, 100, 256, 100)),
+        (13, settings(4_095, 100, 0, 0)),
+        (13, settings(4_095, 100, 0, 1_000_001)),
+        (8, settings(u32::MAX, u32::MAX, u32::MAX, u32::MAX)),
+        (11, settings(1, u32::MAX, u32::MAX, u32::MAX)),
+        (12, settings(1, 0, u32::MAX, u32::MAX)),
+        (13, settings(1, 0, 0, u32::MAX)),
     ];
     assert_eq!(Settings::DEFAULT, settings(4_095, 100, 0, 100));
     for settings in good {
         assert_eq!(Tuner::start(settings).0, Answer::Taken);
         assert_eq!(Tuner::default_start().change(settings), Answer::Taken);
     }
-    for settings in bad {
+    for (number, settings) in bad {
         let (answer, tuner) = Tuner::start(settings);
-        assert_eq!(answer, Answer::SettingOutOfRange);
+        assert_eq!(answer.number(), number);
         assert!(tuner == Tuner::default_start());
         let (_, mut kept) = Tuner::start(good[0]);
-        assert_eq!(kept.change(settings), Answer::SettingOutOfRange);
+        assert_eq!(kept.change(settings).number(), number);
         assert!(kept == Tuner::start(good[0]).1);
         assert_eq!(kept.meter(), Meter::Searching);
     }

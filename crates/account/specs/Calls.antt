@@ -16,7 +16,7 @@ use Rattle.whole.specs.Lists.{length-listOf, getD-listOf}
 use Rattle.whole.specs.Sums.{sum-within, total-zero}
 use Rattle.rules.specs.declared.Settings.{Settings}
 use Rattle.rules.specs.Rules.{Sound, silence, heard, heardAll, sq, E, H, noTone, inRange, defaults, after}
-use Rattle.rules.specs.Ranges.{in-range, is-in-range, defaults-in-range}
+use Rattle.rules.specs.Ranges.{defaults-in-range, settings-not-nine}
 use Rattle.rules.specs.Facts.{InRange, ForceIn, unpitched, valueAt, Right, keeping}
 use Rattle.rules.specs.Hearing.{all-heard}
 use Rattle.rules.specs.Position.{behind-in-bounds, in-bounds-behind}
@@ -30,7 +30,7 @@ use Rattle.meters.specs.Meters.{Exact}
 use Rattle.record.specs.declared.Last.{Last}
 use Rattle.record.specs.Records.{soundOf, freshHeard, freshPitch, freshHead, noLast}
 use Rattle.tuner.specs.declared.Tuner.{Tuner}
-use Rattle.tuner.specs.Tuners.{takeOf, forceOf, Good, freshTuner, made, heardAfter, afterBlock, lastSamples, Fits, Verdict, record-out-of-range, given-again, tunerBy, answerBy, Took, Started, withSettings, ChangeVerdict, setting-out-of-range, changed, Changed, ResetVerdict, Reset, Metered, read}
+use Rattle.tuner.specs.Tuners.{takeOf, forceOf, Good, freshTuner, made, heardAfter, afterBlock, lastSamples, Fits, Verdict, record-out-of-range, given-again, tunerBy, answerBy, Took, Started, withSettings, ChangeVerdict, by-settings, Changed, ResetVerdict, Reset, Metered, read}
 use Rattle.tuner.specs.Taking.{made-length}
 use Rattle.tuner.specs.Verdicts.{verdict-one, verdict-fits, verdict-zero, tuner-taken, tuner-kept, by-refused, by-given, counted, overlaid, out-length}
 use Rattle.account.specs.Account.{Call, Leaves, by-start, by-change, by-block, by-reset, by-meter, TakesNone, Meanwhile, nothing, and-meanwhile, GivenAgain, NeverNine}
@@ -68,11 +68,11 @@ silent-right {x} low n p =
           ∙ sym (natAbs-zero (H x (low + j)) (omega (arith, sum-within 0 (λ (k : ℕ). x k *ℤ x (k + (low + j))) (λ k. record { within = rw (p k, p (k + (low + j))) (omega arith) }) (low + j) .within)));
     }
 
-pub good-fresh : (s : Settings) → inRange s ≡ true → Good (freshTuner s)
+pub good-fresh : (s : Settings) → InRange s → Good (freshTuner s)
 unfolding freshTuner freshHeard freshPitch freshHead noLast noTone silence
 good-fresh s e =
     record {
-      settings = in-range s e;
+      settings = e;
       heard =
           record {
             count = omega arith;
@@ -168,21 +168,23 @@ module _ {t : Tuner} (g : Good t) (l : Lengths t) where
     where
       go : {v : ℕ} → ChangeVerdict t s v → Good (cond (eqb v 0) (withSettings t s) t) × Lengths (cond (eqb v 0) (withSettings t s) t)
       go (record-out-of-range n) = (g, l)
-      go (setting-out-of-range h e) = (g, l)
-      go (changed h e) = (good-with (in-range s e), record { store = l .store; eighths = l .eighths; energies = l .energies; correlations = l .correlations; out = l .out })
+      go (by-settings h) =
+          cond-case (inRange s) (withSettings t s) t (λ (u : Tuner). Good u × Lengths u)
+          (λ e. (good-with (eqb-true _ 0 e), record { store = l .store; eighths = l .eighths; energies = l .energies; correlations = l .correlations; out = l .out }))
+          (λ e. (g, l))
 
   pub reset-good : {t′ : Tuner} {a : Answer} → Reset t t′ a → Good t′ × Lengths t′
   reset-good p =
       rw (p .tuner)
       (cond-case (eqb (p .number) 0) (freshTuner (t .settings)) t (λ (u : Tuner). Good u × Lengths u)
-      (λ e. (good-fresh (t .settings) (is-in-range (t .settings) (g .settings)), fresh-lengths (t .settings)))
+      (λ e. (good-fresh (t .settings) (g .settings), fresh-lengths (t .settings)))
       (λ e. (g, l)))
 
 pub started-good : {s : Settings} {t′ : Tuner} {a : Answer} → Started s t′ a → Good t′ × Lengths t′
 started-good {s} p =
     rw (p .tuner)
     (cond-case (inRange s) s defaults (λ (r : Settings). Good (freshTuner r) × Lengths (freshTuner r))
-    (λ e. (good-fresh s e, fresh-lengths s))
+    (λ e. (good-fresh s (eqb-true _ 0 e), fresh-lengths s))
     (λ e. (good-fresh defaults defaults-in-range, fresh-lengths defaults)))
 
 call-good : {t t′ : Tuner} {c : Call} → Good t → Lengths t → Leaves t c t′ → Good t′ × Lengths t′
@@ -224,7 +226,7 @@ pub good-never-nine : {t : Tuner} → Good t → NeverNine t
 good-never-nine {t} g =
     record {
       block = λ {k} {xs} {ys} p e. block-nine (subst (Verdict t k xs (length ys)) (took-number p ∙ e) (p .verdict));
-      change = λ {s} p e. change-nine (subst (ChangeVerdict t s) (plain-number (p .answer) ∙ e) (p .verdict));
+      change = λ p e. change-nine (p .verdict) (plain-number (p .answer) ∙ e);
       reset = λ p e. reset-nine (subst (ResetVerdict t) (plain-number (p .answer) ∙ e) (p .verdict));
       meter = meter-refused;
     }
@@ -232,8 +234,9 @@ good-never-nine {t} g =
     block-nine : {k room : ℕ} {xs : List ℤ} → Verdict t k xs room 9 → ⊥
     block-nine (record-out-of-range n) = n g
 
-    change-nine : {s : Settings} → ChangeVerdict t s 9 → ⊥
-    change-nine (record-out-of-range n) = n g
+    change-nine : {s : Settings} {v : ℕ} → ChangeVerdict t s v → v ≡ 9 → ⊥
+    change-nine (record-out-of-range n) e = n g
+    change-nine {s} (by-settings h) e = settings-not-nine s e
 
     reset-nine : ResetVerdict t 9 → ⊥
     reset-nine (record-out-of-range n) = n g

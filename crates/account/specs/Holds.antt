@@ -13,8 +13,8 @@ use Rattle.whole.specs.Tests.{by, cond-case, cond-yes, cond-no}
 use Rattle.rules.specs.declared.Settings.{Settings}
 use Rattle.rules.specs.declared.InForce.{InForce}
 use Rattle.rules.specs.Rules.{Sound, silence, heardAll, Mode, searching, tracking, Pitch, noTone, Take, Given, inputAt, freshTake, inRange, defaults, after, gives, samplesOut, gathered, allRepeated, allDropped}
-use Rattle.rules.specs.Ranges.{is-in-range, defaults-in-range}
-use Rattle.rules.specs.Facts.{ForceIn, keeping}
+use Rattle.rules.specs.Ranges.{defaults-in-range}
+use Rattle.rules.specs.Facts.{InRange, ForceIn, keeping}
 use Rattle.rules.specs.History.{Piece, afterPieces, overPieces, givesPieces, samplesPieces}
 use Rattle.pitch.specs.Keeping.{kept-pitch}
 use Rattle.pitch.specs.Listening.{lags-of}
@@ -45,7 +45,7 @@ record Keeps (r : Received) (t : Tuner) : Type 0 where
   written : r .written ≡ samplesOut (givenOf r)
 
 -- ---- a fresh tuner
-begun-keeps : (s : Settings) → inRange s ≡ true → Keeps (begun (record { settings = s })) (freshTuner s)
+begun-keeps : (s : Settings) → InRange s → Keeps (begun (record { settings = s })) (freshTuner s)
 unfolding freshTuner freshHeard freshPitch freshHead noLast freshTake noTone takeOf afterPieces overPieces samplesOut gathered inputAt silence
 begun-keeps s e =
     record {
@@ -61,7 +61,7 @@ begun-keeps s e =
 
 start-keeps : {s : Settings} {t′ : Tuner} {a : Answer} → Started s t′ a → Keeps (begun (record { settings = cond (eqb (a .number) 0) s defaults })) t′
 start-keeps {s} p =
-    rw (p .tuner, p .answer) (by (inRange s) (λ e. rw e (begun-keeps s e)) (λ e. rw e (begun-keeps defaults defaults-in-range)))
+    rw (p .tuner, p .answer) (by (inRange s) (λ e. rw e (begun-keeps s (eqb-true _ 0 e))) (λ e. rw e (begun-keeps defaults defaults-in-range)))
 
 -- ---- a block taken: the record after it, and the rules' take
 agree-then : {t u v : Take} → Agree t u → Agree u v → Agree t v
@@ -183,7 +183,7 @@ module _ {r : Received} {t : Tuner} (k : Keeps r t) where
       let first = freshTuner (t .settings) in
       subst (λ (b : Answer). Keeps (plus (reset b) r) t′) (sym (p .answer))
       (cond-case (eqb (p .number) 0) _ r (λ (q : Received). Keeps q t′)
-      (λ e. rw (p .tuner ∙ cond-yes first t e, sym (k .force)) (begun-keeps (t .settings) (is-in-range (t .settings) (k .good .settings))))
+      (λ e. rw (p .tuner ∙ cond-yes first t e, sym (k .force)) (begun-keeps (t .settings) (k .good .settings)))
       (λ e. subst (Keeps r) (sym (p .tuner ∙ cond-no first t e)) k))
 
   call-keeps : {c : Call} {t′ : Tuner} → Leaves t c t′ → Keeps (plus c r) t′

@@ -12,7 +12,7 @@ ghost use Rattle.answers.specs.Numbering.{plain};
 ghost use Rattle.cutting.specs.Cuts.{Cut};
 ghost use Rattle.host.specs.Hosts.{layoutNumber, recordOf, bare, shownAs, HostStarted, HostChanged, HostTook, HostReset, HostMetered};
 
-// The number of this layout of the record: version 3 of the calls, counted from 20000, since a record of versions 1 and 2 began with the scale, at most
+// The number of this layout of the record: it came with version 3 of the calls, counted from 20000, since a record of versions 1 and 2 began with the scale, at most
 // 4095, and so is never taken for one of this layout.
 const LAYOUT: u64 = 20003;
 
@@ -160,9 +160,9 @@ fn metered(r: Record) -> Shown
 // The version of these calls.
 #[no_mangle]
 pub extern "C" fn daxfolin_version() -> u32
-    ensures { λ r. ⌜ r ≡ 3 ⌝ }
+    ensures { λ r. ⌜ r ≡ 4 ⌝ }
 {
-    3
+    4
 }
 
 // Where the k-th stretch of 512 samples of a recording of so many lies: the last may be shorter, and past the end there is nothing.
@@ -173,7 +173,7 @@ pub extern "C" fn daxfolin_cut(length: usize, k: usize) -> Stretch
     cutting::place(length, k)
 }
 
-// A fresh tuner with these settings, or the default tuner beside 8. What the record held is not read.
+// A fresh tuner with these settings, or the default tuner beside the number of the first bad one. What the record held is not read.
 #[no_mangle]
 pub extern "C" fn daxfolin_start(lent: &mut Record, settings: Settings) -> u32
     ensures { λ n. ⌜ HostStarted settings (now (lent .exit)) n ⌝ }

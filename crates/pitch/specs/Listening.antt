@@ -19,6 +19,7 @@ use Rattle.rules.specs.Facts.{InRange, ForceIn, ToneIn, unpitched, LagsIn, Mode
 use Rattle.rules.specs.Choosing.{found-range}
 use Rattle.rules.specs.Notes.{tuned-in}
 use Rattle.rules.specs.Sane.{tracking-is-not-searching}
+use Rattle.rules.specs.Ranges.{ranges}
 use Rattle.sums.specs.Kept.{Kept}
 use Rattle.finding.specs.Finding.{lagOf}
 use Rattle.passing.specs.Distances.{Modest}
@@ -53,7 +54,7 @@ pub kept-sums : {e : List ℕ} {h : List ℤ} → Eighth e h → Kept eighthLags
 kept-sums k = record { sound = k .sound; fits = k .fits; low = 2; upto = omega arith; right = k .right }
 
 pub modest : {f : InForce} → ForceIn f → Modest (f .settings)
-modest r = record { eps = r .settings .eps; floor = r .settings .floorTo }
+modest r = let k = ranges _ (r .settings) in record { eps = k .eps .1; floor = k .floor .1 }
 
 -- ---- the mode that is kept
 module _ (v : KeptPitch) where

@@ -9,9 +9,8 @@ use lib.ListN.{length}
 use lib.Seq.{take-all}
 use Rattle.whole.specs.Tests.{Decides, by, yes-and-no, decides-as}
 use Rattle.rules.specs.declared.Settings.{Settings}
-use Rattle.rules.specs.Rules.{Sound, silence, heardAll, inRange, searching, tracking, keptSamples, keptEighths, eighthLags}
-use Rattle.rules.specs.Ranges.{in-range, is-in-range}
-use Rattle.rules.specs.Facts.{InRange, ToneIn, LagsIn, PitchIn, valueAt, Right}
+use Rattle.rules.specs.Rules.{Sound, silence, heardAll, searching, tracking, keptSamples, keptEighths, eighthLags}
+use Rattle.rules.specs.Facts.{ToneIn, LagsIn, PitchIn, valueAt, Right}
 use Rattle.rules.specs.Sane.{tracking-is-not-searching}
 use Rattle.ages.specs.Ages.{ago, Samples}
 use Rattle.tracking.specs.declared.Tracker.{Tracker}
@@ -20,14 +19,6 @@ use Rattle.pitch.specs.Pitches.{modeOf, pitchOf, PitchRight}
 use Rattle.pitch.specs.Listening.{is-tracking, is-searching, lags-of}
 use Rattle.record.specs.declared.Heard.{Heard}
 use Rattle.record.specs.Records.{soundOf}
-
--- ---- settings
-module _ {b : Bool} (s : Settings) where
-  pub range-of : b ≡ inRange s → Decides b (InRange s)
-  range-of e = record { yes = λ y. in-range s (sym e ∙ y); no = λ n r. yes-and-no (e ∙ is-in-range s r) n }
-
-  pub range-is : Decides b (InRange s) → b ≡ inRange s
-  range-is d = by b (λ y. y ∙ sym (is-in-range s (d .yes y))) (λ n. by (inRange s) (λ y. absurd (d .no n (in-range s y))) (λ m. n ∙ sym m))
 
 -- ---- what was heard
 

@@ -13,7 +13,7 @@ ghost use Prim.Native.Nat.{ℕ, _+_, _-_, _≤_, _<_};
 ghost use lib.IntN.{pos};
 ghost use lib.ListN.{length};
 ghost use Rattle.whole.specs.Tests.{Decides};
-ghost use Rattle.rules.specs.Rules.{inRange, defaults, keptSamples};
+ghost use Rattle.rules.specs.Rules.{settingsNumber, defaults, keptSamples};
 ghost use Rattle.rules.specs.Facts.{ToneIn, valueAt};
 ghost use Rattle.ages.specs.Ages.{Samples};
 ghost use Rattle.pitch.specs.Pitches.{PitchRight};
@@ -122,20 +122,23 @@ fn within(x: u32, from: u32, to: u32) -> bool
     x <= to
 }
 
-// The settings' ranges.
-pub fn in_range(s: Settings) -> bool
-    ensures { λ r. ⌜ r ≡ inRange s ⌝ }
+// The number that settings are answered: that of the first bad one, 0 where all are in range.
+pub fn settings_number(s: Settings) -> u32
+    ensures { λ r. ⌜ r ≡ settingsNumber s ⌝ }
 {
     if !within(s.scale, 1, 4095) {
-        return false;
+        return 8;
     }
-    if s.eps > 409 {
-        return false;
+    if !within(s.eps, 0, 409) {
+        return 11;
     }
-    if s.decay > 255 {
-        return false;
+    if !within(s.decay, 0, 255) {
+        return 12;
     }
-    within(s.floor, 1, 1000000)
+    if !within(s.floor, 1, 1000000) {
+        return 13;
+    }
+    0
 }
 
 // The first n samples of a store are 0.
@@ -246,7 +249,7 @@ fn last_right(l: Last, count: u64) -> bool
 pub fn all_right(s: Settings, h: Heard, v: Pitch, d: Head, l: Last) -> bool
     ensures { λ r. ⌜ Decides r (AllRight s h v d l) ⌝ }
 {
-    if !in_range(s) {
+    if settings_number(s) != 0 {
         return false;
     }
     if !last_right(l, h.count) {

@@ -9,16 +9,11 @@ use Rattle.whole.specs.Numbers.{listOf}
 use Rattle.rules.specs.declared.Settings.{Settings}
 use Rattle.rules.specs.declared.InForce.{InForce}
 use Rattle.rules.specs.declared.Tone.{Tone}
-use Rattle.rules.specs.Rules.{Sound, E, H, inputAt, farthest, lowestLag, highestLag, leastPeriod, greatestPeriod, firstNote, notes, freshRate, leastRate, greatestRate, Mode, searching, tracking, Pitch}
+use Rattle.rules.specs.Rules.{settingsNumber, Sound, E, H, inputAt, farthest, lowestLag, highestLag, leastPeriod, greatestPeriod, firstNote, notes, freshRate, leastRate, greatestRate, Mode, searching, tracking, Pitch}
 
--- each setting in its range
-pub record InRange (s : Settings) : Type 0 where
-  pub scaleFrom : 1 ≤ s .scale
-  pub scaleTo : s .scale ≤ 4095
-  pub eps : s .eps ≤ 409
-  pub decay : s .decay ≤ 255
-  pub floorFrom : 1 ≤ s .floor
-  pub floorTo : s .floor ≤ 1000000
+-- settings in range: none of them is refused
+abbrev pub InRange : Settings → Type 0
+InRange s = settingsNumber s ≡ 0
 
 -- what is in force, in its ranges
 pub record ForceIn (f : InForce) : Type 0 where

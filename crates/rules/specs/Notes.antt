@@ -23,6 +23,7 @@ use borrow.Author.Tests.{ltb-true, ltb-false, leb-true, leb-false, eq-eqb, le-lt
 use lib.Dec.{leb, ltb}
 use Rattle.whole.specs.Tests.{by, cond-case, yes-and-no}
 use Rattle.rules.specs.Table.{at-each-note}
+use Rattle.rules.specs.Ranges.{ranges}
 use Rattle.rules.specs.Rules.{
   table,
   firstNote,
@@ -299,7 +300,8 @@ goal-wanted f p n e = rw e
 
 pub goal-in : {f : InForce} → ForceIn f → (p : ℕ) → leastPeriod ≤ p → p ≤ greatestPeriod → GoalIn (goal f p)
 goal-in {f} r p lo hi =
-    let (n, w) = wanted-some (f .settings .scale) p (r .settings .scaleFrom) (r .settings .scaleTo) in
+    let scale = ranges (f .settings) (r .settings) .scale in
+    let (n, w) = wanted-some (f .settings .scale) p (scale .0) (scale .1) in
     let k = raw-range (w .1) lo hi in
     rw (goal-wanted f p n (w .0)) (record { note = record { from = w .1 .inTable .0; upto = w .1 .inTable .1 }; from = k .0; upto = k .1 })
 
@@ -308,5 +310,5 @@ unfolding tuned
 tuned-in {f} r i p lo hi =
     let g = goal-in r p lo hi in
     let h = tone-rate i in
-    let k = smooth-range {decay = f .settings .decay} (omega (arith, r .settings .decay)) (h .0) (h .1) (g .from) (g .upto) in
+    let k = smooth-range {decay = f .settings .decay} (omega (arith, ranges (f .settings) (r .settings) .decay .1)) (h .0) (h .1) (g .from) (g .upto) in
     pitched lo hi (g .note) (k .0) (k .1)

@@ -1,32 +1,76 @@
--- Settings in their ranges, fact by fact, and the test that decides it.
+-- Which number settings are answered, setting by setting; and the range of each where that number is 0.
 use mathlib.Core.Path.{_≡_, refl}
-use mathlib.Core.Bool.{true}
-use borrow.Author.Tests.{leb-true, le-leb}
-use Rattle.whole.specs.Tests.{each-of}
+use mathlib.Core.Bool.{Bool, true, false}
+use Prim.Native.Nat.{ℕ, _≤_}
+use borrow.Author.Tests.{leb-true, le-leb, eqb-false}
+use lib.Dec.{leb, eqb}
+use Rattle.whole.specs.Tests.{by, and-left, and-right}
 use Rattle.rules.specs.declared.Settings.{Settings}
-use Rattle.rules.specs.Rules.{rangeTests, inRange, defaults}
+use Rattle.rules.specs.Rules.{within, refuse, settingsNumber, defaults}
 use Rattle.rules.specs.Facts.{InRange}
 
+-- ---- one test
+
+-- a number from one to another
+abbrev pub Within : ℕ → ℕ → ℕ → Type 0
+Within from to x = (from ≤ x) × (x ≤ to)
+
+module _ (from to x : ℕ) where
+  pub is-within : Within from to x → within from to x ≡ true
+  is-within h = rw (le-leb from x (h .0), le-leb x to (h .1))
+
+  within-is : within from to x ≡ true → Within from to x
+  within-is e = (leb-true from x (and-left (leb from x) (leb x to) e), leb-true x to (and-right (leb from x) (leb x to) e))
+
+  pub not-within : (Within from to x → ⊥) → within from to x ≡ false
+  not-within n = by (within from to x) (λ e. absurd (n (within-is e))) (λ e. e)
+
+-- a test that refuses with a number: where the answer is 0 it was passed, and so were those after it
+module _ (number : ℕ) (above : eqb number 0 ≡ false) where
+  unrefused : (passed : Bool) {later : ℕ} → refuse number passed later ≡ 0 → (passed ≡ true) × (later ≡ 0)
+  unrefused true e = (refl, e)
+  unrefused false e = absurd (eqb-false number 0 above e)
+
+-- a test that refuses with a number other than 9 is not answered 9 where those after it are not
+module _ (number : ℕ) (other : eqb number 9 ≡ false) where
+  not-nine : (passed : Bool) {later : ℕ} → (later ≡ 9 → ⊥) → refuse number passed later ≡ 9 → ⊥
+  not-nine true n = n
+  not-nine false n = eqb-false number 9 other
+
+-- ---- all of them
+
+-- each setting in its range
+pub record Ranges (s : Settings) : Type 0 where
+  pub scale : Within 1 4095 (s .scale)
+  pub eps : Within 0 409 (s .eps)
+  pub decay : Within 0 255 (s .decay)
+  pub floor : Within 1 1000000 (s .floor)
+
 module _ (s : Settings) where
-  pub in-range : inRange s ≡ true → InRange s
-  unfolding inRange
-  in-range e =
-      let each = each-of (rangeTests s) e in
+  pub ranges : InRange s → Ranges s
+  unfolding settingsNumber
+  ranges e =
+      let scale = unrefused 8 refl _ e in
+      let eps = unrefused 11 refl _ (scale .1) in
+      let decay = unrefused 12 refl _ (eps .1) in
+      let floor = unrefused 13 refl _ (decay .1) in
       record {
-        scaleFrom = leb-true 1 (s .scale) (each 0);
-        scaleTo = leb-true (s .scale) 4095 (each 1);
-        eps = leb-true (s .eps) 409 (each 2);
-        decay = leb-true (s .decay) 255 (each 3);
-        floorFrom = leb-true 1 (s .floor) (each 4);
-        floorTo = leb-true (s .floor) 1000000 (each 5);
+        scale = within-is 1 4095 (s .scale) (scale .0);
+        eps = within-is 0 409 (s .eps) (eps .0);
+        decay = within-is 0 255 (s .decay) (decay .0);
+        floor = within-is 1 1000000 (s .floor) (floor .0);
       }
 
-  pub is-in-range : InRange s → inRange s ≡ true
-  unfolding inRange
-  is-in-range r =
-      rw (le-leb _ _ (r .scaleFrom), le-leb _ _ (r .scaleTo), le-leb _ _ (r .eps), le-leb _ _ (r .decay), le-leb _ _ (r .floorFrom), le-leb _ _ (r .floorTo))
+  -- settings are never answered 9, the number of a bad record
+  pub settings-not-nine : settingsNumber s ≡ 9 → ⊥
+  unfolding settingsNumber
+  settings-not-nine =
+      not-nine 8 refl (within 1 4095 (s .scale))
+      (not-nine 11 refl (within 0 409 (s .eps))
+      (not-nine 12 refl (within 0 255 (s .decay))
+      (not-nine 13 refl (within 1 1000000 (s .floor)) (eqb-false 0 9 refl))))
 
 -- the defaults are in range
-pub defaults-in-range : inRange defaults ≡ true
-unfolding inRange defaults
+pub defaults-in-range : InRange defaults
+unfolding settingsNumber defaults
 defaults-in-range = refl

@@ -12,7 +12,7 @@ use Rattle.rules.specs.declared.Settings.{Settings}
 use Rattle.rules.specs.declared.InForce.{InForce}
 use Rattle.rules.specs.declared.Tone.{Tone}
 use Rattle.rules.specs.declared.Goal.{Goal}
-use Rattle.whole.specs.Numbers.{allb, sum, total, floorDiv, nearestDiv}
+use Rattle.whole.specs.Numbers.{sum, total, floorDiv, nearestDiv}
 
 -- ---- Settings: scale, eps, decay and floor, as src/lib.rt declares them, with what is in force at a sample, a tone and a goal
 
@@ -20,14 +20,25 @@ use Rattle.whole.specs.Numbers.{allb, sum, total, floorDiv, nearestDiv}
 unfoldable pub defaults : Settings
 defaults = record { scale = 4095; eps = 100; decay = 0; floor = 100 }
 
--- the range of each setting; scale 0 is out of it
-abbrev pub rangeTests : Settings → List Bool
-rangeTests s =
-    leb 1 (s .scale) ∷ leb (s .scale) 4095 ∷ leb (s .eps) 409 ∷ leb (s .decay) 255 ∷ leb 1 (s .floor) ∷ leb (s .floor) 1000000 ∷ []
+-- a number from one to another
+abbrev pub within : ℕ → ℕ → ℕ → Bool
+within from to x = leb from x && leb x to
 
--- all settings in their ranges
-unfoldable pub inRange : Settings → Bool
-inRange s = allb (rangeTests s)
+-- refused with this number where a test fails, else what the tests after it say
+abbrev pub refuse : ℕ → Bool → ℕ → ℕ
+refuse number passed later = cond passed later number
+
+-- the number that settings are answered: the first bad one is named, in this order; 0 where all are in range. Scale 0 is bad
+unfoldable pub settingsNumber : Settings → ℕ
+settingsNumber s =
+    refuse 8 (within 1 4095 (s .scale))
+    (refuse 11 (within 0 409 (s .eps))
+    (refuse 12 (within 0 255 (s .decay))
+    (refuse 13 (within 1 1000000 (s .floor)) 0)))
+
+-- settings are in range where that number is 0
+abbrev pub inRange : Settings → Bool
+inRange s = eqb (settingsNumber s) 0
 
 -- ---- Energies and correlations
 

@@ -1,8 +1,11 @@
 -- Laws of the meter and of a start: no second answer can meet either promise, and settings in range are taken.
 use mathlib.Core.Path.{_≡_, sym, _∙_, subst}
-use mathlib.Core.Bool.{Bool, true, cond}
+use mathlib.Core.Bool.{cond}
+use Prim.Native.Nat.{ℕ}
+use lib.Dec.{eqb}
 use Rattle.rules.specs.declared.Settings.{Settings}
-use Rattle.rules.specs.Rules.{inRange, defaults}
+use Rattle.rules.specs.Rules.{defaults}
+use Rattle.rules.specs.Facts.{InRange}
 use Rattle.rules.specs.Ranges.{defaults-in-range}
 use Rattle.tuner.specs.declared.Tuner.{Tuner}
 use Rattle.answers.specs.declared.Answer.{Answer}
@@ -20,8 +23,8 @@ pub one-start : {s : Settings} {t t′ : Tuner} {a a′ : Answer} → Started s 
 one-start p q = (p .tuner ∙ sym (q .tuner), p .answer ∙ sym (q .answer))
 
 -- settings in range are taken: the fresh tuner with them, and 0
-pub start-taken : {s : Settings} {t : Tuner} {a : Answer} → inRange s ≡ true → Started s t a → (t ≡ freshTuner s) × (a ≡ plain 0)
-start-taken {s} {t} {a} e p = subst (λ (b : Bool). (t ≡ freshTuner (cond b s defaults)) × (a ≡ plain (cond b 0 8))) e (p .tuner, p .answer)
+pub start-taken : {s : Settings} {t : Tuner} {a : Answer} → InRange s → Started s t a → (t ≡ freshTuner s) × (a ≡ plain 0)
+start-taken {s} {t} {a} e p = subst (λ (n : ℕ). (t ≡ freshTuner (cond (eqb n 0) s defaults)) × (a ≡ plain n)) e (p .tuner, p .answer)
 
 -- so are the defaults
 pub default-start-taken : {t : Tuner} {a : Answer} → Started defaults t a → (t ≡ freshTuner defaults) × (a ≡ plain 0)

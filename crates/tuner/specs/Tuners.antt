@@ -8,7 +8,7 @@ use lib.IntN.{ℤ, pos, natAbs, _-ℤ_}
 use lib.ListN.{length, take, drop, replicate}
 use Rattle.rules.specs.declared.Settings.{Settings}
 use Rattle.rules.specs.declared.InForce.{InForce}
-use Rattle.rules.specs.Rules.{Sound, heard, eighthDue, eighthSample, Take, Given, inputAt, inRange, defaults, after, gives, samplesOut, allRepeated, allDropped, takeLimit, longestBlock, keptSamples, eighthLags}
+use Rattle.rules.specs.Rules.{Sound, heard, eighthDue, eighthSample, Take, Given, inputAt, settingsNumber, inRange, defaults, after, gives, samplesOut, allRepeated, allDropped, takeLimit, longestBlock, keptSamples, eighthLags}
 use Rattle.rules.specs.Facts.{energiesOf, correlationsOf, keeping}
 use Rattle.pitch.specs.Pitches.{pitchOf, keptOf}
 use Rattle.answers.specs.declared.Answer.{Answer}
@@ -153,20 +153,19 @@ pub record Took (t : Tuner) (k : ℕ) (xs ys : List ℤ) (t′ : Tuner) (a : Ans
 
 -- ---- start, change, reset
 
--- the promise of a start: taken, or the default tuner beside 8
+-- the promise of a start: taken where no setting is refused, else the default tuner beside the number of the first bad one
 pub record Started (s : Settings) (t′ : Tuner) (a : Answer) : Type 0 where
   pub tuner : t′ ≡ freshTuner (cond (inRange s) s defaults)
-  pub answer : a ≡ plain (cond (inRange s) 0 8)
+  pub answer : a ≡ plain (settingsNumber s)
 
 -- the tuner with other settings
 abbrev pub withSettings : Tuner → Settings → Tuner
 withSettings t s = record { settings = s; heard = t .heard; pitch = t .pitch; head = t .head; last = t .last }
 
--- the number of the answer to a change: 9, then 8
+-- the number of the answer to a change: 9, then that of the settings
 pub data ChangeVerdict (t : Tuner) (s : Settings) : ℕ → Type 0 where
   record-out-of-range : (Good t → ⊥) → ChangeVerdict t s 9
-  setting-out-of-range : Good t → inRange s ≡ false → ChangeVerdict t s 8
-  changed : Good t → inRange s ≡ true → ChangeVerdict t s 0
+  by-settings : Good t → ChangeVerdict t s (settingsNumber s)
 
 -- the promise of a change
 pub record Changed (t : Tuner) (s : Settings) (t′ : Tuner) (a : Answer) : Type 0 where

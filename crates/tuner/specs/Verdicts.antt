@@ -10,12 +10,12 @@ use lib.IntN.{ℤ}
 use lib.ListN.{length, take, drop, length-append, length-drop, length-replicate}
 use Rattle.whole.specs.Tests.{yes-and-no}
 use Rattle.rules.specs.declared.Settings.{Settings}
-use Rattle.rules.specs.Rules.{inRange}
+use Rattle.rules.specs.Rules.{settingsNumber}
 use Rattle.rules.specs.Blocks.{gives-length}
 use Rattle.tuner.specs.declared.Tuner.{Tuner}
 use Rattle.answers.specs.declared.Answer.{Answer}
 use Rattle.answers.specs.Numbering.{plain, HasNumber, following, Numbered, neither, other, again, full, new}
-use Rattle.tuner.specs.Tuners.{Good, freshTuner, afterBlock, IsLast, lastSamples, nextNumber, Fits, Verdict, record-out-of-range, block-empty, block-over-512, output-short, number-neither, other-samples, given-again, take-full, taken, tunerBy, answerBy, outBy, Took, ChangeVerdict, withSettings, setting-out-of-range, changed, Changed, ResetVerdict, begun-again, Reset}
+use Rattle.tuner.specs.Tuners.{Good, freshTuner, afterBlock, IsLast, lastSamples, nextNumber, Fits, Verdict, record-out-of-range, block-empty, block-over-512, output-short, number-neither, other-samples, given-again, take-full, taken, tunerBy, answerBy, outBy, Took, ChangeVerdict, withSettings, by-settings, Changed, ResetVerdict, begun-again, Reset}
 
 module _ {t : Tuner} {k : ℕ} {xs : List ℤ} {room : ℕ} where
   pub by-number : {v : ℕ} → Fits t xs room → Numbered (t .heard .count) (t .last .number) (t .last .length) (t .heard .store) k xs v → Verdict t k xs room v
@@ -150,14 +150,13 @@ out-length (suc v) t k xs h e = rw (tuner-kept {v = suc v} t k xs (λ z. omega a
 
 -- ---- no second answer to a change and a reset
 module _ {t : Tuner} where
-  change-path : {s : Settings} {v : ℕ} → ChangeVerdict t s v → Step (Good t) (v ≡ 9) (Step (inRange s ≡ true) (v ≡ 8) (v ≡ 0))
+  change-path : {s : Settings} {v : ℕ} → ChangeVerdict t s v → Step (Good t) (v ≡ 9) (v ≡ settingsNumber s)
   change-path (record-out-of-range n) = isn't n refl
-  change-path (setting-out-of-range g e) = is g (isn't (λ y. yes-and-no y e) refl)
-  change-path (changed g e) = is g (is e refl)
+  change-path (by-settings g) = is g refl
 
   pub changed-one : {s : Settings} {t₁ t₂ : Tuner} {a₁ a₂ : Answer} → Changed t s t₁ a₁ → Changed t s t₂ a₂ → (t₁ ≡ t₂) × (a₁ ≡ a₂)
   changed-one {s} p q =
-      let e = step-one (change-path (p .verdict)) (change-path (q .verdict)) both (λ p q. step-one p q both both) in (
+      let e = step-one (change-path (p .verdict)) (change-path (q .verdict)) both both in (
         p .tuner ∙ ap (λ (v : ℕ). cond (eqb v 0) (withSettings t s) t) e ∙ sym (q .tuner),
         p .answer ∙ ap plain e ∙ sym (q .answer),
       )

@@ -59,11 +59,12 @@ fn fresh_tuner(s: Settings) -> Tuner
     }
 }
 
-// The fresh tuner with these settings, or the default tuner beside 8.
+// The fresh tuner with these settings, or the default tuner beside the number of the first bad one.
 pub fn start(s: Settings) -> Taken
     ensures { λ r. ⌜ Started s (r .tuner) (r .answer) ⌝ }
 {
-    if record::in_range(s) {
+    let number = record::settings_number(s);
+    if number == 0 {
         return Taken {
             tuner: fresh_tuner(s),
             answer: answers::plain(0),
@@ -72,7 +73,7 @@ pub fn start(s: Settings) -> Taken
     let d = record::default_settings();
     Taken {
         tuner: fresh_tuner(d),
-        answer: answers::plain(8),
+        answer: answers::plain(number),
     }
 }
 
@@ -185,17 +186,17 @@ impl Tuner {
         ensures { λ r. ⌜ Changed self s (r .tuner) (r .answer) ⌝ }
     {
         let right = good(self);
-        let allowed = record::in_range(s);
+        let number = record::settings_number(s);
         if !right {
             return Taken {
                 tuner: self,
                 answer: answers::plain(9),
             };
         }
-        if !allowed {
+        if number != 0 {
             return Taken {
                 tuner: self,
-                answer: answers::plain(8),
+                answer: answers::plain(number),
             };
         }
         let mut t = self;

@@ -12,7 +12,6 @@
 -- a ≡ b says that they are equal; × is and, ⊎ is or, P → ⊥ is not P; (k : ℕ) → P says that P holds for every k.
 -- A sound is a function of age: x k is the sample of k samples ago, x 0 the newest.
 use mathlib.Core.Path.{_≡_}
-use mathlib.Core.Bool.{Bool, true, _&&_}
 use mathlib.Core.List.{List, [], _∷_}
 use Prim.Native.Nat.{ℕ, zero, suc, _+_, _*_, _<_}
 use lib.IntN.{ℤ, pos, _+ℤ_, _*ℤ_}
@@ -49,8 +48,3 @@ sum f n = fold (pos 0) _+ℤ_ f n
 unfoldable pub listOf : {A : Type 0} → (ℕ → A) → ℕ → List A
 listOf f zero = []
 listOf f (suc n) = f 0 ∷ listOf (λ (k : ℕ). f (suc k)) n
-
--- several tests at once
-abbrev pub allb : List Bool → Bool
-allb [] = true
-allb (b ∷ bs) = b && allb bs

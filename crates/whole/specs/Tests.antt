@@ -1,13 +1,10 @@
 -- What a test that was made says, and the parts of a test that held.
 use mathlib.Core.Path.{_≡_, refl, subst, sym, _∙_}
 use mathlib.Core.Bool.{Bool, true, false, not, cond, _&&_}
-use mathlib.Core.List.{List, [], _∷_}
 use Prim.Native.Nat.{ℕ, zero, suc, _≤_}
 use native.Mathlib.Omega.{arith}
 use borrow.Author.Tests.{not-true, not-false, leb-true, leb-false, eqb-true, eqb-false}
 use lib.Dec.{T, leb, eqb}
-use lib.ListN.{getD}
-use Rattle.whole.specs.Numbers.{allb}
 
 -- by how a test came out
 pub by : {P : Type 0} (b : Bool) → (b ≡ true → P) → (b ≡ false → P) → P
@@ -42,12 +39,6 @@ and-no false e = refl
 
 pub true-T : {b : Bool} → b ≡ true → T b
 true-T e = subst T (sym e) tt
-
--- each of several tests that held
-pub each-of : (bs : List Bool) → allb bs ≡ true → (i : ℕ) → getD bs i true ≡ true
-each-of [] e i = refl
-each-of (b ∷ bs) e zero = and-left b (allb bs) e
-each-of (b ∷ bs) e (suc i) = each-of bs (and-right b (allb bs) e) i
 
 -- a test decides a statement
 pub record Decides (b : Bool) (P : Type 0) : Type 0 where

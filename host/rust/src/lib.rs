@@ -21,7 +21,7 @@
 use std::fmt;
 
 /// The version of the calls.
-pub const VERSION: u32 = 3;
+pub const VERSION: u32 = 4;
 /// The number of the record's layout, which stands first in it.
 pub const LAYOUT: u64 = 20_003;
 /// The most samples of a block.
@@ -33,8 +33,8 @@ pub const LONGEST_TAKE: u32 = 1_000_000_000;
 pub const TAKEN: u32 = 0;
 /// The last block's number, length and samples: the same counts and output again, the record unchanged.
 pub const GIVEN_AGAIN: u32 = 1;
-/// The block has no samples. From here to 9 a call is refused: the record and the output are as they were, but for a start, which
-/// hands back the default tuner beside 8.
+/// The block has no samples. From here on a call is refused: the record and the output are as they were, but for a start, which hands
+/// back the default tuner beside 8, 11, 12 or 13.
 pub const BLOCK_EMPTY: u32 = 2;
 /// The block has more than 512 samples.
 pub const BLOCK_OVER_512: u32 = 3;
@@ -46,10 +46,17 @@ pub const NUMBER_NEITHER: u32 = 5;
 pub const OTHER_SAMPLES: u32 = 6;
 /// The take would pass 1,000,000,000 samples.
 pub const TAKE_FULL: u32 = 7;
-/// A setting is out of its range; scale 0 is. A change leaves the record as it was, a start hands back the default tuner.
-pub const SETTING_OUT_OF_RANGE: u32 = 8;
+/// The scale is 0 or over 4095. Of settings the first bad one is named, in the order scale, eps, decay, floor; a change leaves the
+/// record as it was, a start hands back the default tuner.
+pub const SCALE_OUT_OF_RANGE: u32 = 8;
 /// A number of the record is out of its range, its layout's among them.
 pub const RECORD_OUT_OF_RANGE: u32 = 9;
+/// Eps is over 409. (10 answers lines that cannot be read, and so no call.)
+pub const EPS_OUT_OF_RANGE: u32 = 11;
+/// Decay is over 255.
+pub const DECAY_OUT_OF_RANGE: u32 = 12;
+/// Floor is 0 or over 1,000,000.
+pub const FLOOR_OUT_OF_RANGE: u32 = 13;
 
 /// What the host may set.
 #[repr(C)]
@@ -184,7 +191,7 @@ impl Record {
         }
     }
 
-    /// A fresh tuner with these settings and 0; or, where a setting is out of its range, the default tuner beside 8.
+    /// A fresh tuner with these settings and 0; or the default tuner beside the number of the first bad setting: 8, 11, 12 or 13.
     pub fn start(settings: Settings) -> (u32, Record) {
         let mut record = Record::blank();
         // SAFETY: the record is a reference's.
@@ -200,7 +207,8 @@ impl Record {
         (number, record)
     }
 
-    /// New settings, which count from the next sample: 0; or 9, then 8, and the record is as it was.
+    /// New settings, which count from the next sample: 0; or 9, then the number of the first bad setting (8, 11, 12, 13), and the record
+    /// is as it was.
     pub fn change(&mut self, settings: Settings) -> u32 {
         // SAFETY: the record is a reference's, and may hold any bytes.
         unsafe { archive::daxfolin_change(self, settings) }

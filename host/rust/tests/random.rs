@@ -4,7 +4,10 @@
 //! many calls, DAXFOLIN_SEED which.
 #![cfg(target_arch = "x86_64")]
 
-use daxfolin::{cut, Answer, Meter, Record, Settings, LAYOUT, RECORD_OUT_OF_RANGE, TAKEN};
+use daxfolin::{
+    cut, Answer, Meter, Record, Settings, DECAY_OUT_OF_RANGE, EPS_OUT_OF_RANGE, FLOOR_OUT_OF_RANGE,
+    LAYOUT, RECORD_OUT_OF_RANGE, SCALE_OUT_OF_RANGE, TAKEN,
+};
 use independent::generator::cases::Cases;
 use independent::generator::edges::fresh_of_version_2;
 use independent::record::{made, Call, Left};
@@ -139,6 +142,31 @@ fn a_record_of_another_layout_is_refused() {
     let old = fresh_of_version_2();
     assert_eq!(old[..8], [0xFF, 0x0F, 0, 0, 100, 0, 0, 0]);
     is_of_another_layout(&old);
+}
+
+/// The first bad setting is named: a start hands back the default tuner, a change leaves the record.
+#[test]
+fn each_setting_has_its_own_refusal() {
+    let refused = [
+        (SCALE_OUT_OF_RANGE, [0, 410, 256, 0]),
+        (EPS_OUT_OF_RANGE, [1, 410, 256, 0]),
+        (DECAY_OUT_OF_RANGE, [1, 409, 256, 0]),
+        (FLOOR_OUT_OF_RANGE, [1, 409, 255, 0]),
+    ];
+    for (number, [scale, eps, decay, floor]) in refused {
+        let settings = Settings {
+            scale,
+            eps,
+            decay,
+            floor,
+        };
+        assert_eq!(Record::start(settings), (number, Record::default()));
+        let mut record = Record::default();
+        record.block(0, &[1_000, -1_000, 500], &mut [0; 3]);
+        let before = record.clone();
+        assert_eq!(record.change(settings), number);
+        assert_eq!(record, before);
+    }
 }
 
 #[test]

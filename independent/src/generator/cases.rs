@@ -1,7 +1,7 @@
 //! Calls over records, good, damaged and of any bytes, with blocks, numbers,
 //! lengths and buffers of every sort; the records at the edges come first.
 
-use super::edges::{bytes_of, calls_over, edges, fresh_of_version_2, BEGINNING_OF_OLD};
+use super::edges::{bytes_of, calls_over, choices, edges, fresh_of_version_2, BEGINNING_OF_OLD};
 use super::random::Random;
 use super::sound::{period_of_note, sing, Passage, Wave};
 use crate::record::{made, Call, Record, LAYOUT, SIZE};
@@ -32,6 +32,8 @@ impl Cases {
             let calls = calls_over(&record).into_iter();
             first.extend(calls.map(|call| (bytes_of(record.bytes()), call)));
         }
+        let choices = choices().into_iter();
+        first.extend(choices.map(|(record, call)| (bytes_of(record.bytes()), call)));
         let calls = calls_over(&reached[0]).into_iter();
         first.extend(calls.map(|call| (fresh_of_version_2(), call)));
         Cases {
@@ -166,7 +168,7 @@ fn reach(random: &mut Random, reached: &mut Vec<Record>) {
     }
 }
 
-/// Some settings, most of them in their ranges.
+/// Some settings, most of them in their ranges; some have several out of them.
 fn settings(random: &mut Random) -> Settings {
     let mut settings = Settings {
         scale: random.whole(1, 4_095) as u32,
@@ -174,14 +176,17 @@ fn settings(random: &mut Random) -> Settings {
         decay: random.whole(0, 255) as u32,
         floor: random.one_of(&[1, 100, 1_000, 1_000_000]),
     };
-    match random.whole(0, 19) {
-        0 => settings.scale = random.one_of(&[0, 1, 4_095, 4_096, u32::MAX]),
-        1 => settings.eps = random.one_of(&[0, 409, 410, u32::MAX]),
-        2 => settings.decay = random.one_of(&[0, 255, 256, u32::MAX]),
-        3 => settings.floor = random.one_of(&[0, 1, 1_000_000, 1_000_001, u32::MAX]),
-        4 => settings.eps = random.next() as u32,
-        5..=9 => settings = Settings::DEFAULT,
-        _ => {}
+    for _ in 0..random.one_of(&[0, 0, 0, 1, 3]) {
+        match random.whole(0, 4) {
+            0 => settings.scale = random.one_of(&[0, 1, 4_095, 4_096, u32::MAX]),
+            1 => settings.eps = random.one_of(&[0, 409, 410, u32::MAX]),
+            2 => settings.decay = random.one_of(&[0, 255, 256, u32::MAX]),
+            3 => settings.floor = random.one_of(&[0, 1, 1_000_000, 1_000_001, u32::MAX]),
+            _ => settings.eps = random.next() as u32,
+        }
+    }
+    if random.chance(250) {
+        settings = Settings::DEFAULT;
     }
     settings
 }

@@ -166,6 +166,24 @@ pub fn bytes_of(record: Vec<u8>) -> [u8; SIZE] {
     record.try_into().expect("a record's bytes")
 }
 
+/// Starts and changes with every choice of settings at both sides of each bound, over a record that is pitched.
+pub fn choices() -> Vec<(Record, Call)> {
+    let pitched = pitched();
+    let mut choices = Vec::new();
+    for scale in [0, 1, 4_095, 4_096] {
+        for eps in [409, 410] {
+            for decay in [255, 256] {
+                for floor in [0, 1, 1_000_000, 1_000_001] {
+                    let settings = settings([scale, eps, decay, floor]);
+                    choices.push((pitched.clone(), Call::Start(settings)));
+                    choices.push((pitched.clone(), Call::Change(settings)));
+                }
+            }
+        }
+    }
+    choices
+}
+
 /// The records, and whether each is good.
 pub fn edges() -> Vec<(Record, bool)> {
     let pitched = pitched();
@@ -180,7 +198,8 @@ pub fn edges() -> Vec<(Record, bool)> {
     good.chain(bad).chain(wrong).collect()
 }
 
-/// Every call that reads the record: the next block and the last again, a change that is allowed and one that isn't, a reset, the meter.
+/// Every call that reads the record: the next block and the last again, a change that is allowed and one of each that isn't, a reset,
+/// the meter.
 pub fn calls_over(record: &Record) -> Vec<Call> {
     let length = usize::from(record.length).min(512);
     let block = |number, samples: &[i16]| Call::Block {
@@ -196,7 +215,10 @@ pub fn calls_over(record: &Record) -> Vec<Call> {
         block(next, &[1_000, -1_000, 500]),
         block(record.number, &record.store[record.store.len() - length..]),
         Call::Change(Settings::DEFAULT),
-        Call::Change(settings([0, 100, 0, 100])),
+        Call::Change(settings([0, 410, 256, 0])),
+        Call::Change(settings([1, 410, 256, 0])),
+        Call::Change(settings([1, 409, 256, 0])),
+        Call::Change(settings([1, 409, 255, 0])),
         Call::Reset,
         Call::Meter,
     ]

@@ -1,5 +1,6 @@
 //! The kinds of script: what is sung, and how it is sent.
 
+use super::choices::choice_line;
 use super::hostile::{endless_line, hostile_line};
 use super::random::Random;
 use super::sound::{period_of_note, Passage, Wave};
@@ -32,7 +33,7 @@ pub struct Kind {
     /// So many times in a thousand by a line that cannot be read.
     pub unreadable: usize,
     /// What follows each block, if anything does.
-    pub hostile: Option<Following>,
+    pub following: Option<Following>,
 }
 
 const fn kind(name: &'static str, meaning: &'static str, singing: Singing) -> Kind {
@@ -46,7 +47,7 @@ const fn kind(name: &'static str, meaning: &'static str, singing: Singing) -> Ki
         resets: 0,
         trouble: 0,
         unreadable: 0,
-        hostile: None,
+        following: None,
     }
 }
 
@@ -98,6 +99,14 @@ pub const KINDS: &[Kind] = &[
         ..kind("settings", "tones under many changes of settings", vibrato)
     },
     Kind {
+        settings: Some("4095\t409\t0\t1"),
+        lengths: (20, 100),
+        changes: 0,
+        trouble: 100,
+        following: Some(choice_line),
+        ..kind("choices", "good and bad settings, every choice", vibrato)
+    },
+    Kind {
         lengths: (1, 1),
         ..kind("ones", "blocks of one sample", tones)
     },
@@ -119,12 +128,12 @@ pub const KINDS: &[Kind] = &[
         settings: Some("4095\t409\t0\t1"),
         lengths: (1, 4),
         changes: 0,
-        hostile: Some(hostile_line),
+        following: Some(hostile_line),
         ..kind("hostile", "lines at the edge of what can be read", tones)
     },
     Kind {
         lengths: (500, 512),
-        hostile: Some(endless_line),
+        following: Some(endless_line),
         ..kind("endless", "lines of up to a million bytes", tones)
     },
 ];

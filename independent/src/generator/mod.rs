@@ -4,6 +4,7 @@
 //! and a seed give the same bytes on every machine.
 
 pub mod cases;
+mod choices;
 pub mod edges;
 mod hostile;
 pub mod kinds;

@@ -27,6 +27,7 @@ pub const NIGHT: &[(&str, u64, usize)] = &[
     ("brink", 30, 8_000),
     ("brim", 70, 8_000),
     ("settings", 16, 8_000),
+    ("choices", 20, 5_000),
     ("ones", 22, 6_000),
     ("rough", 6, 16_000),
     ("unreadable", 52, 2_000),

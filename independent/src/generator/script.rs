@@ -25,7 +25,7 @@ pub fn write_script(
         to,
         sung: Vec::new(),
         phase: 0.0,
-        hostile: 0,
+        followed: 0,
         last: None,
     };
     script.open()?;
@@ -56,8 +56,8 @@ struct Script<'a, W> {
     phase: f64,
     /// The place of the next passage; seeds begin at other ones.
     passages: usize,
-    /// Hostile lines sent.
-    hostile: usize,
+    /// Lines sent by what follows each block.
+    followed: usize,
     /// The last block that was taken.
     last: Option<(u16, Vec<i16>)>,
 }
@@ -97,10 +97,10 @@ impl<W: Write> Script<'_, W> {
             let line = spoilt_line(&mut self.random);
             self.send(&line)?;
         }
-        if let Some(hostile) = self.kind.hostile {
+        if let Some(following) = self.kind.following {
             let next = self.next();
-            let line = hostile(&mut self.random, self.hostile, next);
-            self.hostile += 1;
+            let line = following(&mut self.random, self.followed, next);
+            self.followed += 1;
             self.send(&line)?;
         }
         Ok(())

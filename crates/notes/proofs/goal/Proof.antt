@@ -7,13 +7,14 @@ use borrow.Author.Needs.{needs}
 use lib.ListN.{getD}
 use Rattle.rules.specs.Rules.{table, notePeriod, rawRate}
 use Rattle.rules.specs.Notes.{wanted-is, note-period-range, raw-range, goal-wanted}
+use Rattle.rules.specs.Ranges.{ranges}
 use Rattle.notes.specs.Around.{at-place}
 use Rattle.notes.proofs.goal.Statement.{statement}
 use Rattle.notes.proofs.goal.Tie as tie
 
 nearest-requires : tie.Need-nearest-requires
 unfolding table
-nearest-requires c κs = (refl, c .before .pre .0 .settings .scaleFrom, c .before .pre .0 .settings .scaleTo)
+nearest-requires c κs = let scale = ranges _ (c .before .pre .0 .settings) .scale in (refl, scale .0, scale .1)
 
 cast-raw-rate : tie.Need-cast-raw-rate
 cast-raw-rate c = search needs

@@ -8,6 +8,7 @@ use Rattle.rules.specs.declared.Goal.{Goal}
 use Rattle.rules.specs.Rules.{greatestRate, smooth, tuned}
 use Rattle.rules.specs.Notes.{goal-in}
 use Rattle.rules.specs.Position.{tone-rate}
+use Rattle.rules.specs.Ranges.{ranges}
 use Rattle.notes.proofs.tune.Statement.{statement}
 use Rattle.notes.proofs.tune.Tie as tie
 
@@ -19,7 +20,7 @@ smooth-requires c κs =
     let s = c .before in
     let e = ap (λ (g : Goal). g .raw) (c .goal .ensures) in
     let r = goal-in (s .pre .0) (s .args .period) (s .pre .2) (s .pre .3) in
-    (s .pre .0 .settings .decay, tone-rate (s .pre .1) .1, omega (arith, e, r .upto))
+    (ranges _ (s .pre .0 .settings) .decay .1, tone-rate (s .pre .1) .1, omega (arith, e, r .upto))
 
 returns : tie.Need-returns
 unfolding tuned

@@ -1,18 +1,18 @@
 -- `record::all_right` meets its contract, part by part.
 -- Assumes nothing.
+use mathlib.Core.Path.{sym, _∙_}
 use native.Mathlib.Omega.{arith}
 use borrow.Author.Needs.{needs}
 use Rattle.whole.specs.Tests.{failed, passed, refused, decides-as}
-use Rattle.record.specs.Parts.{range-of}
 use Rattle.record.proofs.Fields.{stores}
 use Rattle.record.proofs.all_right.Statement.{statement}
 use Rattle.record.proofs.all_right.Tie as tie
 
-in-range-requires : tie.Need-in-range-requires
-in-range-requires c κs = search needs
+settings-number-requires : tie.Need-settings-number-requires
+settings-number-requires c κs = search needs
 
 returns : tie.Need-returns
-returns c = refused (λ p. failed (range-of _ (c .before .in-range .ensures)) (c .if1 .taken) (p .settings))
+returns c = refused (λ p. c .if1 .taken (c .before .settings-number .ensures ∙ p .settings))
 
 last-right-requires : tie.Need-last-right-requires
 last-right-requires c κs = search needs
@@ -45,7 +45,7 @@ returns-5 c =
     let c1 = c2 .before .before in
     decides-as (c .pitch-right .ensures)
     (λ v. record {
-      settings = passed (range-of _ (c1 .before .in-range .ensures)) (c1 .if1 .left);
+      settings = sym (c1 .before .settings-number .ensures) ∙ c1 .if1 .left;
       heard = passed (c4 .before .heard-right .ensures) (c4 .if4 .left);
       pitch = v;
       head = record { behind = c3 .if3 .left };
@@ -57,7 +57,7 @@ pub all-right-spec : {M : Type 1} → statement M
 all-right-spec =
     tie.close
     (tie.spec
-    in-range-requires
+    settings-number-requires
     returns
     last-right-requires
     returns-2

@@ -1,15 +1,17 @@
--- `tuner::start` meets its contract: by the range test, a fresh tuner with the settings beside 0 or with the defaults beside 8.
+-- `tuner::start` meets its contract: by the settings' number, a fresh tuner with them beside 0, or with the defaults beside that number.
 -- Assumes nothing.
 use mathlib.Core.Path.{_≡_, sym, ap, _∙_}
-use mathlib.Core.Bool.{true, false}
+use mathlib.Core.Bool.{false}
 use borrow.Author.Needs.{needs}
-use Rattle.rules.specs.Rules.{inRange}
+use borrow.Author.Tests.{ne-eqb}
+use Rattle.rules.specs.Rules.{settingsNumber, inRange}
+use Rattle.answers.specs.Numbering.{plain}
 use Rattle.tuner.specs.Tuners.{freshTuner}
 use Rattle.tuner.proofs.start.Statement.{statement}
 use Rattle.tuner.proofs.start.Tie as tie
 
-in-range-requires : tie.Need-in-range-requires
-in-range-requires c κs = search needs
+settings-number-requires : tie.Need-settings-number-requires
+settings-number-requires c κs = search needs
 
 fresh-tuner-requires : tie.Need-fresh-tuner-requires
 fresh-tuner-requires c κs = search needs
@@ -20,7 +22,7 @@ plain-requires c κs = search needs
 returns : tie.Need-returns
 returns c =
     let s = c .before .before .before .before .args .s in
-    let e : inRange s ≡ true = sym (c .before .before .before .in-range .ensures) ∙ c .before .before .if1 .taken in
+    let e : settingsNumber s ≡ 0 = sym (c .before .before .before .settings-number .ensures) ∙ c .before .before .if1 .taken in
     record { tuner = rw e (c .before .fresh-tuner .ensures); answer = rw e (c .plain .ensures) }
 
 default-settings-requires : tie.Need-default-settings-requires
@@ -35,15 +37,16 @@ plain-requires-2 c κs = search needs
 returns-2 : tie.Need-returns-2
 returns-2 c =
     let s = c .before .before .before .before .before .args .s in
-    let e : inRange s ≡ false = sym (c .before .before .before .before .in-range .ensures) ∙ c .before .before .before .if1 .left in
+    let n = c .before .before .before .before .settings-number .ensures in
+    let e : inRange s ≡ false = ne-eqb _ 0 (λ z. c .before .before .before .if1 .left (n ∙ z)) in
     let d = c .before .before .default-settings .ensures in
-    record { tuner = rw e (c .before .fresh-tuner2 .ensures ∙ ap freshTuner d); answer = rw e (c .plain2 .ensures) }
+    record { tuner = rw e (c .before .fresh-tuner2 .ensures ∙ ap freshTuner d); answer = c .plain2 .ensures ∙ ap plain n }
 
 pub start-spec : {M : Type 1} → statement M
 start-spec =
     tie.close
     (tie.spec
-    in-range-requires
+    settings-number-requires
     fresh-tuner-requires
     plain-requires
     returns

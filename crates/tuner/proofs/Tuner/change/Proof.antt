@@ -1,10 +1,12 @@
--- `tuner::Tuner::change` meets its contract: the record's test decides, then the settings', and where both held the settings are put in.
+-- `tuner::Tuner::change` meets its contract: the record's test decides, then the settings' number, and where that is 0 they are put in.
 -- Assumes nothing.
-use mathlib.Core.Path.{refl, sym, _∙_}
+use mathlib.Core.Path.{_≡_, refl, sym, ap, _∙_}
 use borrow.Author.Needs.{needs}
-use borrow.Author.Tests.{not-true, not-false}
+use borrow.Author.Tests.{ne-eqb}
 use Rattle.whole.specs.Tests.{passed, failed}
-use Rattle.tuner.specs.Tuners.{Good, record-out-of-range, setting-out-of-range, changed}
+use Rattle.rules.specs.Rules.{settingsNumber}
+use Rattle.answers.specs.Numbering.{plain}
+use Rattle.tuner.specs.Tuners.{Good, record-out-of-range, by-settings}
 use Rattle.tuner.proofs.Tuner.change.Statement.{statement}
 use Rattle.tuner.proofs.Tuner.change.Tie as tie
 
@@ -14,8 +16,8 @@ good-here c = passed (c .before .before .good2 .ensures) (c .if1 .left)
 good-requires : tie.Need-good-requires
 good-requires c κs = search needs
 
-in-range-requires : tie.Need-in-range-requires
-in-range-requires c κs = search needs
+settings-number-requires : tie.Need-settings-number-requires
+settings-number-requires c κs = search needs
 
 plain-requires : tie.Need-plain-requires
 plain-requires c κs = search needs
@@ -35,11 +37,12 @@ plain-requires-2 c κs = search needs
 returns-2 : tie.Need-returns-2
 returns-2 c =
     let g = c .before .before in
+    let n = g .before .settings-number .ensures in
     record {
-      number = 8;
-      verdict = setting-out-of-range (good-here g) (sym (g .before .in-range .ensures) ∙ not-true _ (c .before .if2 .taken));
-      tuner = refl;
-      answer = c .plain2 .ensures;
+      number = _;
+      verdict = by-settings (good-here g);
+      tuner = rw (ne-eqb _ 0 (λ z. c .before .if2 .taken (n ∙ z)));
+      answer = c .plain2 .ensures ∙ ap plain n;
     }
 
 plain-requires-3 : tie.Need-plain-requires-3
@@ -48,19 +51,15 @@ plain-requires-3 c κs = search needs
 returns-3 : tie.Need-returns-3
 returns-3 c =
     let g = c .before .before in
-    record {
-      number = 0;
-      verdict = changed (good-here g) (sym (g .before .in-range .ensures) ∙ not-false _ (c .before .if2 .left));
-      tuner = refl;
-      answer = c .plain3 .ensures;
-    }
+    let e : settingsNumber (g .before .before .before .args .s) ≡ 0 = sym (g .before .settings-number .ensures) ∙ c .before .if2 .left in
+    record { number = _; verdict = by-settings (good-here g); tuner = rw e; answer = c .plain3 .ensures ∙ ap plain (sym e) }
 
 pub change-spec : {M : Type 1} → statement M
 change-spec =
     tie.close
     (tie.spec
     good-requires
-    in-range-requires
+    settings-number-requires
     plain-requires
     returns
     plain-requires-2

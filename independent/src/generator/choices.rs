@@ -1,0 +1,28 @@
+//! Settings to start with and to change to, each good or bad: every choice of
+//! good and bad fields in turn.
+
+use super::random::Random;
+
+/// The values of a field that are good, and those that are bad.
+type Field = (&'static [u32], &'static [u32]);
+
+/// Scale, eps, decay and floor, at and around their bounds. Those under which
+/// singing is tracked come more often.
+const FIELDS: [Field; 4] = [
+    (&[1, 2_741, 4_095], &[0, 4_096, 8_191, u32::MAX]),
+    (&[0, 100, 409, 409, 409, 409], &[410, 411, 65_536, u32::MAX]),
+    (&[0, 128, 255], &[256, 257, 65_536, u32::MAX]),
+    (&[1, 1, 1, 1, 999_999, 1_000_000], &[0, 1_000_001, u32::MAX]),
+];
+
+/// A change, then a start, with each of the 16 choices of bad fields.
+pub fn choice_line(random: &mut Random, place: usize, _: u16) -> Vec<u8> {
+    let (word, choice) = (["change", "start"][place % 2], place / 2);
+    let mut line = word.to_string();
+    for (field, (good, bad)) in FIELDS.iter().enumerate() {
+        let is_bad = choice >> field & 1 == 1;
+        let value = random.one_of(if is_bad { bad } else { good });
+        line += &format!("\t{value}");
+    }
+    line.into_bytes()
+}
