@@ -70,6 +70,10 @@ unfoldable pub played : ℕ → Keyboard → List ℕ → Keyboard
 played channel k [] = k
 played channel k (b ∷ bs) = played channel (afterByte channel k b) bs
 
+-- when a channel is chosen: another than that in force forgets the key, the running status and any half message
+unfoldable pub onChannel : (inForce chosen : ℕ) → Keyboard → Keyboard
+onChannel inForce chosen k = cond (eqb chosen inForce) k fresh
+
 -- ---- A keyboard that is kept
 
 -- no running status, or a channel's

@@ -4,13 +4,13 @@ use mathlib.Core.List.{List, [], _∷_, _++_}
 use Prim.Native.Nat.{ℕ, _+_, _≤_, _<_}
 use native.Mathlib.Numerals.{add-one}
 use native.Mathlib.Omega.{arith}
-use borrow.Author.Tests.{ltb-true, ltb-false, eqb-true, eqb-false}
+use borrow.Author.Tests.{ltb-true, ltb-false, eqb-true, eqb-false, eq-eqb, ne-eqb}
 use lib.Dec.{ltb, eqb}
 use lib.ListN.{length, getD, take}
 use lib.Seq.{take-suc}
 use Rattle.whole.specs.Tests.{cond-case}
 use Rattle.keyboard.specs.declared.Keyboard.{Keyboard}
-use Rattle.keyboard.specs.Keys.{noKey, noStatus, noData, fresh, noteOn, noteOff, dataBytes, released, keyAfter, afterData, afterByte, played, StatusIn, not-running, running, HalfIn, not-begun, begun, KeyboardIn}
+use Rattle.keyboard.specs.Keys.{noKey, noStatus, noData, fresh, noteOn, noteOff, dataBytes, released, keyAfter, afterData, afterByte, played, onChannel, StatusIn, not-running, running, HalfIn, not-begun, begun, KeyboardIn}
 
 -- ---- bytes in two calls are the bytes in one
 pub played-append : (channel : ℕ) (k : Keyboard) (xs ys : List ℕ) → played channel k (xs ++ ys) ≡ played channel (played channel k xs) ys
@@ -73,3 +73,16 @@ pub played-in : (channel : ℕ) (k : Keyboard) (bs : List ℕ) → KeyboardIn k 
 unfolding played
 played-in channel k [] i = i
 played-in channel k (b ∷ bs) i = played-in channel (afterByte channel k b) bs (afterByte-in channel i b)
+
+-- ---- a channel chosen
+pub same-channel : {inForce chosen : ℕ} (k : Keyboard) → chosen ≡ inForce → onChannel inForce chosen k ≡ k
+unfolding onChannel
+same-channel {inForce} {chosen} k e = rw (eq-eqb chosen inForce e)
+
+pub other-channel : {inForce chosen : ℕ} (k : Keyboard) → (chosen ≡ inForce → ⊥) → onChannel inForce chosen k ≡ fresh
+unfolding onChannel
+other-channel {inForce} {chosen} k n = rw (ne-eqb chosen inForce n)
+
+pub onChannel-in : (inForce chosen : ℕ) (k : Keyboard) → KeyboardIn k → KeyboardIn (onChannel inForce chosen k)
+unfolding onChannel
+onChannel-in inForce chosen k i = cond-case (eqb chosen inForce) k fresh KeyboardIn (λ e. i) (λ e. fresh-in)

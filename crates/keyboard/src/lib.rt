@@ -1,7 +1,7 @@
 // A MIDI keyboard: which key is held after some bytes, on one chosen channel.
 ghost use mathlib.Core.Path.{_≡_};
 ghost use Rattle.whole.specs.Tests.{Decides};
-ghost use Rattle.keyboard.specs.Keys.{waiting, fresh, dataBytes, released, keyAfter, afterData, afterByte, played, StatusIn, HalfIn, KeyboardIn};
+ghost use Rattle.keyboard.specs.Keys.{waiting, fresh, dataBytes, released, keyAfter, afterData, afterByte, played, onChannel, StatusIn, HalfIn, KeyboardIn};
 
 // No key is held: one above the highest note.
 pub const NO_KEY: u32 = 128;
@@ -182,4 +182,14 @@ pub fn right(k: Keyboard) -> bool
         return false;
     }
     half_right(k.status, k.half)
+}
+
+// The keyboard when a channel is chosen: another than that in force begins anew.
+pub fn on_channel(in_force: u32, chosen: u32, k: Keyboard) -> Keyboard
+    ensures { λ r. ⌜ r ≡ onChannel in_force chosen k ⌝ }
+{
+    if chosen == in_force {
+        return k;
+    }
+    fresh()
 }

@@ -5,7 +5,7 @@ use Prim.Native.Nat.{ℕ}
 use lib.Dec.{eqb}
 use lib.Ieee.{Float, binary32, round}
 use lib.Ieee.Exact.{HasValue}
-use Rattle.rules.specs.Rules.{notePeriod}
+use Rattle.rules.specs.Rules.{wantedPeriod}
 use Rattle.pitch.specs.declared.Pitch.{Pitch as KeptPitch}
 use Rattle.meters.specs.declared.Figures.{Figures}
 use Rattle.meters.specs.declared.Meter.{Meter}
@@ -26,7 +26,7 @@ pub record Exactly (n d : ℕ) (r : Float) : Type 0 where
 -- period and wanted period in samples, and the rate
 abbrev pub figuresOf : KeptPitch → Figures
 figuresOf v =
-    record { period = ratio (v .tone .period) 256; wanted = ratio (notePeriod (v .tone .note)) 256; rate = ratio (v .tone .rate) 65536 }
+    record { period = ratio (v .tone .period) 256; wanted = ratio (wantedPeriod (v .tone .note)) 256; rate = ratio (v .tone .rate) 65536 }
 
 -- searching; or, while there is no period, locking with the found lag; or pitched
 unfoldable pub shownOf : KeptPitch → Meter
@@ -39,5 +39,5 @@ shownOf v =
 pub data Exact (v : KeptPitch) : Meter → Type 0 where
   searching : Exact v Meter.Searching
   locking : {lag : Float} → HasValue lag false (v .tracker .last) 1 → Exact v (Meter.Locking lag)
-  pitched : {f : Figures} → HasValue (f .period) false (v .tone .period) 256 → HasValue (f .wanted) false (notePeriod (v .tone .note)) 256 →
+  pitched : {f : Figures} → HasValue (f .period) false (v .tone .period) 256 → HasValue (f .wanted) false (wantedPeriod (v .tone .note)) 256 →
       HasValue (f .rate) false (v .tone .rate) 65536 → Exact v (Meter.Pitched f)

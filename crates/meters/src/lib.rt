@@ -55,7 +55,7 @@ pub fn shown(v: Pitch) -> Meter
     if v.tone.period == 0 {
         return Meter::Locking(lag_figure(v.tracker.last));
     }
-    let wanted = notes::note_period(v.tone.note);
+    let wanted = notes::wanted_period(v.tone.note);
     Meter::Pitched(Figures {
         period: figure(v.tone.period),
         wanted: figure(wanted),

@@ -1,13 +1,18 @@
 // The wanted note of a scale, and the rate toward it.
 use rules::FIRST_NOTE;
+use rules::FRESH_RATE;
+use rules::GREATEST_RATE;
 use rules::Goal;
 use rules::InForce;
+use rules::LAST_NOTE;
+use rules::LEAST_RATE;
 use rules::NOTES;
+use rules::SCALE_MODE;
 use rules::Tone;
 ghost use mathlib.Core.Path.{_≡_};
 ghost use mathlib.Core.Option.{some};
 ghost use Prim.Native.Nat.{ℕ, _+_, _-_, _%_, _≤_, _<_};
-ghost use Rattle.rules.specs.Rules.{table, notePeriod, ofScale, wanted, rawRate, smooth, leastPeriod, greatestPeriod, greatestRate, goal, tuned};
+ghost use Rattle.rules.specs.Rules.{table, notePeriod, ofScale, wanted, noteOf, wantedPeriod, rawRate, rawToward, smooth, leastPeriod, greatestPeriod, greatestRate, goalOf, goal, tuned};
 ghost use Rattle.rules.specs.Facts.{ForceIn, OfTable, ToneIn};
 ghost use Rattle.notes.specs.Around.{Halving, Longer, LastOfScale, FirstOfScale};
 
@@ -213,12 +218,43 @@ fn nearest(periods: &[u32; NOTES], scale: u32, period: u32) -> u32
 
 // period x 65536 / wanted, nearest, halves up.
 fn raw_rate(period: u32, wanted: u32) -> u32
-    requires { ⌜ (0 < wanted) × (rawRate period wanted ≤ greatestRate) ⌝ }
+    requires { ⌜ (0 < wanted) × (rawRate period wanted ≤ 4294967295) ⌝ }
     ensures { λ r. ⌜ r ≡ rawRate period wanted ⌝ }
 {
     let p = period as u64;
     let w = wanted as u64;
     ((2 * (p * 65536) + w) / (2 * w)) as u32
+}
+
+// The wanted period: 0 where there is no wanted note, or one outside the table.
+pub fn wanted_period(note: u32) -> u32
+    ensures { λ r. ⌜ r ≡ wantedPeriod note ⌝ }
+{
+    if note < FIRST_NOTE {
+        return 0;
+    }
+    if note > LAST_NOTE {
+        return 0;
+    }
+    note_period(note)
+}
+
+// The raw rate: 65536 without a wanted period, or where it is not from a half to two.
+fn raw_toward(period: u32, wanted: u32) -> u32
+    requires { ⌜ (period ≤ greatestPeriod) × ((0 < wanted) → (leastPeriod ≤ wanted)) ⌝ }
+    ensures { λ r. ⌜ r ≡ rawToward period wanted ⌝ }
+{
+    if wanted == 0 {
+        return FRESH_RATE;
+    }
+    let raw = raw_rate(period, wanted);
+    if raw < LEAST_RATE {
+        return FRESH_RATE;
+    }
+    if raw > GREATEST_RATE {
+        return FRESH_RATE;
+    }
+    raw
 }
 
 // (decay x rate + (256 - decay) x raw) / 256, rounded down.
@@ -229,12 +265,11 @@ fn smooth(decay: u32, rate: u32, raw: u32) -> u32
     (decay * rate + (256 - decay) * raw) / 256
 }
 
-// The goal of a tracking step that found this period.
-fn goal(f: InForce, period: u32) -> Goal
-    requires { ⌜ ForceIn f × (leastPeriod ≤ period) × (period ≤ greatestPeriod) ⌝ }
-    ensures { λ r. ⌜ r ≡ goal f period ⌝ }
+// The goal of this period by the scale. Its raw rate is never out of its bounds.
+fn goal_of_scale(scale: u32, period: u32) -> Goal
+    requires { ⌜ (1 ≤ scale) × (scale ≤ 4095) × (leastPeriod ≤ period) × (period ≤ greatestPeriod) ⌝ }
+    ensures { λ r. ⌜ r ≡ goalOf period (noteOf (wanted scale period)) ⌝ }
 {
-    let scale = f.settings.scale;
     let periods = PERIODS;
     let k = nearest(&periods, scale, period);
     let raw = raw_rate(period, periods[k as usize]);
@@ -242,6 +277,29 @@ fn goal(f: InForce, period: u32) -> Goal
         note: FIRST_NOTE + k,
         raw: raw,
     }
+}
+
+// The goal of this period by the key held.
+fn goal_of_key(key: u32, period: u32) -> Goal
+    requires { ⌜ period ≤ greatestPeriod ⌝ }
+    ensures { λ r. ⌜ r ≡ goalOf period key ⌝ }
+{
+    let raw = raw_toward(period, wanted_period(key));
+    Goal {
+        note: key,
+        raw: raw,
+    }
+}
+
+// The goal of a tracking step that found this period.
+fn goal(f: InForce, period: u32) -> Goal
+    requires { ⌜ ForceIn f × (leastPeriod ≤ period) × (period ≤ greatestPeriod) ⌝ }
+    ensures { λ r. ⌜ r ≡ goal f period ⌝ }
+{
+    if f.settings.mode == SCALE_MODE {
+        return goal_of_scale(f.settings.scale, period);
+    }
+    goal_of_key(f.key, period)
 }
 
 // The tone after a tracking step that found this period.

@@ -129,7 +129,7 @@ module _ (f : InForce) (x : Sound) (t : Tone) (low last : ℕ) where
   unfolding tracked
   tracked-kept e = rw e
 
-module _ {f : InForce} {x : Sound} (v : KeptPitch) {r : Tracked} (s : Stepped (f .settings) x (v .tracker) r) where
+module _ (f : InForce) {x : Sound} (v : KeptPitch) {r : Tracked} (s : Stepped (f .settings) x (v .tracker) r) where
   pub became-lost : {o : Tone} → r .kept ≡ false → o ≡ noTone
       → Became x (tracked f x (v .tone) (v .tracker .low) (v .tracker .last)) (record { tracker = r .tracker; tone = o; tracking = 0 })
   unfolding noTone

@@ -22,13 +22,13 @@ pub struct Pitch {
     pub tracking: u32,
 }
 
-// No period, and the rate 65536.
+// No period, no wanted note, and the rate 65536.
 pub fn no_tone() -> Tone
     ensures { λ r. ⌜ r ≡ noTone ⌝ }
 {
     Tone {
         period: 0,
-        note: 0,
+        note: rules::NO_NOTE,
         rate: rules::FRESH_RATE,
     }
 }

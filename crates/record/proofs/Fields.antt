@@ -1,11 +1,12 @@
 -- What the type of what was heard says of its arrays: their lengths, and that each sample fits 16 bits. A proof of a function whose first parameter is h cites `stores (c .args .h) _ (c .good .0)`, with c its `Start`; a second parameter's is `c .good .1 .0`.
 -- Assumes nothing.
-use mathlib.Core.Path.{subst}
+use mathlib.Core.Path.{_≡_, subst}
 use mathlib.Core.List.{List, [], _∷_, map, map-id}
 use Prim.Native.Nat.{ℕ, zero, suc}
 use borrow.Author.Needs.{length-unmapped}
 use lib.Dec.{lit<}
 use lib.IntN.{ℤ}
+use lib.ListN.{length}
 use mir.Syntax.{w16}
 use mir.Val.{Val, SFits}
 use denote.Array.{each}
@@ -15,8 +16,10 @@ use denote.Signed.{SInt}
 use Rattle.ages.specs.Ages.{Samples}
 use Rattle.rules.specs.Facts.{valueAt}
 use Rattle.record.specs.declared.Heard.{Heard}
+use Rattle.record.specs.declared.Last.{Last}
 use Rattle.record.specs.Parts.{Stores}
 use Rattle.record.proofs.Heard.{the-row}
+use Rattle.record.proofs.Last as last
 
 each-fits : (xs : List ℤ) (us : List Val) (i : ℕ) → shadow (each ℤ (SInt w16 .own) xs us) → SFits w16 (valueAt xs i)
 each-fits [] us i p = record { sfits = lit< tt }
@@ -38,3 +41,7 @@ stores h vs p =
       storeFits = search field-samples;
       eighthsFit = search field-samples;
     }
+
+-- and what the type of the last block says of its output
+pub out-long : (l : Last) (vs : List Val) → Is last.the-row l vs → length (l .out) ≡ 512
+out-long l vs p = search length-unmapped

@@ -7,6 +7,8 @@ use lib.ListN.{replicate}
 use Rattle.rules.specs.declared.Settings.{Settings}
 use Rattle.rules.specs.Rules.{Sound, silence, heardAll, farthest, noTone, takeLimit, longestBlock, keptSamples, keptEighths, eighthLags}
 use Rattle.rules.specs.Facts.{InRange, valueAt, Right}
+use Rattle.keyboard.specs.declared.Keyboard.{Keyboard}
+use Rattle.keyboard.specs.Keys.{KeyboardIn}
 use Rattle.pitch.specs.declared.Pitch.{Pitch as KeptPitch}
 use Rattle.pitch.specs.Pitches.{PitchRight, blank}
 use Rattle.record.specs.declared.Heard.{Heard}
@@ -60,8 +62,9 @@ unfoldable pub noLast : Last
 noLast = record { number = 0; length = 0; repeated = 0; dropped = 0; out = replicate longestBlock (pos 0) }
 
 -- ---- all parts are right
-pub record AllRight (s : Settings) (h : Heard) (v : KeptPitch) (d : Head) (l : Last) : Type 0 where
+pub record AllRight (s : Settings) (k : Keyboard) (h : Heard) (v : KeptPitch) (d : Head) (l : Last) : Type 0 where
   pub settings : InRange s
+  pub keyboard : KeyboardIn k
   pub heard : HeardRight h
   pub pitch : PitchRight (soundOf (h .store)) v
   pub head : HeadRight d

@@ -1,10 +1,14 @@
 // The parts of a tuner's record: what was heard, the read head and the last block; each fresh, and each tested. A record is numbers alone, and each
 // part fills whole eights of bytes.
+use keyboard::Keyboard;
 use pitch::Pitch;
 use rules::EIGHTH_LAGS;
+use rules::HIGHEST_CHANNEL;
 use rules::KEPT_EIGHTHS;
 use rules::KEPT_SAMPLES;
+use rules::KEYBOARD_MODE;
 use rules::LONGEST_BLOCK;
+use rules::SCALE_MODE;
 use rules::Settings;
 use rules::Tone;
 use tracking::Tracker;
@@ -62,6 +66,8 @@ pub fn default_settings() -> Settings
         eps: 100,
         decay: 0,
         floor: 100,
+        mode: SCALE_MODE,
+        channel: 0,
     }
 }
 
@@ -138,6 +144,12 @@ pub fn settings_number(s: Settings) -> u32
     if !within(s.floor, 1, 1000000) {
         return 13;
     }
+    if !within(s.channel, 0, HIGHEST_CHANNEL) {
+        return 14;
+    }
+    if !within(s.mode, SCALE_MODE, KEYBOARD_MODE) {
+        return 15;
+    }
     0
 }
 
@@ -184,7 +196,7 @@ fn heard_right(h: Heard) -> bool
     sums::all_right(&e, &c, 2, &y, KEPT_EIGHTHS)
 }
 
-// Either a period, a wanted note and a rate in their ranges, or no period and the rate 65536.
+// Either a period, a wanted note or none, and a rate in their ranges, or no period and the rate 65536.
 fn tone_right(t: Tone) -> bool
     ensures { λ r. ⌜ Decides r (ToneIn t) ⌝ }
 {
@@ -194,7 +206,7 @@ fn tone_right(t: Tone) -> bool
     if !within(t.period, rules::LEAST_PERIOD, rules::GREATEST_PERIOD) {
         return false;
     }
-    if !within(t.note, rules::FIRST_NOTE, rules::LAST_NOTE) {
+    if t.note > rules::NO_NOTE {
         return false;
     }
     within(t.rate, rules::LEAST_RATE, rules::GREATEST_RATE)
@@ -246,10 +258,13 @@ fn last_right(l: Last, count: u64) -> bool
 }
 
 // A record is good.
-pub fn all_right(s: Settings, h: Heard, v: Pitch, d: Head, l: Last) -> bool
-    ensures { λ r. ⌜ Decides r (AllRight s h v d l) ⌝ }
+pub fn all_right(s: Settings, k: Keyboard, h: Heard, v: Pitch, d: Head, l: Last) -> bool
+    ensures { λ r. ⌜ Decides r (AllRight s k h v d l) ⌝ }
 {
     if settings_number(s) != 0 {
+        return false;
+    }
+    if !keyboard::right(k) {
         return false;
     }
     if !last_right(l, h.count) {

@@ -9,7 +9,7 @@ use Rattle.whole.specs.Numbers.{listOf}
 use Rattle.rules.specs.declared.Settings.{Settings}
 use Rattle.rules.specs.declared.InForce.{InForce}
 use Rattle.rules.specs.declared.Tone.{Tone}
-use Rattle.rules.specs.Rules.{settingsNumber, Sound, E, H, inputAt, farthest, lowestLag, highestLag, leastPeriod, greatestPeriod, firstNote, notes, freshRate, leastRate, greatestRate, Mode, searching, tracking, Pitch}
+use Rattle.rules.specs.Rules.{settingsNumber, Sound, E, H, inputAt, farthest, lowestLag, highestLag, leastPeriod, greatestPeriod, firstNote, notes, noNote, freshRate, leastRate, greatestRate, Mode, searching, tracking, Pitch}
 
 -- settings in range: none of them is refused
 abbrev pub InRange : Settings → Type 0
@@ -18,15 +18,16 @@ InRange s = settingsNumber s ≡ 0
 -- what is in force, in its ranges
 pub record ForceIn (f : InForce) : Type 0 where
   pub settings : InRange (f .settings)
+  pub key : f .key ≤ noNote
 
 -- a note of the table
 pub record OfTable (n : ℕ) : Type 0 where
   pub from : firstNote ≤ n
   pub upto : n < firstNote + notes
 
--- a tone in its ranges: a period, a wanted note of the table and a rate; or no period, and the rate 65536
+-- a tone in its ranges: a period, a wanted note or none, and a rate; or no period, and the rate 65536
 pub data ToneIn (t : Tone) : Type 0 where
-  pitched : leastPeriod ≤ t .period → t .period ≤ greatestPeriod → OfTable (t .note) → leastRate ≤ t .rate → t .rate ≤ greatestRate → ToneIn t
+  pitched : leastPeriod ≤ t .period → t .period ≤ greatestPeriod → t .note ≤ noNote → leastRate ≤ t .rate → t .rate ≤ greatestRate → ToneIn t
   unpitched : t .period ≡ 0 → t .rate ≡ freshRate → ToneIn t
 
 -- eight lags in their range, and the last best among them

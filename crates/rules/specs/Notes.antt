@@ -1,7 +1,7 @@
 -- The wanted note is the one that document 01 asks for; raw rates are nearest and lie from a half to two; smoothing keeps within any bounds.
 -- Notes an octave apart share their bit of the scale, so a note more than an octave off loses to its octave: no case of a mask.
 use mathlib.Core.Path.{_≡_, refl, ap, _∙_, subst}
-use mathlib.Core.Bool.{true, false, _||_}
+use mathlib.Core.Bool.{true, false, cond, _&&_, _||_}
 use mathlib.Core.Option.{Option, none, some}
 use Prim.Native.Nat.{ℕ, zero, suc, _+_, _-_, _*_, _/_, _%_, _^_, _≤_, _<_}
 use native.Mathlib.Nat.{
@@ -19,11 +19,11 @@ use native.Mathlib.Nat.{
   pow-le-pow-right,
 }
 use native.Mathlib.Omega.{arith}
-use borrow.Author.Tests.{ltb-true, ltb-false, leb-true, leb-false, eq-eqb, le-ltb, le-leb, lt-leb}
-use lib.Dec.{leb, ltb}
-use Rattle.whole.specs.Tests.{by, cond-case, yes-and-no}
+use borrow.Author.Tests.{ltb-true, ltb-false, leb-true, leb-false, eq-eqb, ne-eqb, le-ltb, lt-ltb, le-leb, lt-leb}
+use lib.Dec.{leb, ltb, eqb}
+use Rattle.whole.specs.Tests.{by, cond-case, and-right, and-no, yes-and-no}
 use Rattle.rules.specs.Table.{at-each-note}
-use Rattle.rules.specs.Ranges.{ranges}
+use Rattle.rules.specs.Ranges.{Within, is-within, within-is, not-within, ranges}
 use Rattle.rules.specs.Rules.{
   table,
   firstNote,
@@ -40,7 +40,15 @@ use Rattle.rules.specs.Rules.{
   greatestPeriod,
   leastRate,
   greatestRate,
-  goalBy,
+  noNote,
+  freshRate,
+  scaleMode,
+  noteOf,
+  wantedNote,
+  wantedPeriod,
+  within,
+  rawToward,
+  goalOf,
   goal,
   tuned,
 }
@@ -289,26 +297,108 @@ smooth-range {decay} {lo} {hi} {rate} {raw} d a b e f =
 
 -- a goal in its ranges
 pub record GoalIn (g : Goal) : Type 0 where
-  pub note : OfTable (g .note)
+  pub note : g .note ≤ noNote
   pub from : leastRate ≤ g .raw
   pub upto : g .raw ≤ greatestRate
 
--- by the wanted note
-pub goal-wanted : (f : InForce) (p n : ℕ) → wanted (f .settings .scale) p ≡ some n → goal f p ≡ record { note = n; raw = rawRate p (notePeriod n) }
-unfolding goal goalBy
-goal-wanted f p n e = rw e
+-- every raw rate that is moved toward lies from a half to two, whatever is wanted
+pub toward-range : (p w : ℕ) → (leastRate ≤ rawToward p w) × (rawToward p w ≤ greatestRate)
+unfolding rawToward
+toward-range p w =
+    cond-case (ltb 0 w && within leastRate greatestRate (rawRate p w)) (rawRate p w) freshRate (λ (r : ℕ). (leastRate ≤ r) × (r ≤ greatestRate))
+    (λ e. within-is leastRate greatestRate (rawRate p w) (and-right (ltb 0 w) _ e))
+    (λ e. omega arith)
 
-pub goal-in : {f : InForce} → ForceIn f → (p : ℕ) → leastPeriod ≤ p → p ≤ greatestPeriod → GoalIn (goal f p)
-goal-in {f} r p lo hi =
+-- no raw rate of a period and a wanted one is too long for 32 bits
+pub raw-fits : (p w : ℕ) → p ≤ greatestPeriod → leastPeriod ≤ w → rawRate p w ≤ 4294967295
+unfolding rawRate
+raw-fits p w hi lo =
+    let some-w : 0 < 2 * w = omega arith in
+    let below : rawRate p w < 4194304 = div-lt-iff-lt-mul some-w .1 (omega arith) in
+    omega arith
+
+-- toward a wanted period, by whether the raw rate is in its bounds; and without one
+pub toward-within : (p w : ℕ) → 0 < w → Within leastRate greatestRate (rawRate p w) → rawToward p w ≡ rawRate p w
+unfolding rawToward
+toward-within p w h k = rw (lt-ltb 0 w h, is-within leastRate greatestRate (rawRate p w) k)
+
+pub toward-outside : (p w : ℕ) → (Within leastRate greatestRate (rawRate p w) → ⊥) → rawToward p w ≡ freshRate
+unfolding rawToward
+toward-outside p w n = rw (and-no (ltb 0 w) (not-within leastRate greatestRate (rawRate p w) n))
+
+pub toward-none : (p : ℕ) → rawToward p 0 ≡ freshRate
+unfolding rawToward
+toward-none p = refl
+
+-- the wanted period of a note of the table, and of one outside it
+pub period-of-table : {n : ℕ} → OfTable n → wantedPeriod n ≡ notePeriod n
+unfolding wantedPeriod
+period-of-table {n} t = rw (le-leb firstNote n (t .from), lt-ltb n (firstNote + notes) (t .upto))
+
+pub period-below : {n : ℕ} → n < firstNote → wantedPeriod n ≡ 0
+unfolding wantedPeriod
+period-below {n} h = rw (lt-leb firstNote n h)
+
+pub period-above : {n : ℕ} → firstNote + notes ≤ n → wantedPeriod n ≡ 0
+unfolding wantedPeriod
+period-above {n} h = rw (and-no (leb firstNote n) (le-ltb n (firstNote + notes) h))
+
+-- a wanted period is one of the table's
+pub wanted-period-range : (n : ℕ) → 0 < wantedPeriod n → (leastPeriod ≤ wantedPeriod n) × (wantedPeriod n ≤ greatestPeriod)
+wanted-period-range n =
+    by (ltb n firstNote)
+    (λ e h. absurd (omega (arith, period-below (ltb-true n firstNote e))))
+    (λ e. by (ltb n (firstNote + notes))
+    (λ f h. let t : OfTable n = record { from = ltb-false n firstNote e; upto = ltb-true n (firstNote + notes) f } in
+    rw (period-of-table t) (omega (arith, note-period-range n (t .from) (t .upto))))
+    (λ f h. absurd (omega (arith, period-above (ltb-false n (firstNote + notes) f)))))
+
+pub wanted-period-upto : (n : ℕ) → wantedPeriod n ≤ greatestPeriod
+wanted-period-upto n = by (ltb 0 (wantedPeriod n)) (λ e. wanted-period-range n (ltb-true 0 _ e) .1) (λ e. omega (arith, ltb-false 0 (wantedPeriod n) e))
+
+-- a period and its wanted note of the scale: the raw rate is never out of its bounds
+module _ {scale p n : ℕ} (w : IsWanted scale p n) (lo : leastPeriod ≤ p) (hi : p ≤ greatestPeriod) where
+  of-table : OfTable n
+  of-table = record { from = w .inTable .0; upto = w .inTable .1 }
+
+  pub goal-of-scale : goalOf p n ≡ record { note = n; raw = rawRate p (notePeriod n) }
+  unfolding goalOf
+  goal-of-scale =
+      let k = raw-range w lo hi in
+      let some-period : 0 < notePeriod n = omega (arith, wanted-at-least-half w lo hi) in
+      rw (period-of-table of-table, toward-within p (notePeriod n) some-period k)
+
+-- a goal of any note, and of what is in force
+pub goal-of-in : (p : ℕ) {n : ℕ} → n ≤ noNote → GoalIn (goalOf p n)
+unfolding goalOf
+goal-of-in p {n} h = let k = toward-range p (wantedPeriod n) in record { note = h; from = k .0; upto = k .1 }
+
+wanted-in : {f : InForce} → ForceIn f → (p : ℕ) → wantedNote f p ≤ noNote
+unfolding wantedNote noteOf
+wanted-in {f} r p =
     let scale = ranges (f .settings) (r .settings) .scale in
     let (n, w) = wanted-some (f .settings .scale) p (scale .0) (scale .1) in
-    let k = raw-range (w .1) lo hi in
-    rw (goal-wanted f p n (w .0)) (record { note = record { from = w .1 .inTable .0; upto = w .1 .inTable .1 }; from = k .0; upto = k .1 })
+    cond-case (eqb (f .settings .mode) scaleMode) (noteOf (wanted (f .settings .scale) p)) (f .key) (λ (m : ℕ). m ≤ noNote)
+    (λ e. rw (w .0) (omega (arith, w .1 .inTable .1)))
+    (λ e. r .key)
+
+pub goal-in : {f : InForce} → ForceIn f → (p : ℕ) → GoalIn (goal f p)
+unfolding goal
+goal-in r p = goal-of-in p (wanted-in r p)
+
+-- by the mode
+pub note-of-scale : (f : InForce) (p : ℕ) → f .settings .mode ≡ scaleMode → wantedNote f p ≡ noteOf (wanted (f .settings .scale) p)
+unfolding wantedNote
+note-of-scale f p e = rw (eq-eqb (f .settings .mode) scaleMode e)
+
+pub note-of-keyboard : (f : InForce) (p : ℕ) → (f .settings .mode ≡ scaleMode → ⊥) → wantedNote f p ≡ f .key
+unfolding wantedNote
+note-of-keyboard f p n = rw (ne-eqb (f .settings .mode) scaleMode n)
 
 pub tuned-in : {f : InForce} → ForceIn f → {t : Tone} → ToneIn t → (p : ℕ) → leastPeriod ≤ p → p ≤ greatestPeriod → ToneIn (tuned f t p)
 unfolding tuned
 tuned-in {f} r i p lo hi =
-    let g = goal-in r p lo hi in
+    let g = goal-in r p in
     let h = tone-rate i in
     let k = smooth-range {decay = f .settings .decay} (omega (arith, ranges (f .settings) (r .settings) .decay .1)) (h .0) (h .1) (g .from) (g .upto) in
     pitched lo hi (g .note) (k .0) (k .1)

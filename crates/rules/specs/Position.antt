@@ -19,8 +19,8 @@ use Rattle.whole.specs.Floor.{floor-is, floor-one}
 use Rattle.whole.specs.Numbers.{floorDiv}
 use Rattle.whole.specs.Ring.{var, con, _⊕_, _⊖_, _⊗_, solve}
 use Rattle.rules.specs.declared.Tone.{Tone}
-use Rattle.rules.specs.Rules.{Sound, Growth, leastRate, greatestRate, leastPeriod, greatestPeriod, inputAt, cycleRepeated, cycleDropped, cycles, growth, sampleAt, between, wholeOf, fractionOf, reading}
-use Rattle.rules.specs.Facts.{ToneIn, pitched, unpitched, OfTable, InBounds}
+use Rattle.rules.specs.Rules.{Sound, Growth, noNote, leastRate, greatestRate, leastPeriod, greatestPeriod, inputAt, cycleRepeated, cycleDropped, cycles, growth, sampleAt, between, wholeOf, fractionOf, reading}
+use Rattle.rules.specs.Facts.{ToneIn, pitched, unpitched, InBounds}
 
 -- ---- the bounds
 
@@ -165,7 +165,7 @@ module _ {t : Tone} where
   rate-without z (pitched a b c d e) = absurd (omega arith)
   rate-without z (unpitched p r) = r
 
-  pub ranges-with : (t .period ≡ 0 → ⊥) → ToneIn t → ((leastPeriod ≤ t .period) × (t .period ≤ greatestPeriod)) × OfTable (t .note) × ((leastRate ≤ t .rate) × (t .rate ≤ greatestRate))
+  pub ranges-with : (t .period ≡ 0 → ⊥) → ToneIn t → ((leastPeriod ≤ t .period) × (t .period ≤ greatestPeriod)) × (t .note ≤ noNote) × ((leastRate ≤ t .rate) × (t .rate ≤ greatestRate))
   ranges-with z (pitched a b c d e) = ((a, b), c, (d, e))
   ranges-with z (unpitched p r) = absurd (z p)
 

@@ -6,7 +6,7 @@ use borrow.Author.Tests.{leb-true, le-leb, eqb-false}
 use lib.Dec.{leb, eqb}
 use Rattle.whole.specs.Tests.{by, and-left, and-right}
 use Rattle.rules.specs.declared.Settings.{Settings}
-use Rattle.rules.specs.Rules.{within, refuse, settingsNumber, defaults}
+use Rattle.rules.specs.Rules.{scaleMode, keyboardMode, within, refuse, settingsNumber, defaults}
 use Rattle.rules.specs.Facts.{InRange}
 
 -- ---- one test
@@ -19,7 +19,7 @@ module _ (from to x : ℕ) where
   pub is-within : Within from to x → within from to x ≡ true
   is-within h = rw (le-leb from x (h .0), le-leb x to (h .1))
 
-  within-is : within from to x ≡ true → Within from to x
+  pub within-is : within from to x ≡ true → Within from to x
   within-is e = (leb-true from x (and-left (leb from x) (leb x to) e), leb-true x to (and-right (leb from x) (leb x to) e))
 
   pub not-within : (Within from to x → ⊥) → within from to x ≡ false
@@ -45,6 +45,8 @@ pub record Ranges (s : Settings) : Type 0 where
   pub eps : Within 0 409 (s .eps)
   pub decay : Within 0 255 (s .decay)
   pub floor : Within 1 1000000 (s .floor)
+  pub channel : Within 0 15 (s .channel)
+  pub mode : Within scaleMode keyboardMode (s .mode)
 
 module _ (s : Settings) where
   pub ranges : InRange s → Ranges s
@@ -54,11 +56,15 @@ module _ (s : Settings) where
       let eps = unrefused 11 refl _ (scale .1) in
       let decay = unrefused 12 refl _ (eps .1) in
       let floor = unrefused 13 refl _ (decay .1) in
+      let channel = unrefused 14 refl _ (floor .1) in
+      let mode = unrefused 15 refl _ (channel .1) in
       record {
         scale = within-is 1 4095 (s .scale) (scale .0);
         eps = within-is 0 409 (s .eps) (eps .0);
         decay = within-is 0 255 (s .decay) (decay .0);
         floor = within-is 1 1000000 (s .floor) (floor .0);
+        channel = within-is 0 15 (s .channel) (channel .0);
+        mode = within-is scaleMode keyboardMode (s .mode) (mode .0);
       }
 
   -- settings are never answered 9, the number of a bad record
@@ -68,7 +74,9 @@ module _ (s : Settings) where
       not-nine 8 refl (within 1 4095 (s .scale))
       (not-nine 11 refl (within 0 409 (s .eps))
       (not-nine 12 refl (within 0 255 (s .decay))
-      (not-nine 13 refl (within 1 1000000 (s .floor)) (eqb-false 0 9 refl))))
+      (not-nine 13 refl (within 1 1000000 (s .floor))
+      (not-nine 14 refl (within 0 15 (s .channel))
+      (not-nine 15 refl (within scaleMode keyboardMode (s .mode)) (eqb-false 0 9 refl))))))
 
 -- the defaults are in range
 pub defaults-in-range : InRange defaults

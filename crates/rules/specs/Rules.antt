@@ -14,11 +14,18 @@ use Rattle.rules.specs.declared.Tone.{Tone}
 use Rattle.rules.specs.declared.Goal.{Goal}
 use Rattle.whole.specs.Numbers.{sum, total, floorDiv, nearestDiv}
 
--- ---- Settings: scale, eps, decay and floor, as src/lib.rt declares them, with what is in force at a sample, a tone and a goal
+-- ---- Settings: scale, eps, decay, floor, mode and channel, as src/lib.rt declares them, with what is in force at a sample, a tone and a goal
+
+-- the modes: the wanted note is of the scale, or the key held
+abbrev pub scaleMode : ℕ
+scaleMode = 0
+
+abbrev pub keyboardMode : ℕ
+keyboardMode = 1
 
 -- the settings that a start without settings has
 unfoldable pub defaults : Settings
-defaults = record { scale = 4095; eps = 100; decay = 0; floor = 100 }
+defaults = record { scale = 4095; eps = 100; decay = 0; floor = 100; mode = scaleMode; channel = 0 }
 
 -- a number from one to another
 abbrev pub within : ℕ → ℕ → ℕ → Bool
@@ -34,7 +41,9 @@ settingsNumber s =
     refuse 8 (within 1 4095 (s .scale))
     (refuse 11 (within 0 409 (s .eps))
     (refuse 12 (within 0 255 (s .decay))
-    (refuse 13 (within 1 1000000 (s .floor)) 0)))
+    (refuse 13 (within 1 1000000 (s .floor))
+    (refuse 14 (within 0 15 (s .channel))
+    (refuse 15 (within scaleMode keyboardMode (s .mode)) 0)))))
 
 -- settings are in range where that number is 0
 abbrev pub inRange : Settings → Bool
@@ -223,13 +232,26 @@ wantedOf scale p (suc k) =
 unfoldable pub wanted : ℕ → ℕ → Option ℕ
 wanted scale p = wantedOf scale p notes
 
+-- no wanted note: MIDI notes are 0 to 127
+abbrev pub noNote : ℕ
+noNote = 128
+
+-- the note of the scale for a period, as a number; no scale in its range has none
+unfoldable pub noteOf : Option ℕ → ℕ
+noteOf none = noNote
+noteOf (some n) = n
+
+-- the wanted note of the period p by what is in force: of the scale, or the key held
+unfoldable pub wantedNote : InForce → ℕ → ℕ
+wantedNote f p = cond (eqb (f .settings .mode) scaleMode) (noteOf (wanted (f .settings .scale) p)) (f .key)
+
+-- the wanted period: that of a note of the table; 0 where there is none, or one outside the table
+unfoldable pub wantedPeriod : ℕ → ℕ
+wantedPeriod n = cond (leb firstNote n && ltb n (firstNote + notes)) (notePeriod n) 0
+
 -- period x 65536 / wanted period, nearest, halves up
 unfoldable pub rawRate : ℕ → ℕ → ℕ
 rawRate p w = (2 * (p * 65536) + w) / (2 * w)
-
--- (decay x rate + (256 - decay) x raw) / 256, rounded down
-unfoldable pub smooth : ℕ → ℕ → ℕ → ℕ
-smooth decay rate raw = (decay * rate + (256 - decay) * raw) / 256
 
 -- a fresh tuner's rate, and the bounds of every raw rate: a half and two
 abbrev pub freshRate : ℕ
@@ -240,6 +262,14 @@ leastRate = 32768
 
 abbrev pub greatestRate : ℕ
 greatestRate = 131072
+
+-- the raw rate: 65536 without a wanted period, or where it is not from a half to two
+unfoldable pub rawToward : ℕ → ℕ → ℕ
+rawToward p w = cond (ltb 0 w && within leastRate greatestRate (rawRate p w)) (rawRate p w) freshRate
+
+-- (decay x rate + (256 - decay) x raw) / 256, rounded down
+unfoldable pub smooth : ℕ → ℕ → ℕ → ℕ
+smooth decay rate raw = (decay * rate + (256 - decay) * raw) / 256
 
 -- ---- Searching or tracking
 
@@ -253,9 +283,9 @@ pub record Pitch : Type 0 where
   pub mode : Mode
   pub tone : Tone
 
--- no period, and the rate 65536: fresh, locking, and lost
+-- no period, no wanted note, and the rate 65536: fresh, locking, and lost
 unfoldable pub noTone : Tone
-noTone = record { period = 0; note = 0; rate = freshRate }
+noTone = record { period = 0; note = noNote; rate = freshRate }
 
 abbrev pub noPeriod : Mode → Pitch
 noPeriod m = record { mode = m; tone = noTone }
@@ -265,14 +295,13 @@ unfoldable pub searched : Pitch → Option ℕ → Pitch
 searched t none = t
 searched t (some lag) = noPeriod (tracking (lag - 3) lag)
 
--- the goal of a successful tracking step by the wanted note: it, and the raw rate toward it; without one (no scale in its range has none) 0 and 65536
-unfoldable pub goalBy : ℕ → Option ℕ → Goal
-goalBy p none = record { note = 0; raw = freshRate }
-goalBy p (some n) = record { note = n; raw = rawRate p (notePeriod n) }
+-- the goal of the period p: a wanted note, and the raw rate toward it
+unfoldable pub goalOf : ℕ → ℕ → Goal
+goalOf p n = record { note = n; raw = rawToward p (wantedPeriod n) }
 
--- the goal of the period p, by what is in force
+-- the goal of a successful tracking step that found the period p: the wanted note as it then stands
 unfoldable pub goal : InForce → ℕ → Goal
-goal f p = goalBy p (wanted (f .settings .scale) p)
+goal f p = goalOf p (wantedNote f p)
 
 -- what a successful tracking step makes of a tone: the new period, its wanted note, and the rate moved toward the raw rate
 unfoldable pub tuned : InForce → Tone → ℕ → Tone

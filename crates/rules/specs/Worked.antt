@@ -6,7 +6,7 @@ use mathlib.Core.Option.{Option, none, some}
 use Prim.Native.Nat.{ℕ, _+_, _*_, _/_}
 use lib.IntN.{ℤ, pos, negsuc, negℤ, _+ℤ_}
 use Rattle.whole.specs.Numbers.{fold}
-use Rattle.rules.specs.Rules.{Sound, silence, heard, heardAll, E, H, D, eighthSample, eighthDue, meetsEps, meetsFloor, offset, table, notePeriod, ofScale, nearer, wantedOf, wanted, rawRate, smooth, between, inputAt, cycleRepeated, cycleDropped, cycles, growth, Take, freshTake, Given, noTone, listened, listenedIn, sampleAt, wholeOf, fractionOf, reading, eighthsAfter, stepped, gives, samplesOut}
+use Rattle.rules.specs.Rules.{Sound, silence, heard, heardAll, E, H, D, eighthSample, eighthDue, meetsEps, meetsFloor, offset, table, notePeriod, ofScale, nearer, wantedOf, wanted, scaleMode, noNote, wantedPeriod, rawRate, rawToward, goalOf, smooth, between, inputAt, cycleRepeated, cycleDropped, cycles, growth, Take, freshTake, Given, noTone, listened, listenedIn, sampleAt, wholeOf, fractionOf, reading, eighthsAfter, stepped, gives, samplesOut}
 
 -- the sound of some samples alone, the oldest first, as document 01 prints them
 abbrev soundOf : List ℤ → Sound
@@ -23,6 +23,8 @@ pub data Worked : Type 0 where
   wants : (scale p n : ℕ) → Worked
   raw : (p n r : ℕ) → Worked
   smooths : (decay rate goal new : ℕ) → Worked
+  -- the raw rate of the period p while the key n is wanted
+  wantsKey : (p n r : ℕ) → Worked
   reads : (a b : ℤ) (f : ℕ) (out : ℤ) → Worked
   -- after sample n, with the position grown to `grown` and a period, the position is `at`
   turns : (n p : ℕ) (grown at : ℤ) → Worked
@@ -37,6 +39,7 @@ Holds (note n p) = notePeriod n ≡ p
 Holds (wants scale p n) = wanted scale p ≡ some n
 Holds (raw p n r) = rawRate p (notePeriod n) ≡ r
 Holds (smooths decay rate goal new) = smooth decay rate goal ≡ new
+Holds (wantsKey p n r) = goalOf p n ≡ record { note = n; raw = r }
 Holds (reads a b f out) = between a b f ≡ out
 Holds (turns n p grown at) = growth n 0 p grown .position ≡ at
 
@@ -89,15 +92,24 @@ numbers =
     -- 12: position 1000.5 samples, period 100; and position 1000
     ∷ turns 1000 (256 * 100) (samples 1000 +ℤ pos 32768) (samples 900 +ℤ pos 32768)
     ∷ turns 1000 (256 * 100) (samples 1000) (samples 1000)
+    -- keys: the bounds are tested on the rounded rate; outside them, outside the table and without a key it is 65536
+    ∷ wantsKey 108734 32 32768
+    ∷ wantsKey 108733 32 65536
+    ∷ wantsKey 8562 100 131072
+    ∷ wantsKey 8563 100 65536
+    ∷ wantsKey 25600 31 65536
+    ∷ wantsKey 25600 101 65536
+    ∷ wantsKey 25600 0 65536
+    ∷ wantsKey 25600 noNote 65536
     ∷ []
 
 pub numbers-hold : AllHold numbers
-unfolding numbers AllHold Holds silence heard heardAll fold E H D eighthSample meetsEps meetsFloor offset notePeriod table wanted wantedOf ofScale nearer rawRate smooth between growth cycleRepeated cycleDropped cycles inputAt
+unfolding numbers AllHold Holds silence heard heardAll fold E H D eighthSample meetsEps meetsFloor offset notePeriod table wanted wantedOf ofScale nearer rawRate rawToward wantedPeriod goalOf smooth between growth cycleRepeated cycleDropped cycles inputAt
 numbers-hold =
-    ((refl, refl, refl), ((refl, refl, refl), ((refl, refl, refl), (refl, (refl, (refl, (refl, (refl, (refl, (refl, (refl, (refl, (refl, (refl, (refl, (refl, (refl, (refl, (refl, (refl, (refl, tt)))))))))))))))))))))
+    ((refl, refl, refl), ((refl, refl, refl), ((refl, refl, refl), (refl, (refl, (refl, (refl, (refl, (refl, (refl, (refl, (refl, (refl, (refl, (refl, (refl, (refl, (refl, (refl, (refl, (refl, (refl, (refl, (refl, (refl, (refl, (refl, (refl, (refl, tt)))))))))))))))))))))))))))))
 
 -- the whole case of document 01: until a period is tracked, output is the input four samples late
-pub whole-case : samplesOut (gives (record { settings = record { scale = 4095; eps = 200; decay = 0; floor = 100 } }) freshTake (pos 1000 ∷ minus 1000 ∷ pos 500 ∷ pos 8 ∷ pos 9 ∷ pos 10 ∷ []))
+pub whole-case : samplesOut (gives (record { settings = record { scale = 4095; eps = 200; decay = 0; floor = 100; mode = scaleMode; channel = 0 }; key = noNote }) freshTake (pos 1000 ∷ minus 1000 ∷ pos 500 ∷ pos 8 ∷ pos 9 ∷ pos 10 ∷ []))
     ≡ pos 0 ∷ pos 0 ∷ pos 0 ∷ pos 0 ∷ pos 1000 ∷ minus 1000 ∷ []
 unfolding freshTake silence heard gives samplesOut stepped eighthDue eighthsAfter noTone listened listenedIn growth cycleRepeated cycleDropped cycles inputAt reading between sampleAt wholeOf fractionOf
 whole-case = refl

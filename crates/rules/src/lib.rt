@@ -43,6 +43,17 @@ pub const FIRST_NOTE: u32 = 32;
 
 pub const LAST_NOTE: u32 = FIRST_NOTE + NOTES as u32 - 1;
 
+// The modes: the wanted note is of the scale, or the key held.
+pub const SCALE_MODE: u32 = 0;
+
+pub const KEYBOARD_MODE: u32 = 1;
+
+// The highest channel of a keyboard.
+pub const HIGHEST_CHANNEL: u32 = 15;
+
+// No wanted note: MIDI notes are 0 to 127.
+pub const NO_NOTE: u32 = 128;
+
 // The rate of a fresh tuner, and the least and the greatest.
 pub const FRESH_RATE: u32 = 65536;
 
@@ -53,27 +64,30 @@ pub const GREATEST_RATE: u32 = 131072;
 // How far the position may lie behind the input: 1,000 samples.
 pub const FARTHEST: u32 = 1000 * 65536;
 
-// scale: a mask of 12 bits, bit = note number mod 12; eps in 1/1024; decay in 1/256; floor: a mean square.
+// scale: a mask of 12 bits, bit = note number mod 12; eps in 1/1024; decay in 1/256; floor: a mean square; mode: 0 scale, 1 keyboard; channel: of the keyboard.
 #[repr(C)]
 pub struct Settings {
     pub scale: u32,
     pub eps: u32,
     pub decay: u32,
     pub floor: u32,
+    pub mode: u32,
+    pub channel: u32,
 }
 
-// What is in force at a sample.
+// What is in force at a sample: the settings, and the key held, 128 where there is none.
 pub struct InForce {
     pub settings: Settings,
+    pub key: u32,
 }
 
-// The goal of a tracking step: the wanted note, and the raw rate toward it.
+// The goal of a tracking step: the wanted note, 128 where there is none, and the raw rate toward it.
 pub struct Goal {
     pub note: u32,
     pub raw: u32,
 }
 
-// What a sound was found to be: its period in 1/256 sample, 0 where there is none; the wanted note, 0 where there is no period; the rate in 1/65536.
+// What a sound was found to be: its period in 1/256 sample, 0 where there is none; the wanted note, 128 where there is none; the rate in 1/65536.
 #[repr(C)]
 pub struct Tone {
     pub period: u32,

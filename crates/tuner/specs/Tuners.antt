@@ -10,6 +10,7 @@ use Rattle.rules.specs.declared.Settings.{Settings}
 use Rattle.rules.specs.declared.InForce.{InForce}
 use Rattle.rules.specs.Rules.{Sound, heard, eighthDue, eighthSample, Take, Given, inputAt, settingsNumber, inRange, defaults, after, gives, samplesOut, allRepeated, allDropped, takeLimit, longestBlock, keptSamples, eighthLags}
 use Rattle.rules.specs.Facts.{energiesOf, correlationsOf, keeping}
+use Rattle.keyboard.specs.Keys.{fresh, played, onChannel}
 use Rattle.pitch.specs.Pitches.{pitchOf, keptOf}
 use Rattle.answers.specs.declared.Answer.{Answer}
 use Rattle.answers.specs.Numbering.{plain}
@@ -34,15 +35,15 @@ takeOf t =
     }
 
 abbrev pub forceOf : Tuner → InForce
-forceOf t = record { settings = t .settings }
+forceOf t = record { settings = t .settings; key = t .keyboard .key }
 
 -- ---- a good record: each of its parts is right
 abbrev pub Good : Tuner → Type 0
-Good t = AllRight (t .settings) (t .heard) (t .pitch) (t .head) (t .last)
+Good t = AllRight (t .settings) (t .keyboard) (t .heard) (t .pitch) (t .head) (t .last)
 
 -- ---- a fresh tuner
 unfoldable pub freshTuner : Settings → Tuner
-freshTuner s = record { settings = s; heard = freshHeard; pitch = freshPitch; head = freshHead; last = noLast }
+freshTuner s = record { settings = s; keyboard = fresh; heard = freshHeard; pitch = freshPitch; head = freshHead; last = noLast }
 
 -- ---- a tuner after a block
 
@@ -87,6 +88,7 @@ afterBlock t k xs =
     let heard = heardAfter (t .heard) xs in
     record {
       settings = t .settings;
+      keyboard = t .keyboard;
       heard = heard;
       pitch = keptOf (then .pitch) (soundOf (heard .store));
       head = headOf then;
@@ -158,9 +160,10 @@ pub record Started (s : Settings) (t′ : Tuner) (a : Answer) : Type 0 where
   pub tuner : t′ ≡ freshTuner (cond (inRange s) s defaults)
   pub answer : a ≡ plain (settingsNumber s)
 
--- the tuner with other settings
+-- the tuner with other settings; another channel forgets the key, the running status and any half message
 abbrev pub withSettings : Tuner → Settings → Tuner
-withSettings t s = record { settings = s; heard = t .heard; pitch = t .pitch; head = t .head; last = t .last }
+withSettings t s =
+    record { settings = s; keyboard = onChannel (t .settings .channel) (s .channel) (t .keyboard); heard = t .heard; pitch = t .pitch; head = t .head; last = t .last }
 
 -- the number of the answer to a change: 9, then that of the settings
 pub data ChangeVerdict (t : Tuner) (s : Settings) : ℕ → Type 0 where
@@ -174,16 +177,30 @@ pub record Changed (t : Tuner) (s : Settings) (t′ : Tuner) (a : Answer) : Type
   pub tuner : t′ ≡ cond (eqb number 0) (withSettings t s) t
   pub answer : a ≡ plain number
 
--- the number of the answer to a reset: 9 only
-pub data ResetVerdict (t : Tuner) : ℕ → Type 0 where
-  record-out-of-range : (Good t → ⊥) → ResetVerdict t 9
-  begun-again : Good t → ResetVerdict t 0
+-- the number of the answer to a reset and to keyboard bytes: 9 only
+pub data NineOnly (t : Tuner) : ℕ → Type 0 where
+  record-out-of-range : (Good t → ⊥) → NineOnly t 9
+  record-good : Good t → NineOnly t 0
 
 -- the promise of a reset: settings kept, everything else fresh
 pub record Reset (t : Tuner) (t′ : Tuner) (a : Answer) : Type 0 where
   pub number : ℕ
-  pub verdict : ResetVerdict t number
+  pub verdict : NineOnly t number
   pub tuner : t′ ≡ cond (eqb number 0) (freshTuner (t .settings)) t
+  pub answer : a ≡ plain number
+
+-- ---- the keyboard
+
+-- the tuner after bytes from the keyboard, on the channel of its settings
+abbrev pub withBytes : Tuner → List ℕ → Tuner
+withBytes t bytes =
+    record { settings = t .settings; keyboard = played (t .settings .channel) (t .keyboard) bytes; heard = t .heard; pitch = t .pitch; head = t .head; last = t .last }
+
+-- the promise of keyboard bytes: the keyboard alone is another; period, wanted note and rate stay until the next tracking step
+pub record Keyed (t : Tuner) (bytes : List ℕ) (t′ : Tuner) (a : Answer) : Type 0 where
+  pub number : ℕ
+  pub verdict : NineOnly t number
+  pub tuner : t′ ≡ cond (eqb number 0) (withBytes t bytes) t
   pub answer : a ≡ plain number
 
 -- ---- the meter

@@ -15,7 +15,7 @@ use Rattle.rules.specs.Blocks.{gives-length}
 use Rattle.tuner.specs.declared.Tuner.{Tuner}
 use Rattle.answers.specs.declared.Answer.{Answer}
 use Rattle.answers.specs.Numbering.{plain, HasNumber, following, Numbered, neither, other, again, full, new}
-use Rattle.tuner.specs.Tuners.{Good, freshTuner, afterBlock, IsLast, lastSamples, nextNumber, Fits, Verdict, record-out-of-range, block-empty, block-over-512, output-short, number-neither, other-samples, given-again, take-full, taken, tunerBy, answerBy, outBy, Took, ChangeVerdict, withSettings, by-settings, Changed, ResetVerdict, begun-again, Reset}
+use Rattle.tuner.specs.Tuners.{Good, freshTuner, afterBlock, IsLast, lastSamples, nextNumber, Fits, Verdict, record-out-of-range, block-empty, block-over-512, output-short, number-neither, other-samples, given-again, take-full, taken, tunerBy, answerBy, outBy, Took, ChangeVerdict, withSettings, by-settings, Changed, NineOnly, record-good, Reset, withBytes, Keyed}
 
 module _ {t : Tuner} {k : ℕ} {xs : List ℤ} {room : ℕ} where
   pub by-number : {v : ℕ} → Fits t xs room → Numbered (t .heard .count) (t .last .number) (t .last .length) (t .heard .store) k xs v → Verdict t k xs room v
@@ -148,7 +148,7 @@ unfolding tunerBy afterBlock
 out-length zero t k xs h e = simp (length-append, gives-length, length-drop, length-replicate) (omega arith)
 out-length (suc v) t k xs h e = rw (tuner-kept {v = suc v} t k xs (λ z. omega arith)) e
 
--- ---- no second answer to a change and a reset
+-- ---- no second answer to a change, a reset and keyboard bytes
 module _ {t : Tuner} where
   change-path : {s : Settings} {v : ℕ} → ChangeVerdict t s v → Step (Good t) (v ≡ 9) (v ≡ settingsNumber s)
   change-path (record-out-of-range n) = isn't n refl
@@ -161,13 +161,23 @@ module _ {t : Tuner} where
         p .answer ∙ ap plain e ∙ sym (q .answer),
       )
 
-  reset-path : {v : ℕ} → ResetVerdict t v → Step (Good t) (v ≡ 9) (v ≡ 0)
-  reset-path (record-out-of-range n) = isn't n refl
-  reset-path (begun-again g) = is g refl
+  nine-path : {v : ℕ} → NineOnly t v → Step (Good t) (v ≡ 9) (v ≡ 0)
+  nine-path (record-out-of-range n) = isn't n refl
+  nine-path (record-good g) = is g refl
+
+  nine-one : {v w : ℕ} → NineOnly t v → NineOnly t w → v ≡ w
+  nine-one p q = step-one (nine-path p) (nine-path q) both both
 
   pub reset-one : {t₁ t₂ : Tuner} {a₁ a₂ : Answer} → Reset t t₁ a₁ → Reset t t₂ a₂ → (t₁ ≡ t₂) × (a₁ ≡ a₂)
   reset-one p q =
-      let e = step-one (reset-path (p .verdict)) (reset-path (q .verdict)) both both in (
+      let e = nine-one (p .verdict) (q .verdict) in (
         p .tuner ∙ ap (λ (v : ℕ). cond (eqb v 0) (freshTuner (t .settings)) t) e ∙ sym (q .tuner),
+        p .answer ∙ ap plain e ∙ sym (q .answer),
+      )
+
+  pub keyed-one : {bytes : List ℕ} {t₁ t₂ : Tuner} {a₁ a₂ : Answer} → Keyed t bytes t₁ a₁ → Keyed t bytes t₂ a₂ → (t₁ ≡ t₂) × (a₁ ≡ a₂)
+  keyed-one {bytes} p q =
+      let e = nine-one (p .verdict) (q .verdict) in (
+        p .tuner ∙ ap (λ (v : ℕ). cond (eqb v 0) (withBytes t bytes) t) e ∙ sym (q .tuner),
         p .answer ∙ ap plain e ∙ sym (q .answer),
       )

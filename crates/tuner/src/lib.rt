@@ -1,6 +1,7 @@
-// The tuner that hosts use: start, change, take a block, reset, read the meter, cut a recording.
+// The tuner that hosts use: start, change, take a block, take keyboard bytes, reset, read the meter, cut a recording.
 pub use answers::Answer;
 pub use cutting::cut;
+use keyboard::Keyboard;
 pub use meters::Figures;
 pub use meters::Meter;
 use pitch::Pitch;
@@ -18,12 +19,13 @@ ghost use Prim.Native.Nat.{_+_, _≤_, _<_};
 ghost use lib.ListN.{length};
 ghost use Rattle.whole.specs.Tests.{Decides};
 ghost use Rattle.rules.specs.Rules.{defaults, takeLimit, longestBlock};
-ghost use Rattle.tuner.specs.Tuners.{Good, freshTuner, afterBlock, Verdict, Took, Started, Changed, Reset, Metered};
+ghost use Rattle.tuner.specs.Tuners.{Good, freshTuner, afterBlock, Verdict, Took, Started, Changed, Reset, Keyed, Metered};
 
 // The record, in its parts.
 #[repr(C)]
 pub struct Tuner {
     pub settings: Settings,
+    pub keyboard: Keyboard,
     pub heard: Heard,
     pub pitch: Pitch,
     pub head: Head,
@@ -40,11 +42,12 @@ fn good(t: Tuner) -> bool
     ensures { λ r. ⌜ Decides r (Good t) ⌝ }
 {
     let settings = t.settings;
+    let keys = t.keyboard;
     let heard = t.heard;
     let pitch = t.pitch;
     let head = t.head;
     let last = t.last;
-    record::all_right(settings, heard, pitch, head, last)
+    record::all_right(settings, keys, heard, pitch, head, last)
 }
 
 fn fresh_tuner(s: Settings) -> Tuner
@@ -52,6 +55,7 @@ fn fresh_tuner(s: Settings) -> Tuner
 {
     Tuner {
         settings: s,
+        keyboard: keyboard::fresh(),
         heard: record::fresh_heard(),
         pitch: record::fresh_pitch(),
         head: record::fresh_head(),
@@ -118,7 +122,11 @@ fn after_block(t: Tuner, number: u16, samples: &[i16]) -> Tuner
     ensures { λ r. ⌜ r ≡ afterBlock t number (now (samples .entry)) ⌝ }
 {
     let g = t.settings;
-    let f = InForce { settings: g };
+    let keys = t.keyboard;
+    let f = InForce {
+        settings: g,
+        key: keys.key,
+    };
     let n = samples.len();
     let store = t.heard.store;
     let eighths = t.heard.eighths;
@@ -131,10 +139,12 @@ fn after_block(t: Tuner, number: u16, samples: &[i16]) -> Tuner
     let mut periods = [0u32; LONGEST_BLOCK];
     let mut notes = [0u32; LONGEST_BLOCK];
     let mut rates = [0u32; LONGEST_BLOCK];
+    let count = t.heard.count as u32;
+    let behind = t.head.behind as u32;
     let p = Progress {
-        count: t.heard.count as u32,
+        count: count,
         places: KEPT_EIGHTHS,
-        behind: t.head.behind as u32,
+        behind: behind,
         repeated: 0,
         dropped: 0,
         pitch: v,
@@ -157,10 +167,16 @@ fn after_block(t: Tuner, number: u16, samples: &[i16]) -> Tuner
     copying::keep(&mut kept, &s, n);
     let mut kept8 = [0i16; KEPT_EIGHTHS];
     copying::keep(&mut kept8, &y, q.places - KEPT_EIGHTHS);
+    let counted = q.count as u64;
+    let left_behind = q.behind as u64;
+    let length = n as u16;
+    let repeated = q.repeated as u16;
+    let dropped = q.dropped as u16;
     Tuner {
         settings: g,
+        keyboard: keys,
         heard: Heard {
-            count: q.count as u64,
+            count: counted,
             energies: e,
             correlations: h,
             store: kept,
@@ -168,13 +184,13 @@ fn after_block(t: Tuner, number: u16, samples: &[i16]) -> Tuner
         },
         pitch: pitch::settled(q.pitch),
         head: Head {
-            behind: q.behind as u64,
+            behind: left_behind,
         },
         last: Last {
             number: number,
-            length: n as u16,
-            repeated: q.repeated as u16,
-            dropped: q.dropped as u16,
+            length: length,
+            repeated: repeated,
+            dropped: dropped,
             out: out,
         },
     }
@@ -199,8 +215,29 @@ impl Tuner {
                 answer: answers::plain(number),
             };
         }
+        let keys = self.keyboard;
         let mut t = self;
+        t.keyboard = keyboard::on_channel(self.settings.channel, s.channel, keys);
         t.settings = s;
+        Taken {
+            tuner: t,
+            answer: answers::plain(0),
+        }
+    }
+
+    // Bytes from the keyboard; what they leave held counts from the next tracking step.
+    pub fn midi(self, bytes: &[u8]) -> Taken
+        ensures { λ r. ⌜ Keyed self (now (bytes .entry)) (r .tuner) (r .answer) ⌝ }
+    {
+        if !good(self) {
+            return Taken {
+                tuner: self,
+                answer: answers::plain(9),
+            };
+        }
+        let keys = self.keyboard;
+        let mut t = self;
+        t.keyboard = keyboard::played(self.settings.channel, keys, bytes);
         Taken {
             tuner: t,
             answer: answers::plain(0),

@@ -2,9 +2,10 @@
 -- Assumes nothing.
 use mathlib.Core.Path.{_≡_, ap, _∙_}
 use native.Mathlib.Omega.{arith}
+use borrow.Author.Needs.{needs}
 use borrow.Author.Tests.{eq-eqb, ne-eqb}
-use Rattle.rules.specs.Rules.{notePeriod}
-use Rattle.rules.specs.Notes.{note-period-range}
+use Rattle.rules.specs.Rules.{wantedPeriod}
+use Rattle.rules.specs.Notes.{wanted-period-upto}
 use Rattle.rules.specs.Position.{ranges-with}
 use Rattle.pitch.specs.declared.Pitch.{Pitch as KeptPitch}
 use Rattle.pitch.specs.Listening.{is-tracking}
@@ -43,8 +44,8 @@ returns-2 c =
     let on = c .before .before .before .if1 .left in
     (ap Meter.Locking (f .is) ∙ when-locking _ on (c .before .if2 .taken), locking (f .exact))
 
-note-period-requires : tie.Need-note-period-requires
-note-period-requires c κs = ranges-with (c .if2 .left) (c .before .before .before .before .pre .tone) .1
+wanted-period-requires : tie.Need-wanted-period-requires
+wanted-period-requires c κs = search needs
 
 figure-requires : tie.Need-figure-requires
 figure-requires c κs =
@@ -53,9 +54,8 @@ figure-requires c κs =
 
 figure-requires-2 : tie.Need-figure-requires-2
 figure-requires-2 c κs =
-    let at = c .before .before in
-    let n = ranges-with (at .if2 .left) (at .before .before .before .before .pre .tone) .1 in
-    rw (c .before .note-period .ensures) (omega (arith, note-period-range _ (n .from) (n .upto)))
+    let n = c .before .before .before .before .before .before .args .v .tone .note in
+    rw (c .before .wanted-period .ensures) (omega (arith, wanted-period-upto n))
 
 fine-figure-requires : tie.Need-fine-figure-requires
 fine-figure-requires c κs =
@@ -68,7 +68,7 @@ returns-3 c =
     let at = c .before .before .before .before in
     let v = at .before .before .before .before .args .v in
     let p = c .before .before .figure .ensures in
-    let w : Exactly (notePeriod (v .tone .note)) 256 (c .before .figure2 .result) = rw (c .before .before .before .note-period .ensures) at (c .before .figure2 .ensures) in
+    let w : Exactly (wantedPeriod (v .tone .note)) 256 (c .before .figure2 .result) = rw (c .before .before .before .wanted-period .ensures) at (c .before .figure2 .ensures) in
     let r = c .fine-figure .ensures in
     let on = at .before .before .if1 .left in
     ((cc (p .is, w .is, r .is)) ∙ when-pitched v on (at .if2 .left), pitched (p .exact) (w .exact) (r .exact))
@@ -80,7 +80,7 @@ shown-spec =
     returns
     lag-figure-requires
     returns-2
-    note-period-requires
+    wanted-period-requires
     figure-requires
     figure-requires-2
     fine-figure-requires

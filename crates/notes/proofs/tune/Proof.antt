@@ -19,7 +19,7 @@ smooth-requires : tie.Need-smooth-requires
 smooth-requires c κs =
     let s = c .before in
     let e = ap (λ (g : Goal). g .raw) (c .goal .ensures) in
-    let r = goal-in (s .pre .0) (s .args .period) (s .pre .2) (s .pre .3) in
+    let r = goal-in (s .pre .0) (s .args .period) in
     (ranges _ (s .pre .0 .settings) .decay .1, tone-rate (s .pre .1) .1, omega (arith, e, r .upto))
 
 returns : tie.Need-returns

@@ -24,7 +24,7 @@ returns : tie.Need-returns
 returns c =
     let k = c .before .before .before in
     let s = k .before .before .before .before in
-    became-tuned (s .args .v) (k .before .step .ensures) (s .pre .2) (s .pre .1 .pitch .tone) (c .before .before .if1 .taken) (c .tune .ensures)
+    became-tuned (s .args .f) (s .args .v) (k .before .step .ensures) (s .pre .2) (s .pre .1 .pitch .tone) (c .before .before .if1 .taken) (c .tune .ensures)
 
 no-tone-requires : tie.Need-no-tone-requires
 no-tone-requires c κs = search needs
@@ -32,7 +32,8 @@ no-tone-requires c κs = search needs
 returns-2 : tie.Need-returns-2
 returns-2 c =
     let k = c .before .before in
-    became-lost (k .before .before .before .before .args .v) (k .before .step .ensures) (c .before .if1 .left) (c .no-tone .ensures)
+    let a = k .before .before .before .before .args in
+    became-lost (a .f) (a .v) (k .before .step .ensures) (c .before .if1 .left) (c .no-tone .ensures)
 
 pub track-spec : {M : Type 1} → statement M
 track-spec = tie.close (tie.spec step-requires tune-requires no-tone-requires returns returns-2)

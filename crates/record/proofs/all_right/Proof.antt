@@ -14,42 +14,52 @@ settings-number-requires c κs = search needs
 returns : tie.Need-returns
 returns c = refused (λ p. c .if1 .taken (c .before .settings-number .ensures ∙ p .settings))
 
+right-requires : tie.Need-right-requires
+right-requires c κs = search needs
+
+returns-2 : tie.Need-returns-2
+returns-2 c = refused (λ p. failed (c .before .right .ensures) (c .if2 .taken) (p .keyboard))
+
 last-right-requires : tie.Need-last-right-requires
 last-right-requires c κs = search needs
 
-returns-2 : tie.Need-returns-2
-returns-2 c = refused (λ p. failed (c .before .last-right .ensures) (c .if2 .taken) (p .last))
-
 returns-3 : tie.Need-returns-3
-returns-3 c = refused (λ p. omega (arith, p .head .behind))
+returns-3 c = refused (λ p. failed (c .before .last-right .ensures) (c .if3 .taken) (p .last))
+
+returns-4 : tie.Need-returns-4
+returns-4 c = refused (λ p. omega (arith, p .head .behind))
 
 heard-right-requires : tie.Need-heard-right-requires
 heard-right-requires c κs = search needs
 
-returns-4 : tie.Need-returns-4
-returns-4 c = refused (λ p. failed (c .before .heard-right .ensures) (c .if4 .taken) (p .heard))
+returns-5 : tie.Need-returns-5
+returns-5 c = refused (λ p. failed (c .before .heard-right .ensures) (c .if5 .taken) (p .heard))
 
 slice-aggregate-pitch-right : tie.Need-slice-aggregate-pitch-right
-slice-aggregate-pitch-right c = search needs
+slice-aggregate-pitch-right c =
+    let s = c .before .before .before .before .before .before .before .before .before .before .before .before in
+    search (needs, stores (s .args .h) _ (s .good .1 .1 .0) .store)
 
 pitch-right-requires : tie.Need-pitch-right-requires
 pitch-right-requires c κs =
-    let s = c .before .before .before .before .before .before .before .before .before .before in
-    let k = stores (s .args .h) _ (s .good .1 .0) in (k .store, k .storeFits)
+    let s = c .before .before .before .before .before .before .before .before .before .before .before .before in
+    let k = stores (s .args .h) _ (s .good .1 .1 .0) in (k .store, k .storeFits)
 
-returns-5 : tie.Need-returns-5
-returns-5 c =
-    let c4 = c .before .before .before in
+returns-6 : tie.Need-returns-6
+returns-6 c =
+    let c5 = c .before .before .before in
+    let c4 = c5 .before .before in
     let c3 = c4 .before .before in
     let c2 = c3 .before .before in
     let c1 = c2 .before .before in
     decides-as (c .pitch-right .ensures)
     (λ v. record {
       settings = sym (c1 .before .settings-number .ensures) ∙ c1 .if1 .left;
-      heard = passed (c4 .before .heard-right .ensures) (c4 .if4 .left);
+      keyboard = passed (c2 .before .right .ensures) (c2 .if2 .left);
+      heard = passed (c5 .before .heard-right .ensures) (c5 .if5 .left);
       pitch = v;
-      head = record { behind = c3 .if3 .left };
-      last = passed (c2 .before .last-right .ensures) (c2 .if2 .left);
+      head = record { behind = c4 .if4 .left };
+      last = passed (c3 .before .last-right .ensures) (c3 .if3 .left);
     })
     (λ p. p .pitch)
 
@@ -59,11 +69,13 @@ all-right-spec =
     (tie.spec
     settings-number-requires
     returns
-    last-right-requires
+    right-requires
     returns-2
+    last-right-requires
     returns-3
-    heard-right-requires
     returns-4
+    heard-right-requires
+    returns-5
     slice-aggregate-pitch-right
     pitch-right-requires
-    returns-5)
+    returns-6)

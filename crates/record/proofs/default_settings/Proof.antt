@@ -1,4 +1,4 @@
--- `record::default_settings` meets its contract: the four numbers are the defaults.
+-- `record::default_settings` meets its contract: the six numbers are the defaults.
 -- Assumes nothing.
 use mathlib.Core.Path.{refl}
 use Rattle.rules.specs.Rules.{defaults}

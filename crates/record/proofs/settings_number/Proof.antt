@@ -4,7 +4,7 @@ use mathlib.Core.Path.{_≡_, sym, ap, _∙_}
 use mathlib.Core.Bool.{true, false}
 use borrow.Author.Needs.{needs}
 use Rattle.whole.specs.Tests.{failed, passed}
-use Rattle.rules.specs.Rules.{within, settingsNumber}
+use Rattle.rules.specs.Rules.{scaleMode, keyboardMode, within, refuse, settingsNumber}
 use Rattle.rules.specs.Ranges.{is-within, not-within}
 use Rattle.record.proofs.settings_number.Statement.{statement}
 use Rattle.record.proofs.settings_number.Tie as tie
@@ -51,12 +51,38 @@ returns-4 c =
     let c2 = c3 .before .before in
     rw (scale-in (c2 .before .before), eps-in c2, decay-in c3, not-within 1 1000000 _ (failed (c .before .within4 .ensures) (c .if4 .taken)))
 
+within-requires-5 : tie.Need-within-requires-5
+within-requires-5 c κs = search needs
+
+-- what comes after the first four
+module _ (c : tie.Else4) where
+  first-four : settingsNumber (c .before .before .before .before .before .before .before .before .args .s)
+      ≡ refuse 14 (within 0 15 (c .before .before .before .before .before .before .before .before .args .s .channel))
+      (refuse 15 (within scaleMode keyboardMode (c .before .before .before .before .before .before .before .before .args .s .mode)) 0)
+  unfolding settingsNumber
+  first-four =
+      let c3 = c .before .before in
+      let c2 = c3 .before .before in
+      rw (scale-in (c2 .before .before), eps-in c2, decay-in c3, is-within 1 1000000 _ (passed (c .before .within4 .ensures) (c .if4 .left)))
+
 returns-5 : tie.Need-returns-5
-unfolding settingsNumber
-returns-5 c =
-    let c3 = c .before .before in
-    let c2 = c3 .before .before in
-    rw (scale-in (c2 .before .before), eps-in c2, decay-in c3, is-within 1 1000000 _ (passed (c .before .within4 .ensures) (c .if4 .left)))
+returns-5 c = rw (first-four (c .before .before), not-within 0 15 _ (failed (c .before .within5 .ensures) (c .if5 .taken)))
+
+within-requires-6 : tie.Need-within-requires-6
+within-requires-6 c κs = search needs
+
+channel-in : (c : tie.Else5) → within 0 15 (c .before .before .before .before .before .before .before .before .before .before .args .s .channel) ≡ true
+channel-in c = is-within 0 15 _ (passed (c .before .within5 .ensures) (c .if5 .left))
+
+returns-6 : tie.Need-returns-6
+returns-6 c =
+    let c5 = c .before .before in
+    rw (first-four (c5 .before .before), channel-in c5, not-within scaleMode keyboardMode _ (failed (c .before .within6 .ensures) (c .if6 .taken)))
+
+returns-7 : tie.Need-returns-7
+returns-7 c =
+    let c5 = c .before .before in
+    rw (first-four (c5 .before .before), channel-in c5, is-within scaleMode keyboardMode _ (passed (c .before .within6 .ensures) (c .if6 .left)))
 
 pub settings-number-spec : {M : Type 1} → statement M
 settings-number-spec =
@@ -70,4 +96,8 @@ settings-number-spec =
     returns-3
     within-requires-4
     returns-4
-    returns-5)
+    within-requires-5
+    returns-5
+    within-requires-6
+    returns-6
+    returns-7)

@@ -17,24 +17,19 @@ within-requires c κs = search needs
 returns-2 : tie.Need-returns-2
 returns-2 c = refused (λ q. failed (c .before .within .ensures) (c .if2 .taken) (ranges-with (c .before .before .if1 .left) q .0))
 
+returns-3 : tie.Need-returns-3
+returns-3 c = refused (λ q. omega (arith, ranges-with (c .before .before .before .before .if1 .left) q .1))
+
 within-requires-2 : tie.Need-within-requires-2
 within-requires-2 c κs = search needs
-
-returns-3 : tie.Need-returns-3
-returns-3 c =
-    refused (λ q. let n = ranges-with (c .before .before .before .before .if1 .left) q .1 in failed (c .before .within2 .ensures) (c .if3 .taken) (n .from, omega (arith, n .upto)))
-
-within-requires-3 : tie.Need-within-requires-3
-within-requires-3 c κs = search needs
 
 returns-4 : tie.Need-returns-4
 returns-4 c =
     let c3 = c .before in
     let c2 = c3 .before .before in
     let p = passed (c2 .before .within .ensures) (c2 .if2 .left) in
-    let n = passed (c3 .before .within2 .ensures) (c3 .if3 .left) in
-    decides-as (c .within3 .ensures)
-    (λ r. pitched (p .0) (p .1) (record { from = n .0; upto = omega arith }) (r .0) (r .1))
+    decides-as (c .within2 .ensures)
+    (λ r. pitched (p .0) (p .1) (c3 .if3 .left) (r .0) (r .1))
     (λ q. ranges-with (c2 .before .before .if1 .left) q .2)
 
 pub tone-right-spec : {M : Type 1} → statement M
@@ -44,7 +39,6 @@ tone-right-spec =
     returns
     within-requires
     returns-2
-    within-requires-2
     returns-3
-    within-requires-3
+    within-requires-2
     returns-4)

@@ -13,7 +13,7 @@ use Rattle.tuner.proofs.after_block.Tie as tie
 
 -- where the stores are opened: the function's start, and what its types say
 abbrev start : tie.After-opened → tie.Start
-start o = o .before .before .before .before .before .before .before .before
+start o = o .before .before .before .before .before .before .before .before .before
 
 arrays : (c : tie.Start) → Stores (c .args .t .heard)
 arrays c = stores (c .args .t) _ (c .good .0)
@@ -27,11 +27,11 @@ joined-requires c κs = search needs
 opened-requires : tie.Need-opened-requires
 opened-requires c κs = search needs
 
-cast-t24 : tie.Need-cast-t24
-cast-t24 c = let g = start (c .before) .pre .0 in omega (arith, g .heard .count)
+cast-count : tie.Need-cast-count
+cast-count c = let g = start (c .before) .pre .0 in omega (arith, g .heard .count)
 
-cast-t25 : tie.Need-cast-t25
-cast-t25 c = let g = start (c .before .before) .pre .0 in omega (arith, g .head .behind)
+cast-behind : tie.Need-cast-behind
+cast-behind c = let g = start (c .before .before) .pre .0 in omega (arith, g .head .behind)
 
 slice-aggregate-run : tie.Need-slice-aggregate-run
 slice-aggregate-run c = search needs
@@ -42,7 +42,7 @@ run-requires c κs =
     let s = start o in
     let p = s .pre in
     let t = s .args .t in (
-      record { settings = p .0 .settings },
+      record { settings = p .0 .settings; key = p .0 .keyboard .key },
       begin-long t (p .0) (arrays s) (o .before .joined .ensures) (o .opened .ensures),
       omega (arith, o .before .joined .ensures .long, p .2),
       p .2,
@@ -80,28 +80,28 @@ sub-keep c = let r = c .before .before .before .before .before .before .before i
 keep-requires-2 : tie.Need-keep-requires-2
 keep-requires-2 c κs = let r = c .before .before .before .before .before .before .before in omega (arith, few8 r, r .run .ensures .0 .eighths .long, r .run .ensures .0 .placed)
 
-cast-t45 : tie.Need-cast-t45
-cast-t45 c = let r = c .before .before .before .before .before .before .before .before .before .before in omega (arith, r .run .ensures .2 .count, start (opening r) .pre .3)
+cast-counted : tie.Need-cast-counted
+cast-counted c = let r = c .before .before .before .before .before .before .before .before .before .before in omega (arith, r .run .ensures .2 .count, start (opening r) .pre .3)
+
+cast-left-behind : tie.Need-cast-left-behind
+cast-left-behind c = let r = c .before .before .before .before .before .before .before .before .before .before .before in omega (arith, r .run .ensures .0 .near)
+
+cast-length : tie.Need-cast-length
+cast-length c = let r = c .before .before .before .before .before .before .before .before .before .before .before in omega (arith, start (opening r) .pre .2)
+
+cast-repeated : tie.Need-cast-repeated
+cast-repeated c = let r = c .before .before .before .before .before .before .before .before .before .before .before .before in omega (arith, r .run .ensures .2 .repeated, start (opening r) .pre .2)
+
+cast-dropped : tie.Need-cast-dropped
+cast-dropped c = let r = c .before .before .before .before .before .before .before .before .before .before .before .before .before in omega (arith, r .run .ensures .2 .dropped, start (opening r) .pre .2)
 
 settled-requires : tie.Need-settled-requires
 settled-requires c κs = search needs
 
-cast-t52 : tie.Need-cast-t52
-cast-t52 c = let r = c .before .before .before .before .before .before .before .before .before .before .before .before in omega (arith, r .run .ensures .0 .near)
-
-cast-t54 : tie.Need-cast-t54
-cast-t54 c = let r = c .before .before .before .before .before .before .before .before .before .before .before .before in omega (arith, start (opening r) .pre .2)
-
-cast-t55 : tie.Need-cast-t55
-cast-t55 c = let r = c .before .before .before .before .before .before .before .before .before .before .before .before .before in omega (arith, r .run .ensures .2 .repeated, start (opening r) .pre .2)
-
-cast-t56 : tie.Need-cast-t56
-cast-t56 c = let r = c .before .before .before .before .before .before .before .before .before .before .before .before .before .before in omega (arith, r .run .ensures .2 .dropped, start (opening r) .pre .2)
-
 returns : tie.Need-returns
 returns c =
-    let settled = c .before .before .before in
-    let eighths = settled .before .before .before in
+    let settled = c in
+    let eighths = settled .before .before .before .before .before .before in
     let kept = eighths .before .before .before .before .before in
     let r = kept .before .before .before in
     let o = opening r in
@@ -116,8 +116,8 @@ after-block-spec =
     (tie.spec
     joined-requires
     opened-requires
-    cast-t24
-    cast-t25
+    cast-count
+    cast-behind
     slice-aggregate-run
     run-requires
     slice-aggregate-keep
@@ -127,10 +127,10 @@ after-block-spec =
     slice-aggregate-keep-4
     sub-keep
     keep-requires-2
-    cast-t45
+    cast-counted
+    cast-left-behind
+    cast-length
+    cast-repeated
+    cast-dropped
     settled-requires
-    cast-t52
-    cast-t54
-    cast-t55
-    cast-t56
     returns)

@@ -6,6 +6,9 @@ use Rattle.tuner.specs.Tuners.{freshTuner}
 use Rattle.tuner.proofs.fresh_tuner.Statement.{statement}
 use Rattle.tuner.proofs.fresh_tuner.Tie as tie
 
+fresh-requires : tie.Need-fresh-requires
+fresh-requires c κs = search needs
+
 fresh-heard-requires : tie.Need-fresh-heard-requires
 fresh-heard-requires c κs = search needs
 
@@ -24,7 +27,8 @@ returns c =
     let d = c .before in
     let v = d .before in
     let h = v .before in
-    λ i. record { settings = h .before .args .s; heard = h .fresh-heard .ensures i; pitch = v .fresh-pitch .ensures i; head = d .fresh-head .ensures i; last = c .no-last .ensures i }
+    let k = h .before in
+    λ i. record { settings = k .before .args .s; keyboard = k .fresh .ensures i; heard = h .fresh-heard .ensures i; pitch = v .fresh-pitch .ensures i; head = d .fresh-head .ensures i; last = c .no-last .ensures i }
 
 pub fresh-tuner-spec : {M : Type 1} → statement M
-fresh-tuner-spec = tie.close (tie.spec fresh-heard-requires fresh-pitch-requires fresh-head-requires no-last-requires returns)
+fresh-tuner-spec = tie.close (tie.spec fresh-requires fresh-heard-requires fresh-pitch-requires fresh-head-requires no-last-requires returns)

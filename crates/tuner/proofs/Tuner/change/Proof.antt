@@ -5,6 +5,7 @@ use borrow.Author.Needs.{needs}
 use borrow.Author.Tests.{ne-eqb}
 use Rattle.whole.specs.Tests.{passed, failed}
 use Rattle.rules.specs.Rules.{settingsNumber}
+use Rattle.keyboard.specs.declared.Keyboard.{Keyboard}
 use Rattle.answers.specs.Numbering.{plain}
 use Rattle.tuner.specs.Tuners.{Good, record-out-of-range, by-settings}
 use Rattle.tuner.proofs.Tuner.change.Statement.{statement}
@@ -45,14 +46,24 @@ returns-2 c =
       answer = c .plain2 .ensures ∙ ap plain n;
     }
 
+on-channel-requires : tie.Need-on-channel-requires
+on-channel-requires c κs = search needs
+
 plain-requires-3 : tie.Need-plain-requires-3
 plain-requires-3 c κs = search needs
 
 returns-3 : tie.Need-returns-3
 returns-3 c =
-    let g = c .before .before in
-    let e : settingsNumber (g .before .before .before .args .s) ≡ 0 = sym (g .before .settings-number .ensures) ∙ c .before .if2 .left in
-    record { number = _; verdict = by-settings (good-here g); tuner = rw e; answer = c .plain3 .ensures ∙ ap plain (sym e) }
+    let k = c .before in
+    let g = k .before .before .before in
+    let a = g .before .before .before .args in
+    let e : settingsNumber (a .s) ≡ 0 = sym (g .before .settings-number .ensures) ∙ k .before .before .if2 .left in
+    record {
+      number = _;
+      verdict = by-settings (good-here g);
+      tuner = rw e (ap (λ (k : Keyboard). record { settings = a .s; keyboard = k; heard = a .self .heard; pitch = a .self .pitch; head = a .self .head; last = a .self .last }) (k .on-channel .ensures));
+      answer = c .plain3 .ensures ∙ ap plain (sym e);
+    }
 
 pub change-spec : {M : Type 1} → statement M
 change-spec =
@@ -64,5 +75,6 @@ change-spec =
     returns
     plain-requires-2
     returns-2
+    on-channel-requires
     plain-requires-3
     returns-3)

@@ -2,7 +2,7 @@
 -- Assumes nothing.
 use mathlib.Core.Path.{refl}
 use borrow.Author.Needs.{needs}
-use Rattle.tuner.specs.Tuners.{record-out-of-range, begun-again}
+use Rattle.tuner.specs.Tuners.{record-out-of-range, record-good}
 use Rattle.tuner.proofs.Tuner.reset.Statement.{statement}
 use Rattle.tuner.proofs.Tuner.reset.Tie as tie
 
@@ -20,7 +20,7 @@ returns c =
     let g = c .before .before .before in
     record {
       number = 0;
-      verdict = begun-again (g .before .good2 .ensures .yes (g .if1 .taken));
+      verdict = record-good (g .before .good2 .ensures .yes (g .if1 .taken));
       tuner = c .before .fresh-tuner .ensures;
       answer = c .plain .ensures;
     }

@@ -1,0 +1,47 @@
+-- `tuner::Tuner::midi` meets its contract: the record is tested, and a good one gets the keyboard as the bytes leave it.
+-- Assumes nothing.
+use mathlib.Core.Path.{refl, ap}
+use borrow.Author.Needs.{needs}
+use Rattle.whole.specs.Tests.{passed, failed}
+use Rattle.keyboard.specs.declared.Keyboard.{Keyboard}
+use Rattle.tuner.specs.Tuners.{record-out-of-range, record-good}
+use Rattle.tuner.proofs.Tuner.midi.Statement.{statement}
+use Rattle.tuner.proofs.Tuner.midi.Tie as tie
+
+good-requires : tie.Need-good-requires
+good-requires c κs = search needs
+
+plain-requires : tie.Need-plain-requires
+plain-requires c κs = search needs
+
+returns : tie.Need-returns
+returns c =
+    record {
+      number = 9;
+      verdict = record-out-of-range (failed (c .before .before .good2 .ensures) (c .before .if1 .taken));
+      tuner = refl;
+      answer = c .plain .ensures;
+    }
+
+played-requires : tie.Need-played-requires
+played-requires c κs = search needs
+
+plain-requires-2 : tie.Need-plain-requires-2
+plain-requires-2 c κs = search needs
+
+returns-2 : tie.Need-returns-2
+returns-2 c =
+    let k = c .before in
+    let g = k .before .before in
+    let t = g .before .before .before .args .self in
+    record {
+      number = 0;
+      verdict = record-good (passed (g .before .good2 .ensures) (g .if1 .left));
+      tuner = ap (λ (k : Keyboard). record { settings = t .settings; keyboard = k; heard = t .heard; pitch = t .pitch; head = t .head; last = t .last }) (k .played .ensures);
+      answer = c .plain2 .ensures;
+    }
+
+pub midi-spec : {M : Type 1} → statement M
+midi-spec =
+    tie.close
+    (tie.spec good-requires plain-requires returns played-requires plain-requires-2 returns-2)
