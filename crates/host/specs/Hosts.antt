@@ -10,7 +10,7 @@ use Rattle.answers.specs.Numbering.{plain}
 use Rattle.meters.specs.declared.Meter.{Meter}
 use Rattle.meters.specs.declared.Meter.the-variants.{Searching, Locking, Pitched, Refused}
 use Rattle.tuner.specs.declared.Tuner.{Tuner}
-use Rattle.tuner.specs.Tuners.{Took, Started, Changed, Reset, Metered}
+use Rattle.tuner.specs.Tuners.{Took, Started, Changed, Reset, Keyed, Metered}
 use Rattle.host.specs.declared.Record.{Record}
 use Rattle.host.specs.declared.Shown.{Shown}
 
@@ -18,7 +18,7 @@ use Rattle.host.specs.declared.Shown.{Shown}
 
 -- the number of this layout: no other layout has it
 abbrev pub layoutNumber : ℕ
-layoutNumber = 20003
+layoutNumber = 20004
 
 -- the record of a tuner
 abbrev pub recordOf : Tuner → Record
@@ -42,6 +42,10 @@ HostChanged r s r′ n = Lent (λ t t′ a. Changed t s t′ a) Unit r r′ (pla
 -- a reset, answered n
 abbrev pub HostReset : Record → Record → ℕ → Type 0
 HostReset r r′ n = Lent Reset Unit r r′ (plain n)
+
+-- keyboard bytes, answered n
+abbrev pub HostKeyed : Record → List ℕ → Record → ℕ → Type 0
+HostKeyed r bytes r′ n = Lent (λ t t′ a. Keyed t bytes t′ a) Unit r r′ (plain n)
 
 -- a start, answered n, whatever the record held
 pub record HostStarted (s : Settings) (r′ : Record) (n : ℕ) : Type 0 where

@@ -14,10 +14,10 @@ use Rattle.answers.specs.Numbering.{plain}
 use Rattle.tuner.specs.declared.Tuner.{Tuner}
 use Rattle.tuner.specs.Tuners.{freshTuner, answerBy, Took, Started}
 use Rattle.tuner.specs.Starts.{one-meter, one-start, default-start-taken}
-use Rattle.tuner.specs.Verdicts.{tuner-kept, by-refused, took-one, changed-one, reset-one}
+use Rattle.tuner.specs.Verdicts.{tuner-kept, by-refused, took-one, changed-one, reset-one, keyed-one}
 use Rattle.host.specs.declared.Record.{Record}
 use Rattle.host.specs.declared.Shown.{Shown}
-use Rattle.host.specs.Hosts.{layoutNumber, recordOf, Lent, held, unheld, HostTook, HostChanged, HostReset, HostStarted, shownAs, HostMetered}
+use Rattle.host.specs.Hosts.{layoutNumber, recordOf, Lent, held, unheld, HostTook, HostChanged, HostReset, HostKeyed, HostStarted, shownAs, HostMetered}
 
 -- ---- a promise of the tuner's call, met over the record
 
@@ -69,6 +69,9 @@ module _ {r r₁ r₂ : Record} where
   pub host-reset-one : {n m : ℕ} → HostReset r r₁ n → HostReset r r₂ m → (r₁ ≡ r₂) × (n ≡ m)
   host-reset-one {n} {m} p q = numbers n m (lent-one (λ t₁ t₂ p q. let (t, a) = reset-one p q in (t, a, tt)) (λ u v. tt) p q)
 
+  pub host-keyed-one : {bytes : List ℕ} {n m : ℕ} → HostKeyed r bytes r₁ n → HostKeyed r bytes r₂ m → (r₁ ≡ r₂) × (n ≡ m)
+  host-keyed-one {n = n} {m} p q = numbers n m (lent-one (λ t₁ t₂ p q. let (t, a) = keyed-one p q in (t, a, tt)) (λ u v. tt) p q)
+
 pub host-started-one : {s : Settings} {r₁ r₂ : Record} {n m : ℕ} → HostStarted s r₁ n → HostStarted s r₂ m → (r₁ ≡ r₂) × (n ≡ m)
 host-started-one {n = n} {m} p q = let (t, a) = one-start (p .started) (q .started) in numbers n m (p .left ∙ ap recordOf t ∙ sym (q .left), a, tt)
 
@@ -108,7 +111,7 @@ module _ {k : ℕ} {xs ys ys′ : List ℤ} {a : Answer} where
   refused-untouched (held h p e) l = p .out ∙ by-refused _ _ _ _ _ (subst (λ (v : ℕ). 1 < v) (took-number p) l) .1
   refused-untouched (unheld h b e u) l = u
 
--- a change and a reset that are not answered 0 leave the record
+-- a change, a reset and keyboard bytes that are not answered 0 leave the record
 kept-unless : {n v : ℕ} (t t′ : Tuner) → (n ≡ 0 → ⊥) → plain n ≡ plain v → cond (eqb v 0) t′ t ≡ t
 kept-unless t t′ not e = cond-no _ _ (ne-eqb _ _ (λ z. not (ap (λ (a : Answer). a .number) e ∙ z)))
 
@@ -118,3 +121,6 @@ module _ {r r′ : Record} {n : ℕ} where
 
   pub unreset-record : HostReset r r′ n → (n ≡ 0 → ⊥) → r′ ≡ r
   unreset-record p not = left-alone (λ t′ p. p .tuner ∙ kept-unless _ _ not (p .answer)) p
+
+  pub unkeyed-record : {bytes : List ℕ} → HostKeyed r bytes r′ n → (n ≡ 0 → ⊥) → r′ ≡ r
+  unkeyed-record p not = left-alone (λ t′ p. p .tuner ∙ kept-unless _ _ not (p .answer)) p

@@ -10,14 +10,14 @@ ghost use Rattle.whole.specs.Tests.{Decides};
 ghost use Rattle.rules.specs.Rules.{defaults};
 ghost use Rattle.answers.specs.Numbering.{plain};
 ghost use Rattle.cutting.specs.Cuts.{Cut};
-ghost use Rattle.host.specs.Hosts.{layoutNumber, recordOf, bare, shownAs, HostStarted, HostChanged, HostTook, HostReset, HostMetered};
+ghost use Rattle.host.specs.Hosts.{layoutNumber, recordOf, bare, shownAs, HostStarted, HostChanged, HostTook, HostReset, HostKeyed, HostMetered};
 
-// The number of this layout of the record: it came with version 3 of the calls, counted from 20000, since a record of versions 1 and 2 began with the scale, at most
+// The number of this layout of the record: they are counted from 20000, since a record of versions 1 and 2 of the calls began with the scale, at most
 // 4095, and so is never taken for one of this layout.
-const LAYOUT: u64 = 20003;
+const LAYOUT: u64 = 20004;
 
 // A tuner with the number of its layout before it: a record that another version left is answered 9, and never misread.
-// 6944 bytes, none of them padding.
+// 6960 bytes, none of them padding.
 #[repr(C)]
 pub struct Record {
     pub layout: u64,
@@ -102,6 +102,15 @@ fn taken(r: Record, number: u16, samples: &[i16], out: &mut [i16]) -> Done
     finished(Tuner::block(r.tuner, number, samples, out))
 }
 
+fn keyed(r: Record, bytes: &[u8]) -> Done
+    ensures { λ d. ⌜ HostKeyed r (now (bytes .entry)) (d .left) (d .answer .number) ⌝ }
+{
+    if !holds(r.layout) {
+        return unheld(r);
+    }
+    finished(Tuner::midi(r.tuner, bytes))
+}
+
 fn begun_again(r: Record) -> Done
     ensures { λ d. ⌜ HostReset r (d .left) (d .answer .number) ⌝ }
 {
@@ -160,9 +169,9 @@ fn metered(r: Record) -> Shown
 // The version of these calls.
 #[no_mangle]
 pub extern "C" fn daxfolin_version() -> u32
-    ensures { λ r. ⌜ r ≡ 4 ⌝ }
+    ensures { λ r. ⌜ r ≡ 5 ⌝ }
 {
-    4
+    5
 }
 
 // Where the k-th stretch of 512 samples of a recording of so many lies: the last may be shorter, and past the end there is nothing.
@@ -216,6 +225,16 @@ pub extern "C" fn daxfolin_block(
     let d = taken(*lent, number, samples, out);
     *lent = d.left;
     d.answer
+}
+
+// Bytes from the keyboard; what they leave held counts from the next tracking step.
+#[no_mangle]
+pub extern "C" fn daxfolin_midi(lent: &mut Record, bytes: &[u8]) -> u32
+    ensures { λ n. ⌜ HostKeyed (now (lent .entry)) (now (bytes .entry)) (now (lent .exit)) n ⌝ }
+{
+    let d = keyed(*lent, bytes);
+    *lent = d.left;
+    d.answer.number
 }
 
 // Settings kept, everything else fresh.
