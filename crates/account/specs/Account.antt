@@ -9,13 +9,15 @@ use lib.IntN.{ℤ, pos, _+ℤ_, _-ℤ_}
 use lib.ListN.{length, take}
 use Rattle.rules.specs.declared.Settings.{Settings}
 use Rattle.rules.specs.declared.InForce.{InForce}
-use Rattle.rules.specs.Rules.{Sound, silence, heardAll, Given, cycles, freshTake, defaults, after, samplesOut, allRepeated, allDropped}
+use Rattle.rules.specs.Rules.{Sound, silence, heardAll, Given, cycles, freshTake, defaults, after, samplesOut, allRepeated, allDropped, eighthLags}
 use Rattle.rules.specs.Facts.{InBounds, Right}
 use Rattle.rules.specs.History.{Piece, afterPieces, givesPieces, ratesPieces, samplesPieces, totalOf}
+use Rattle.keyboard.specs.declared.Keyboard.{Keyboard}
+use Rattle.keyboard.specs.Keys.{fresh, played, onChannel}
 use Rattle.tuner.specs.declared.Tuner.{Tuner}
 use Rattle.answers.specs.declared.Answer.{Answer}
 use Rattle.meters.specs.declared.Meter.{Meter}
-use Rattle.tuner.specs.Tuners.{freshTuner, takeOf, forceOf, Good, made, Took, Started, Changed, Reset, Metered}
+use Rattle.tuner.specs.Tuners.{freshTuner, takeOf, forceOf, Good, made, Took, Started, Changed, Keyed, Reset, Metered}
 
 -- ---- the history
 
@@ -24,6 +26,7 @@ pub data Call : Type 0 where
   start : Settings → Answer → Call
   change : Settings → Answer → Call
   block : ℕ → List ℤ → List ℤ → Answer → List ℤ → Call
+  midi : List ℕ → Answer → Call
   reset : Answer → Call
   meter : Meter → Call
 
@@ -32,6 +35,7 @@ pub data Leaves (t : Tuner) : Call → Tuner → Type 0 where
   by-start : {s : Settings} {a : Answer} {t′ : Tuner} → Started s t′ a → Leaves t (start s a) t′
   by-change : {s : Settings} {a : Answer} {t′ : Tuner} → Changed t s t′ a → Leaves t (change s a) t′
   by-block : {k : ℕ} {xs ys ys′ : List ℤ} {a : Answer} {t′ : Tuner} → Took t k xs ys t′ a ys′ → Leaves t (block k xs ys a ys′) t′
+  by-midi : {bytes : List ℕ} {a : Answer} {t′ : Tuner} → Keyed t bytes t′ a → Leaves t (midi bytes a) t′
   by-reset : {a : Answer} {t′ : Tuner} → Reset t t′ a → Leaves t (reset a) t′
   by-meter : {r : Meter} → Metered t r → Leaves t (meter r) t
 
@@ -40,23 +44,29 @@ pub data Series : List Call → Tuner → Type 0 where
   fresh-start : Series [] (freshTuner defaults)
   and-then : {cs : List Call} {c : Call} {t t′ : Tuner} → Series cs t → Leaves t c t′ → Series (c ∷ cs) t′
 
--- since the last start or reset: what is in force; each block taken, with what was in force; what they wrote, one after the other; the counts that they answered, added up
+-- since the last start or reset: the settings, and the keyboard by its bytes; each block taken, with what was in force; what they wrote, one after the other; the counts that they answered, added up
 pub record Received : Type 0 where
-  pub force : InForce
+  pub settings : Settings
+  pub keyboard : Keyboard
   pub pieces : List Piece
   pub written : List ℤ
   pub repeated : ℕ
   pub dropped : ℕ
 
-abbrev pub begun : InForce → Received
-begun f = record { force = f; pieces = []; written = []; repeated = 0; dropped = 0 }
+-- what is in force: the settings, and the key held
+abbrev pub forceNow : Received → InForce
+forceNow r = record { settings = r .settings; key = r .keyboard .key }
+
+abbrev pub begun : Settings → Received
+begun s = record { settings = s; keyboard = fresh; pieces = []; written = []; repeated = 0; dropped = 0 }
 
 -- one block more: its samples under what is in force, what it wrote and what it counted
 abbrev pub withBlock : Received → List ℤ → Answer → List ℤ → Received
 withBlock r xs a ys′ =
     record {
-      force = r .force;
-      pieces = r .pieces ++ (record { inForce = r .force; samples = xs } ∷ []);
+      settings = r .settings;
+      keyboard = r .keyboard;
+      pieces = r .pieces ++ (record { inForce = forceNow r; samples = xs } ∷ []);
       written = r .written ++ take (a .written) ys′;
       repeated = r .repeated + a .repeated;
       dropped = r .dropped + a .dropped;
@@ -66,21 +76,29 @@ withBlock r xs a ys′ =
 unfoldable pub plusBlock : Received → List ℤ → Answer → List ℤ → Received
 plusBlock r xs a ys′ = cond (eqb (a .number) 0) (withBlock r xs a ys′) r
 
--- settings taken are in force from the next sample
+-- the same with these settings and this keyboard
+abbrev pub withForce : Received → Settings → Keyboard → Received
+withForce r s k = record { settings = s; keyboard = k; pieces = r .pieces; written = r .written; repeated = r .repeated; dropped = r .dropped }
+
+-- settings taken are in force from the next sample; another channel begins its keyboard anew
 unfoldable pub plusChange : Received → Settings → Answer → Received
-plusChange r s a =
-    cond (eqb (a .number) 0) (record { force = record { settings = s }; pieces = r .pieces; written = r .written; repeated = r .repeated; dropped = r .dropped }) r
+plusChange r s a = cond (eqb (a .number) 0) (withForce r s (onChannel (r .settings .channel) (s .channel) (r .keyboard))) r
+
+-- keyboard bytes taken are played on the channel of the settings
+unfoldable pub plusBytes : Received → List ℕ → Answer → Received
+plusBytes r bytes a = cond (eqb (a .number) 0) (withForce r (r .settings) (played (r .settings .channel) (r .keyboard) bytes)) r
 
 -- what one call adds; a start or a reset begins the account again
 unfoldable pub plus : Call → Received → Received
-plus (start s a) r = begun (record { settings = cond (eqb (a .number) 0) s defaults })
+plus (start s a) r = begun (cond (eqb (a .number) 0) s defaults)
 plus (change s a) r = plusChange r s a
 plus (block k xs ys a ys′) r = plusBlock r xs a ys′
-plus (reset a) r = cond (eqb (a .number) 0) (begun (r .force)) r
+plus (midi bytes a) r = plusBytes r bytes a
+plus (reset a) r = cond (eqb (a .number) 0) (begun (r .settings)) r
 plus (meter m) r = r
 
 unfoldable pub received : List Call → Received
-received [] = begun (record { settings = defaults })
+received [] = begun defaults
 received (c ∷ cs) = plus c (received cs)
 
 -- ---- what holds
@@ -102,12 +120,13 @@ eighthsOf r = heardAll silence (made 0 silence (samplesOf r))
 
 -- the account of the tuner t over what was received
 pub record Accounted (r : Received) (t : Tuner) : Type 0 where
-  -- the record is good, so no call is answered 9; what is in force is what the calls set; each sample is counted once
+  -- the record is good, so no call is answered 9; settings and keyboard are what the calls made them; each sample is counted once
   pub good : Good t
-  pub force : forceOf t ≡ r .force
+  pub settings : t .settings ≡ r .settings
+  pub keyboard : t .keyboard ≡ r .keyboard
   pub count : t .heard .count ≡ length (samplesOf r)
-  -- sums: the 109 at eighth rate and, while tracking, the eight at full rate are the direct sums over all that was received
-  pub sums : Right (eighthsOf r) 2 109 (t .heard .energies) (t .heard .correlations)
+  -- sums: those at eighth rate and, while tracking, the eight at full rate are the direct sums over all that was received
+  pub sums : Right (eighthsOf r) 2 eighthLags (t .heard .energies) (t .heard .correlations)
   pub lags : t .pitch .tracking ≡ 1 → Right (heardOf r) (t .pitch .tracker .low) 8 (t .pitch .tracker .e) (t .pitch .tracker .h)
   -- position: all rates used, minus the period of every cycle repeated, plus the period of every cycle dropped
   pub position : takeOf t .position ≡ pos (totalOf (ratesPieces freshTake (r .pieces))) -ℤ pos (cycles (allRepeated (givenOf r))) +ℤ pos (cycles (allDropped (givenOf r)))
@@ -126,11 +145,12 @@ Theorem = (cs : List Call) (t : Tuner) → Series cs t → Accounted (received c
 
 -- ---- a block sent again
 
--- a call that neither takes a block nor begins anew: settings changed or refused, a block refused or given again, a reset refused, the meter read
+-- a call that neither takes a block nor begins anew: settings changed or refused, keyboard bytes, a block refused or given again, a reset refused, the meter read
 unfoldable pub TakesNone : Call → Type 0
 TakesNone (start s a) = ⊥
 TakesNone (change s a) = Unit
 TakesNone (block k xs ys a ys′) = 0 < a .number
+TakesNone (midi bytes a) = Unit
 TakesNone (reset a) = 0 < a .number
 TakesNone (meter m) = Unit
 
@@ -160,5 +180,6 @@ SentAgain =
 pub record NeverNine (t : Tuner) : Type 0 where
   pub block : {k : ℕ} {xs ys ys′ : List ℤ} {t′ : Tuner} {a : Answer} → Took t k xs ys t′ a ys′ → a .number ≡ 9 → ⊥
   pub change : {s : Settings} {t′ : Tuner} {a : Answer} → Changed t s t′ a → a .number ≡ 9 → ⊥
+  pub midi : {bytes : List ℕ} {t′ : Tuner} {a : Answer} → Keyed t bytes t′ a → a .number ≡ 9 → ⊥
   pub reset : {t′ : Tuner} {a : Answer} → Reset t t′ a → a .number ≡ 9 → ⊥
   pub meter : {r : Meter} → Metered t r → r ≡ Meter.Refused → ⊥

@@ -27,13 +27,16 @@ use Rattle.answers.specs.declared.Answer.{Answer}
 use Rattle.answers.specs.Numbering.{plain}
 use Rattle.meters.specs.declared.Meter.{Meter}
 use Rattle.meters.specs.Meters.{Exact}
+use Rattle.keyboard.specs.declared.Keyboard.{Keyboard}
+use Rattle.keyboard.specs.Keys.{KeyboardIn}
+use Rattle.keyboard.specs.Playing.{fresh-in, played-in, onChannel-in}
 use Rattle.record.specs.declared.Last.{Last}
 use Rattle.record.specs.Records.{soundOf, freshHeard, freshPitch, freshHead, noLast}
 use Rattle.tuner.specs.declared.Tuner.{Tuner}
-use Rattle.tuner.specs.Tuners.{takeOf, forceOf, Good, freshTuner, made, heardAfter, afterBlock, lastSamples, Fits, Verdict, record-out-of-range, given-again, tunerBy, answerBy, Took, Started, withSettings, ChangeVerdict, by-settings, Changed, ResetVerdict, Reset, Metered, read}
+use Rattle.tuner.specs.Tuners.{takeOf, forceOf, Good, freshTuner, made, heardAfter, afterBlock, lastSamples, Fits, Verdict, record-out-of-range, given-again, tunerBy, answerBy, Took, Started, withSettings, ChangeVerdict, by-settings, Changed, NineOnly, Reset, withBytes, Keyed, Metered, read}
 use Rattle.tuner.specs.Taking.{made-length}
 use Rattle.tuner.specs.Verdicts.{verdict-one, verdict-fits, verdict-zero, tuner-taken, tuner-kept, by-refused, by-given, counted, overlaid, out-length}
-use Rattle.account.specs.Account.{Call, Leaves, by-start, by-change, by-block, by-reset, by-meter, TakesNone, Meanwhile, nothing, and-meanwhile, GivenAgain, NeverNine}
+use Rattle.account.specs.Account.{Call, Leaves, by-start, by-change, by-block, by-midi, by-reset, by-meter, TakesNone, Meanwhile, nothing, and-meanwhile, GivenAgain, NeverNine}
 
 -- how long a tuner's arrays are
 pub record Lengths (t : Tuner) : Type 0 where
@@ -73,6 +76,7 @@ unfolding freshTuner freshHeard freshPitch freshHead noLast noTone silence
 good-fresh s e =
     record {
       settings = e;
+      keyboard = fresh-in;
       heard =
           record {
             count = omega arith;
@@ -99,7 +103,7 @@ fresh-lengths s =
 -- ---- a good tuner holds a take in its ranges
 
 pub good-force : {t : Tuner} → Good t → ForceIn (forceOf t)
-good-force g = record { settings = g .settings }
+good-force g = record { settings = g .settings; key = g .keyboard .key }
 
 pub good-sane : {t : Tuner} → Good t → Sane (takeOf t)
 unfolding takeOf
@@ -124,6 +128,7 @@ good-after t k xs g l most upto =
     let sane = after-sane (good-force g) (good-sane g) xs in
     record {
       settings = g .settings;
+      keyboard = g .keyboard;
       heard =
           record {
             count = upto;
@@ -160,8 +165,12 @@ module _ {t : Tuner} (g : Good t) (l : Lengths t) where
       let f = verdict-fits v (omega arith) in (good-after t k xs g l (f .most) (verdict-zero v), after-lengths t k xs l (f .most)))
       (λ e. (g, l)))
 
-  good-with : {s : Settings} → InRange s → Good (withSettings t s)
-  good-with r = record { settings = r; heard = g .heard; pitch = g .pitch; head = g .head; last = g .last }
+  -- other settings and another keyboard
+  good-with : {s : Settings} {k : Keyboard} → InRange s → KeyboardIn k → Good (record { settings = s; keyboard = k; heard = t .heard; pitch = t .pitch; head = t .head; last = t .last })
+  good-with r i = record { settings = r; keyboard = i; heard = g .heard; pitch = g .pitch; head = g .head; last = g .last }
+
+  lengths-with : {s : Settings} {k : Keyboard} → Lengths (record { settings = s; keyboard = k; heard = t .heard; pitch = t .pitch; head = t .head; last = t .last })
+  lengths-with = record { store = l .store; eighths = l .eighths; energies = l .energies; correlations = l .correlations; out = l .out }
 
   pub changed-good : {s : Settings} {t′ : Tuner} {a : Answer} → Changed t s t′ a → Good t′ × Lengths t′
   changed-good {s} p = rw (p .tuner) (go (p .verdict))
@@ -170,8 +179,15 @@ module _ {t : Tuner} (g : Good t) (l : Lengths t) where
       go (record-out-of-range n) = (g, l)
       go (by-settings h) =
           cond-case (inRange s) (withSettings t s) t (λ (u : Tuner). Good u × Lengths u)
-          (λ e. (good-with (eqb-true _ 0 e), record { store = l .store; eighths = l .eighths; energies = l .energies; correlations = l .correlations; out = l .out }))
+          (λ e. (good-with (eqb-true _ 0 e) (onChannel-in _ _ _ (g .keyboard)), lengths-with))
           (λ e. (g, l))
+
+  pub keyed-good : {bytes : List ℕ} {t′ : Tuner} {a : Answer} → Keyed t bytes t′ a → Good t′ × Lengths t′
+  keyed-good {bytes} p =
+      rw (p .tuner)
+      (cond-case (eqb (p .number) 0) (withBytes t bytes) t (λ (u : Tuner). Good u × Lengths u)
+      (λ e. (good-with (g .settings) (played-in _ _ bytes (g .keyboard)), lengths-with))
+      (λ e. (g, l)))
 
   pub reset-good : {t′ : Tuner} {a : Answer} → Reset t t′ a → Good t′ × Lengths t′
   reset-good p =
@@ -191,6 +207,7 @@ call-good : {t t′ : Tuner} {c : Call} → Good t → Lengths t → Leaves t c 
 call-good g l (by-start p) = started-good p
 call-good g l (by-change p) = changed-good g l p
 call-good g l (by-block p) = took-good g l p
+call-good g l (by-midi p) = keyed-good g l p
 call-good g l (by-reset p) = reset-good g l p
 call-good g l (by-meter p) = (g, l)
 
@@ -227,7 +244,8 @@ good-never-nine {t} g =
     record {
       block = λ {k} {xs} {ys} p e. block-nine (subst (Verdict t k xs (length ys)) (took-number p ∙ e) (p .verdict));
       change = λ p e. change-nine (p .verdict) (plain-number (p .answer) ∙ e);
-      reset = λ p e. reset-nine (subst (ResetVerdict t) (plain-number (p .answer) ∙ e) (p .verdict));
+      midi = λ p e. only-nine (subst (NineOnly t) (plain-number (p .answer) ∙ e) (p .verdict));
+      reset = λ p e. only-nine (subst (NineOnly t) (plain-number (p .answer) ∙ e) (p .verdict));
       meter = meter-refused;
     }
   where
@@ -238,8 +256,8 @@ good-never-nine {t} g =
     change-nine (record-out-of-range n) e = n g
     change-nine {s} (by-settings h) e = settings-not-nine s e
 
-    reset-nine : ResetVerdict t 9 → ⊥
-    reset-nine (record-out-of-range n) = n g
+    only-nine : NineOnly t 9 → ⊥
+    only-nine (record-out-of-range n) = n g
 
     -- what is shown exactly is never a refusal
     meter-refused : {r : Meter} → Metered t r → r ≡ Meter.Refused → ⊥
@@ -266,6 +284,9 @@ refused-change-unchanged {t} {s = s} p h = kept-unless-zero (withSettings t s) (
 pub refused-reset-unchanged : {t t′ : Tuner} {a : Answer} → Reset t t′ a → 0 < a .number → t′ ≡ t
 refused-reset-unchanged {t} p h = kept-unless-zero (freshTuner (t .settings)) (p .tuner) (p .answer) h
 
+pub refused-bytes-unchanged : {t t′ : Tuner} {bytes : List ℕ} {a : Answer} → Keyed t bytes t′ a → 0 < a .number → t′ ≡ t
+refused-bytes-unchanged {t} {bytes = bytes} p h = kept-unless-zero (withBytes t bytes) (p .tuner) (p .answer) h
+
 -- ---- the last block again
 
 pub same-last-self : {u : Tuner} → SameLast u u
@@ -276,6 +297,13 @@ module _ {u w w′ : Tuner} (same : SameLast u w) where
   same-last-changed {s} p =
       rw (p .tuner)
       (cond-case (eqb (p .number) 0) (withSettings w s) w (SameLast u)
+      (λ e. record { store = same .store; last = same .last })
+      (λ e. same))
+
+  pub same-last-keyed : {bytes : List ℕ} {a : Answer} → Keyed w bytes w′ a → SameLast u w′
+  same-last-keyed {bytes} p =
+      rw (p .tuner)
+      (cond-case (eqb (p .number) 0) (withBytes w bytes) w (SameLast u)
       (λ e. record { store = same .store; last = same .last })
       (λ e. same))
 
@@ -292,6 +320,7 @@ meanwhile-same nothing = same-last-self
 meanwhile-same (and-meanwhile m (by-start p) n) = absurd n
 meanwhile-same (and-meanwhile m (by-change p) n) = same-last-changed (meanwhile-same m) p
 meanwhile-same (and-meanwhile m (by-block p) n) = same-last-kept (meanwhile-same m) (untaken-unchanged p n)
+meanwhile-same (and-meanwhile m (by-midi p) n) = same-last-keyed (meanwhile-same m) p
 meanwhile-same (and-meanwhile m (by-reset p) n) = same-last-kept (meanwhile-same m) (refused-reset-unchanged p n)
 meanwhile-same (and-meanwhile m (by-meter p) n) = meanwhile-same m
 

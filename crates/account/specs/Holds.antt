@@ -26,18 +26,21 @@ use Rattle.rules.specs.Accounts.{InRanges, account, pieces-count, pieces-sound,
 use Rattle.rules.specs.Local.{reach, reachEighths, SameNewest, Agree, after-agree}
 use Rattle.tuner.specs.declared.Tuner.{Tuner}
 use Rattle.answers.specs.declared.Answer.{Answer}
+use Rattle.keyboard.specs.declared.Keyboard.{Keyboard}
+use Rattle.keyboard.specs.Keys.{played, onChannel}
 use Rattle.record.specs.Records.{soundOf, freshHeard, freshPitch, freshHead, noLast}
-use Rattle.tuner.specs.Tuners.{freshTuner, takeOf, forceOf, Good, made, heardAfter, afterBlock, Took, Started, withSettings, Changed, Reset}
+use Rattle.tuner.specs.Tuners.{freshTuner, takeOf, forceOf, Good, made, heardAfter, afterBlock, Took, Started, withSettings, Changed, withBytes, Keyed, Reset}
 use Rattle.tuner.specs.Taking.{kept-age, right-alike, made-append, after-eighths}
 use Rattle.tuner.specs.Verdicts.{tuner-taken, verdict-fits}
-use Rattle.account.specs.Calls.{Lengths, still-silent, good-fresh, fresh-lengths, good-force, good-sane, keeping-length, took-good, changed-good, took-number, took-keeps, untaken-unchanged, overlaid-starts, again-after, good-never-nine}
-use Rattle.account.specs.Account.{Call, reset, Leaves, by-start, by-change, by-block, by-reset, by-meter, Series, fresh-start, and-then, Received, begun, plusBlock, plusChange, plus, received, givenOf, heardOf, eighthsOf, Accounted, Theorem, SentAgain, NeverNine}
+use Rattle.account.specs.Calls.{Lengths, still-silent, good-fresh, fresh-lengths, good-force, good-sane, keeping-length, took-good, changed-good, keyed-good, took-number, took-keeps, untaken-unchanged, overlaid-starts, again-after, good-never-nine}
+use Rattle.account.specs.Account.{Call, reset, Leaves, by-start, by-change, by-block, by-midi, by-reset, by-meter, Series, fresh-start, and-then, Received, forceNow, begun, withForce, plusBlock, plusChange, plusBytes, plus, received, givenOf, heardOf, eighthsOf, Accounted, Theorem, SentAgain, NeverNine}
 
 -- ---- what each call keeps
 record Keeps (r : Received) (t : Tuner) : Type 0 where
   good : Good t
   lengths : Lengths t
-  force : forceOf t ≡ r .force
+  settings : t .settings ≡ r .settings
+  keyboard : t .keyboard ≡ r .keyboard
   ranges : InRanges (r .pieces)
   agree : Agree (afterPieces freshTake (r .pieces)) (takeOf t)
   repeated : r .repeated ≡ length (allRepeated (givenOf r))
@@ -45,13 +48,14 @@ record Keeps (r : Received) (t : Tuner) : Type 0 where
   written : r .written ≡ samplesOut (givenOf r)
 
 -- ---- a fresh tuner
-begun-keeps : (s : Settings) → InRange s → Keeps (begun (record { settings = s })) (freshTuner s)
+begun-keeps : (s : Settings) → InRange s → Keeps (begun s) (freshTuner s)
 unfolding freshTuner freshHeard freshPitch freshHead noLast freshTake noTone takeOf afterPieces overPieces samplesOut gathered inputAt silence
 begun-keeps s e =
     record {
       good = good-fresh s e;
       lengths = fresh-lengths s;
-      force = refl;
+      settings = refl;
+      keyboard = refl;
       ranges = tt;
       agree = record { count = refl; pitch = refl; position = refl; sound = λ k h. sym (still-silent 1764 silence (λ j. refl) k); eighths = λ k h. sym (still-silent 224 silence (λ j. refl) k) };
       repeated = refl;
@@ -59,7 +63,7 @@ begun-keeps s e =
       written = refl;
     }
 
-start-keeps : {s : Settings} {t′ : Tuner} {a : Answer} → Started s t′ a → Keeps (begun (record { settings = cond (eqb (a .number) 0) s defaults })) t′
+start-keeps : {s : Settings} {t′ : Tuner} {a : Answer} → Started s t′ a → Keeps (begun (cond (eqb (a .number) 0) s defaults)) t′
 start-keeps {s} p =
     rw (p .tuner, p .answer) (by (inRange s) (λ e. rw e (begun-keeps s (eqb-true _ 0 e))) (λ e. rw e (begun-keeps defaults defaults-in-range)))
 
@@ -100,22 +104,26 @@ more-in-range [] p h r = (r, tt)
 more-in-range (q ∷ ps) p h r = (h .0, more-in-range ps p (h .1) r)
 
 module _ {r : Received} {t : Tuner} (k : Keeps r t) where
+  -- what is in force
+  force-is : forceOf t ≡ forceNow r
+  force-is i = record { settings = k .settings i; key = k .keyboard i .key }
+
   -- ---- a block taken
   module _ {n : ℕ} {xs ys ys′ : List ℤ} {t′ : Tuner} {a : Answer} (p : Took t n xs ys t′ a ys′) (z : a .number ≡ 0) where
     abbrev given : List Given
     given = gives (forceOf t) (takeOf t) xs
 
     abbrev piece : Piece
-    piece = record { inForce = r .force; samples = xs }
+    piece = record { inForce = forceNow r; samples = xs }
 
     taken-is : t′ ≡ afterBlock t n xs
     taken-is = p .tuner ∙ tuner-taken t n xs (took-number p ∙ z)
 
     -- the rules take the block alike after all pieces and after what the tuner kept of them
-    taken-alike : Agree (after (r .force) (afterPieces freshTake (r .pieces)) xs) (after (forceOf t) (takeOf t) xs) × (gives (r .force) (afterPieces freshTake (r .pieces)) xs ≡ given)
+    taken-alike : Agree (after (forceNow r) (afterPieces freshTake (r .pieces)) xs) (after (forceOf t) (takeOf t) xs) × (gives (forceNow r) (afterPieces freshTake (r .pieces)) xs ≡ given)
     taken-alike =
         let all = afterPieces freshTake (r .pieces) in
-        subst (λ (s : InForce). Agree (after s all xs) (after (forceOf t) (takeOf t) xs) × (gives s all xs ≡ given)) (k .force)
+        subst (λ (s : InForce). Agree (after s all xs) (after (forceOf t) (takeOf t) xs) × (gives s all xs ≡ given)) force-is
         (after-agree (good-force (k .good)) (pieces-sane (r .pieces) (k .ranges)) (k .agree) xs)
 
     given-more : givesPieces freshTake (r .pieces ++ (piece ∷ [])) ≡ givenOf r ++ given
@@ -149,8 +157,9 @@ module _ {r : Received} {t : Tuner} (k : Keeps r t) where
       record {
         good = left .0;
         lengths = left .1;
-        force = ap forceOf is ∙ k .force;
-        ranges = more-in-range (r .pieces) _ (k .ranges) (subst ForceIn (k .force) (good-force (k .good)));
+        settings = ap (λ (u : Tuner). u .settings) is ∙ k .settings;
+        keyboard = ap (λ (u : Tuner). u .keyboard) is ∙ k .keyboard;
+        ranges = more-in-range (r .pieces) _ (k .ranges) (subst ForceIn force-is (good-force (k .good)));
         agree = rw (afterPieces-more, is) (agree-then (taken-alike p z .0) (block-agree t n xs (k .good) (k .lengths)));
         repeated = counts-more p z (λ (g : Given). g .repeats) (k .repeated) (ap (λ (b : Answer). b .repeated) kept ∙ ap (λ (u : Tuner). u .last .repeated) is);
         dropped = counts-more p z (λ (g : Given). g .drops) (k .dropped) (ap (λ (b : Answer). b .dropped) kept ∙ ap (λ (u : Tuner). u .last .dropped) is);
@@ -158,24 +167,40 @@ module _ {r : Received} {t : Tuner} (k : Keeps r t) where
       })
       (λ e. let some = eqb-false (a .number) 0 e in subst (Keeps r) (sym (untaken-unchanged p (omega arith))) k)
 
-  change-keeps : {s : Settings} {t′ : Tuner} {a : Answer} → Changed t s t′ a → Keeps (plusChange r s a) t′
-  unfolding plusChange takeOf
-  change-keeps {s} {t′} p =
-      let left = changed-good (k .good) (k .lengths) p in
-      subst (λ (b : Answer). Keeps (plusChange r s b) t′) (sym (p .answer))
-      (cond-case (eqb (p .number) 0) _ r (λ (q : Received). Keeps q t′)
-      (λ e. let is = p .tuner ∙ cond-yes (withSettings t s) t e in
+  -- settings and keyboard are others, and all else is as it was
+  force-keeps : {s : Settings} {b : Keyboard} {t′ : Tuner} → t′ ≡ record { settings = s; keyboard = b; heard = t .heard; pitch = t .pitch; head = t .head; last = t .last } → Good t′ → Lengths t′ → {c : Keyboard} → b ≡ c → Keeps (withForce r s c) t′
+  unfolding takeOf
+  force-keeps is good lengths e =
       record {
-        good = left .0;
-        lengths = left .1;
-        force = ap forceOf is;
+        good = good;
+        lengths = lengths;
+        settings = ap (λ (u : Tuner). u .settings) is;
+        keyboard = ap (λ (u : Tuner). u .keyboard) is ∙ e;
         ranges = k .ranges;
         agree = subst (λ (u : Tuner). Agree (afterPieces freshTake (r .pieces)) (takeOf u)) (sym is) (k .agree);
         repeated = k .repeated;
         dropped = k .dropped;
         written = k .written;
-      })
+      }
+
+  change-keeps : {s : Settings} {t′ : Tuner} {a : Answer} → Changed t s t′ a → Keeps (plusChange r s a) t′
+  unfolding plusChange
+  change-keeps {s} {t′} p =
+      let left = changed-good (k .good) (k .lengths) p in
+      subst (λ (b : Answer). Keeps (plusChange r s b) t′) (sym (p .answer))
+      (cond-case (eqb (p .number) 0) _ r (λ (q : Received). Keeps q t′)
+      (λ e. force-keeps (p .tuner ∙ cond-yes (withSettings t s) t e) (left .0) (left .1) (λ i. onChannel (k .settings i .channel) (s .channel) (k .keyboard i)))
       (λ e. subst (Keeps r) (sym (p .tuner ∙ cond-no (withSettings t s) t e)) k))
+
+  midi-keeps : {bytes : List ℕ} {t′ : Tuner} {a : Answer} → Keyed t bytes t′ a → Keeps (plusBytes r bytes a) t′
+  unfolding plusBytes
+  midi-keeps {bytes} {t′} p =
+      let left = keyed-good (k .good) (k .lengths) p in
+      subst (λ (b : Answer). Keeps (plusBytes r bytes b) t′) (sym (p .answer))
+      (cond-case (eqb (p .number) 0) _ r (λ (q : Received). Keeps q t′)
+      (λ e. subst (λ (s : Settings). Keeps (withForce r s (played (r .settings .channel) (r .keyboard) bytes)) t′) (k .settings)
+      (force-keeps (p .tuner ∙ cond-yes (withBytes t bytes) t e) (left .0) (left .1) (λ i. played (k .settings i .channel) (k .keyboard i) bytes)))
+      (λ e. subst (Keeps r) (sym (p .tuner ∙ cond-no (withBytes t bytes) t e)) k))
 
   reset-keeps : {t′ : Tuner} {a : Answer} → Reset t t′ a → Keeps (plus (reset a) r) t′
   unfolding plus
@@ -183,7 +208,7 @@ module _ {r : Received} {t : Tuner} (k : Keeps r t) where
       let first = freshTuner (t .settings) in
       subst (λ (b : Answer). Keeps (plus (reset b) r) t′) (sym (p .answer))
       (cond-case (eqb (p .number) 0) _ r (λ (q : Received). Keeps q t′)
-      (λ e. rw (p .tuner ∙ cond-yes first t e, sym (k .force)) (begun-keeps (t .settings) (k .good .settings)))
+      (λ e. rw (p .tuner ∙ cond-yes first t e, sym (k .settings)) (begun-keeps (t .settings) (k .good .settings)))
       (λ e. subst (Keeps r) (sym (p .tuner ∙ cond-no first t e)) k))
 
   call-keeps : {c : Call} {t′ : Tuner} → Leaves t c t′ → Keeps (plus c r) t′
@@ -191,6 +216,7 @@ module _ {r : Received} {t : Tuner} (k : Keeps r t) where
   call-keeps (by-start p) = start-keeps p
   call-keeps (by-change p) = change-keeps p
   call-keeps (by-block p) = block-keeps p
+  call-keeps (by-midi p) = midi-keeps p
   call-keeps (by-reset p) = reset-keeps p
   call-keeps (by-meter p) = k
 
@@ -228,7 +254,8 @@ module _ {r : Received} {t : Tuner} (k : Keeps r t) where
   kept-accounted =
       record {
         good = k .good;
-        force = k .force;
+        settings = k .settings;
+        keyboard = k .keyboard;
         count = sym (k .agree .count) ∙ pieces-count (r .pieces);
         sums = right-alike (λ i h. eighths-are i (omega arith)) (k .good .heard .sums);
         lags = λ e. let l = lags-of (k .good .pitch) e in right-alike (λ i h. sound-is i (omega (arith, l .upto))) (k .good .pitch .sums e);

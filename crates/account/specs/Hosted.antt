@@ -17,9 +17,9 @@ use Rattle.answers.specs.Numbering.{plain}
 use Rattle.tuner.specs.Tuners.{Metered}
 use Rattle.host.specs.declared.Record.{Record}
 use Rattle.host.specs.declared.Shown.{Shown}
-use Rattle.host.specs.Hosts.{recordOf, held, unheld, HostTook, HostChanged, HostReset, HostStarted, shownAs, HostMetered}
+use Rattle.host.specs.Hosts.{recordOf, held, unheld, HostTook, HostChanged, HostReset, HostKeyed, HostStarted, shownAs, HostMetered}
 use Rattle.host.specs.Lents.{tuner's-call}
-use Rattle.account.specs.Account.{Call, start, change, block, reset, meter, Leaves, by-start, by-change, by-block, by-reset, by-meter, Series, fresh-start, and-then, received, Accounted, TakesNone, Meanwhile, nothing, and-meanwhile, GivenAgain, NeverNine}
+use Rattle.account.specs.Account.{Call, start, change, block, midi, reset, meter, Leaves, by-start, by-change, by-block, by-midi, by-reset, by-meter, Series, fresh-start, and-then, received, Accounted, TakesNone, Meanwhile, nothing, and-meanwhile, GivenAgain, NeverNine}
 use Rattle.account.specs.Holds.{holds, again-holds, never-nine}
 
 -- ---- definitions
@@ -29,6 +29,7 @@ pub data HostLeaves (r : Record) : Call → Record → Type 0 where
   host-start : {s : Settings} {n : ℕ} {r′ : Record} → HostStarted s r′ n → HostLeaves r (start s (plain n)) r′
   host-change : {s : Settings} {n : ℕ} {r′ : Record} → HostChanged r s r′ n → HostLeaves r (change s (plain n)) r′
   host-block : {k : ℕ} {xs ys ys′ : List ℤ} {a : Answer} {r′ : Record} → HostTook r k xs ys r′ a ys′ → HostLeaves r (block k xs ys a ys′) r′
+  host-midi : {bytes : List ℕ} {n : ℕ} {r′ : Record} → HostKeyed r bytes r′ n → HostLeaves r (midi bytes (plain n)) r′
   host-reset : {n : ℕ} {r′ : Record} → HostReset r r′ n → HostLeaves r (reset (plain n)) r′
   host-meter : {m : Meter} → HostMetered r (shownAs m) → HostLeaves r (meter m) r
 
@@ -41,6 +42,7 @@ pub data HostSeries : List Call → Record → Type 0 where
 pub record HostNeverNine (r : Record) : Type 0 where
   pub block : {k : ℕ} {xs ys ys′ : List ℤ} {r′ : Record} {a : Answer} → HostTook r k xs ys r′ a ys′ → a .number ≡ 9 → ⊥
   pub change : {s : Settings} {r′ : Record} {n : ℕ} → HostChanged r s r′ n → n ≡ 9 → ⊥
+  pub midi : {bytes : List ℕ} {r′ : Record} {n : ℕ} → HostKeyed r bytes r′ n → n ≡ 9 → ⊥
   pub reset : {r′ : Record} {n : ℕ} → HostReset r r′ n → n ≡ 9 → ⊥
   pub meter : {m : Shown} → HostMetered r m → m .state ≡ 9 → ⊥
 
@@ -102,6 +104,7 @@ module _ (t : Tuner) where
   leaves-of (host-start p) = (p .tuner, by-start (p .started), p .left)
   leaves-of (host-change p) = let (t′, q, e) = tuner's-call t p in (t′, by-change q, e)
   leaves-of (host-block p) = let (t′, q, e) = tuner's-call t p in (t′, by-block q, e)
+  leaves-of (host-midi p) = let (t′, q, e) = tuner's-call t p in (t′, by-midi q, e)
   leaves-of (host-reset p) = let (t′, q, e) = tuner's-call t p in (t′, by-reset q, e)
   leaves-of (host-meter {m} p) =
       let (x, q, e) = read-of p in (t, by-meter (subst (Metered t) (sym (meter-in x) ∙ ap meterIn (sym e) ∙ meter-in m) q), refl)
@@ -111,6 +114,7 @@ module _ (t : Tuner) where
       record {
         block = λ p e. n .block (tuner's-call t p .1) e;
         change = λ p e. n .change (tuner's-call t p .1) e;
+        midi = λ p e. n .midi (tuner's-call t p .1) e;
         reset = λ p e. n .reset (tuner's-call t p .1) e;
         meter = λ p e. let (x, q, f) = read-of p in n .meter q (refused-in x (sym (ap (λ (s : Shown). s .state) f) ∙ e));
       }

@@ -7,7 +7,7 @@ use Prim.Native.Nat.{ℕ, _≤_, _<_}
 use native.Mathlib.Omega.{arith}
 use lib.IntN.{ℤ, pos, negℤ, natAbs}
 use lib.ListN.{length, take, drop, replicate}
-use Rattle.rules.specs.Rules.{silence, heard, defaults, stepDue, listened, listenedIn, noTone, inputAt, cycleRepeated, cycleDropped, cycles, growth, sampleAt, between, wholeOf, fractionOf, reading, freshTake, eighthDue, eighthsAfter, stepped, after, gives, samplesOut, gathered}
+use Rattle.rules.specs.Rules.{noNote, silence, heard, defaults, stepDue, listened, listenedIn, noTone, inputAt, cycleRepeated, cycleDropped, cycles, growth, sampleAt, between, wholeOf, fractionOf, reading, freshTake, eighthDue, eighthsAfter, stepped, after, gives, samplesOut, gathered}
 use Rattle.rules.specs.Ranges.{defaults-in-range}
 use Rattle.rules.specs.Sane.{tracking-is-not-searching}
 use Rattle.rules.specs.History.{Piece, overPieces, givesPieces}
@@ -87,7 +87,7 @@ room = pos 0 ∷ pos 0 ∷ pos 0 ∷ []
 
 -- the tuner with another pitch
 abbrev pub withPitch : Tuner → KeptPitch → Tuner
-withPitch t v = record { settings = t .settings; heard = t .heard; pitch = v; head = t .head; last = t .last }
+withPitch t v = record { settings = t .settings; keyboard = t .keyboard; heard = t .heard; pitch = v; head = t .head; last = t .last }
 
 -- a good record, as a host may hand it in: fresh, but reading at twice the rate, so that the first sample repeats a cycle
 unfoldable pub ahead : Tuner
@@ -157,7 +157,7 @@ second-taken {t} g e =
 
 -- the rules' samples for the first block, and for both: the input four samples late
 abbrev piece : List ℤ → Piece
-piece xs = record { inForce = record { settings = defaults }; samples = xs }
+piece xs = record { inForce = record { settings = defaults; key = noNote }; samples = xs }
 
 case-out : (samplesOut (givesPieces freshTake (piece firstBlock ∷ [])) ≡ pos 0 ∷ pos 0 ∷ pos 0 ∷ [])
     × (samplesOut (givesPieces freshTake (piece firstBlock ∷ piece secondBlock ∷ [])) ≡ pos 0 ∷ pos 0 ∷ pos 0 ∷ pos 0 ∷ pos 1000 ∷ negℤ (pos 1000) ∷ [])
@@ -174,13 +174,14 @@ unfolding ahead freshTuner freshHeard silence
 good-ahead =
     record {
       settings = good-start .settings;
+      keyboard = good-start .keyboard;
       heard = good-start .heard;
       pitch =
           record {
             flag = omega arith;
             pitch =
                 record {
-                  tone = pitched (omega arith) (omega arith) (record { from = omega arith; upto = omega arith }) (omega arith) (omega arith);
+                  tone = pitched (omega arith) (omega arith) (omega arith) (omega arith) (omega arith);
                   lags = record { from = omega arith; upto = omega arith; lastFrom = omega arith; lastUpto = omega arith };
                   whileSearching = λ e. absurd (tracking-is-not-searching e);
                 };
