@@ -1,4 +1,5 @@
-//! Document 01's tuner a second time, written for obvious correctness.
+//! The tuner of documents 01 and 02 a second time, written for obvious
+//! correctness.
 //!
 //! It keeps the whole take and reckons every energy and correlation directly
 //! over it, when it is needed. Nothing is carried along from sample to sample
@@ -7,6 +8,7 @@
 pub mod comparison;
 pub mod generator;
 pub mod history;
+pub mod keyboard;
 pub mod lines;
 pub mod play;
 pub mod record;

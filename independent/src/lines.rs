@@ -14,7 +14,11 @@ pub const UNREADABLE: usize = 10;
 #[derive(Clone, Debug, PartialEq, Eq)]
 pub enum Record {
     Start(Settings),
+    /// Mode and channel are not on the line, and are kept.
     Change(Settings),
+    Mode(u32),
+    Channel(u32),
+    Midi(Vec<u8>),
     Block(u16, Vec<i16>),
     Reset,
 }
@@ -29,6 +33,12 @@ impl Record {
         match (fields[0], &fields[1..]) {
             (b"start", settings) => Some(Record::Start(settings_in(settings)?)),
             (b"change", settings) => Some(Record::Change(settings_in(settings)?)),
+            (b"mode", [mode]) => Some(Record::Mode(setting(mode)?)),
+            (b"channel", [channel]) => Some(Record::Channel(setting(channel)?)),
+            (b"midi", bytes @ [_, ..]) => {
+                let bytes: Option<Vec<u8>> = bytes.iter().map(|field| byte(field)).collect();
+                Some(Record::Midi(bytes?))
+            }
             (b"block", [number, samples @ ..]) => {
                 let number = u16::try_from(whole_number(number, 65_535)?).ok()?;
                 let samples: Option<Vec<i16>> = samples.iter().map(|field| sample(field)).collect();
@@ -41,16 +51,23 @@ impl Record {
 }
 
 fn settings_in(fields: &[&[u8]]) -> Option<Settings> {
-    let setting = |field| u32::try_from(whole_number(field, u64::from(u32::MAX))?).ok();
     match fields {
-        [scale, eps, decay, floor] => Some(Settings {
-            scale: setting(scale)?,
-            eps: setting(eps)?,
-            decay: setting(decay)?,
-            floor: setting(floor)?,
-        }),
+        [scale, eps, decay, floor] => Some(Settings::of([
+            setting(scale)?,
+            setting(eps)?,
+            setting(decay)?,
+            setting(floor)?,
+        ])),
         _ => None,
     }
+}
+
+fn setting(field: &[u8]) -> Option<u32> {
+    u32::try_from(whole_number(field, u64::from(u32::MAX))?).ok()
+}
+
+fn byte(field: &[u8]) -> Option<u8> {
+    u8::try_from(whole_number(field, u64::from(u8::MAX))?).ok()
 }
 
 fn sample(field: &[u8]) -> Option<i16> {
@@ -133,8 +150,15 @@ impl Program {
         let answer = match record {
             None => UNREADABLE,
             Some(Record::Start(settings)) => self.start(settings).number(),
-            Some(Record::Change(settings)) => self.tuner.change(settings).number(),
-            Some(Record::Reset) => self.tuner.reset().number(),
+            Some(Record::Change(to)) => self.change(|now| Settings {
+                mode: now.mode,
+                channel: now.channel,
+                ..to
+            }),
+            Some(Record::Mode(mode)) => self.change(|now| Settings { mode, ..now }),
+            Some(Record::Channel(channel)) => self.change(|now| Settings { channel, ..now }),
+            Some(Record::Midi(bytes)) => self.tuner.midi(&bytes, &mut self.statistics).number(),
+            Some(Record::Reset) => self.reset().number(),
             Some(Record::Block(number, samples)) => {
                 self.block(number, &samples, &mut numbers).number()
             }
@@ -155,6 +179,19 @@ impl Program {
             self.tuner = tuner;
         }
         answer
+    }
+
+    /// Changes the settings to what is made of those in force.
+    fn change(&mut self, to: impl Fn(Settings) -> Settings) -> usize {
+        let before = self.tuner.keyboard;
+        let answer = self.tuner.change(to(self.tuner.settings));
+        self.statistics.change(&before, &self.tuner.keyboard);
+        answer.number()
+    }
+
+    fn reset(&mut self) -> Answer {
+        self.statistics.reset(&self.tuner.keyboard);
+        self.tuner.reset()
     }
 
     /// Written, repeated, dropped, then the samples written.

@@ -58,12 +58,7 @@ fn sample(bytes: &[u8], place: usize) -> i16 {
 
 fn settings(bytes: &[u8]) -> Settings {
     let long = |at: usize| u32::from_le_bytes(bytes[at..at + 4].try_into().unwrap());
-    Settings {
-        scale: long(8),
-        eps: long(12),
-        decay: long(16),
-        floor: long(20),
-    }
+    Settings::of([long(8), long(12), long(16), long(20)])
 }
 
 fn said(answer: Answer, counts: Counts) -> String {

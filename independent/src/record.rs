@@ -5,25 +5,31 @@
 //! record again. Every sum is reckoned directly.
 
 use crate::history::History;
+use crate::keyboard::Keyboard;
 use crate::rules::*;
 use crate::settings::Settings;
 use crate::statistics::Statistics;
-use crate::table::{HIGHEST_NOTE, LOWEST_NOTE};
 use crate::tuner::*;
 
 pub const STORED: usize = 1_764;
 pub const EIGHTHS: usize = 224;
 pub const LAGS: usize = 109;
 /// The bytes of a record.
-pub const SIZE: usize = 6_944;
+pub const SIZE: usize = 6_960;
 /// The number that stands first in a record of this layout.
-pub const LAYOUT: u64 = 20_003;
+pub const LAYOUT: u64 = 20_004;
+/// Where a key, a note or a data byte would stand: there is none.
+pub const NONE: u8 = 128;
 
 /// Every number of a record, in the order of its bytes.
 #[derive(Clone, Debug, PartialEq, Eq)]
 pub struct Record {
     pub layout: u64,
     pub settings: Settings,
+    // The keyboard: the key, the running status (0: none) and the half message.
+    pub key: u32,
+    pub status: u16,
+    pub half: u16,
     // What was heard.
     pub count: u64,
     pub energies: [u64; LAGS],
@@ -55,6 +61,7 @@ pub enum Call {
     Start(Settings),
     StartDefault,
     Change(Settings),
+    Midi(Vec<u8>),
     Block {
         number: u16,
         samples: Vec<i16>,
@@ -95,6 +102,11 @@ macro_rules! in_order {
         $number!($record.settings.eps);
         $number!($record.settings.decay);
         $number!($record.settings.floor);
+        $number!($record.settings.mode);
+        $number!($record.settings.channel);
+        $number!($record.key);
+        $number!($record.status);
+        $number!($record.half);
         $number!($record.count);
         $number!(each $record.energies);
         $number!(each $record.correlations);
@@ -158,6 +170,9 @@ impl Record {
         Record {
             layout: LAYOUT,
             settings,
+            key: u32::from(NONE),
+            status: 0,
+            half: u16::from(NONE),
             count: 0,
             energies: [0; LAGS],
             correlations: [0; LAGS],
@@ -168,7 +183,7 @@ impl Record {
             e: [0; TRACKED],
             h: [0; TRACKED],
             period: 0,
-            note: 0,
+            note: u32::from(NONE),
             rate: LEVEL_RATE as u32,
             tracking: 0,
             behind: 0,
@@ -180,7 +195,7 @@ impl Record {
         }
     }
 
-    /// This layout, and document 01's condition in its order.
+    /// This layout, and document 01's condition in its order, read with document 02.
     pub fn is_good(&self) -> bool {
         let kept = History::of(&self.store);
         let eighths = History::of(&self.eighths);
@@ -204,13 +219,14 @@ impl Record {
             period => {
                 self.tracking == 1
                     && (4_096..=225_280).contains(&period)
-                    && (LOWEST_NOTE..=HIGHEST_NOTE).contains(&(self.note as usize))
+                    && self.note <= u32::from(NONE)
                     && (32_768..=131_072).contains(&self.rate)
             }
         };
         self.layout == LAYOUT
             && self.tracking <= 1
             && self.settings.in_range()
+            && self.keyboard().is_some_and(|keyboard| keyboard.is_good())
             && self.count <= TAKE_LIMIT as u64
             && u64::from(self.length) <= self.count.min(LONGEST_BLOCK as u64)
             && before(&self.store, self.count)
@@ -219,6 +235,31 @@ impl Record {
             && pitch_right
             && right(&eighths, 2, &self.energies, &self.correlations)
             && lags_right
+    }
+
+    /// What the keyboard's numbers say; nothing, where one is too large for what it would be.
+    fn keyboard(&self) -> Option<Keyboard> {
+        let held = |number: u32| match u8::try_from(number) {
+            Ok(NONE) => Some(None),
+            Ok(byte) => Some(Some(byte)),
+            Err(_) => None,
+        };
+        let status = match self.status {
+            0 => None,
+            status => Some(u8::try_from(status).ok()?),
+        };
+        Some(Keyboard {
+            key: held(self.key)?,
+            status,
+            half: held(u32::from(self.half))?,
+        })
+    }
+
+    fn with_keyboard(mut self, keyboard: &Keyboard) -> Record {
+        self.key = u32::from(keyboard.key.unwrap_or(NONE));
+        self.status = u16::from(keyboard.status.unwrap_or(0));
+        self.half = u16::from(keyboard.half.unwrap_or(NONE));
+        self
     }
 
     /// Every kept sum taken anew.
@@ -257,11 +298,12 @@ impl Record {
         };
         let pitch = (self.period > 0).then_some(Pitch {
             period: i64::from(self.period),
-            wanted_note: self.note as usize,
+            wanted_note: (self.note != u32::from(NONE)).then_some(self.note as usize),
         });
         let length = usize::from(self.length);
         Tuner {
             settings: self.settings,
+            keyboard: self.keyboard().expect("a good record has a keyboard"),
             limit: count + TAKE_LIMIT - self.count as usize,
             take: history(&self.store, count),
             eighths: history(&self.eighths, count / 8),
@@ -290,7 +332,7 @@ impl Record {
 
     /// The record after the tuner made of it took a block.
     fn after(&self, tuner: &Tuner, seen: &Statistics) -> Record {
-        let mut record = Record::fresh(tuner.settings);
+        let mut record = Record::fresh(tuner.settings).with_keyboard(&tuner.keyboard);
         let last = tuner.last.as_ref().expect("a block was taken");
         record.count = self.count + last.samples.len() as u64;
         record.behind = (input_position(tuner.take.count()) - tuner.position) as u64;
@@ -307,7 +349,9 @@ impl Record {
             record.last = tracking.last_best as u32;
             if let Some(pitch) = tracking.pitch {
                 record.period = pitch.period as u32;
-                record.note = pitch.wanted_note as u32;
+                record.note = pitch
+                    .wanted_note
+                    .map_or(u32::from(NONE), |note| note as u32);
             }
         }
         record.number = last.number;
@@ -349,7 +393,13 @@ pub fn made(bytes: &[u8; SIZE], call: &Call) -> Left {
             let mut tuner = record.tuner();
             left.number = tuner.change(*settings).number() as u32;
             let settings = tuner.settings;
-            left.record = Record { settings, ..record }.bytes();
+            let record = Record { settings, ..record };
+            left.record = record.with_keyboard(&tuner.keyboard).bytes();
+        }
+        Call::Midi(bytes) if record.is_good() => {
+            let mut tuner = record.tuner();
+            left.number = tuner.midi(bytes, &mut Statistics::default()).number() as u32;
+            left.record = record.with_keyboard(&tuner.keyboard).bytes();
         }
         Call::Reset if record.is_good() => {
             let mut tuner = record.tuner();
@@ -384,7 +434,7 @@ pub fn made(bytes: &[u8; SIZE], call: &Call) -> Left {
             left.number = 9;
             left.out.clone_from(out);
         }
-        Call::Change(_) | Call::Reset => left.number = 9,
+        Call::Change(_) | Call::Midi(_) | Call::Reset => left.number = 9,
     }
     left
 }

@@ -1,4 +1,5 @@
-//! Document 01's rules, in its words and its order.
+//! Document 01's rules, in its words and its order, with those that document
+//! 02 added.
 //!
 //! Whole numbers are i64. The greatest are 256 x a difference: an energy is at
 //! most 1760 x 2^30 < 2^41, a difference at most 880 x 2^32 < 2^42, so 2^50
@@ -310,6 +311,31 @@ pub fn wanted_note(scale: u32, period: i64) -> usize {
     notes_of(scale)
         .min_by_key(|&note| distance(note, period))
         .expect("a scale in range holds a note")
+}
+
+/// The period of the wanted note; 0 where there is none, or where it is
+/// outside the table.
+pub fn wanted_period(note: Option<usize>) -> i64 {
+    match note {
+        Some(note @ LOWEST_NOTE..=HIGHEST_NOTE) => period_of(note),
+        _ => 0,
+    }
+}
+
+/// The bounds of the raw rate, which the scale's note keeps by itself.
+pub const LEAST_RAW_RATE: i64 = 32_768;
+pub const GREATEST_RAW_RATE: i64 = 131_072;
+
+/// The raw rate, level where there is no wanted period and where it would be
+/// out of its bounds.
+pub fn raw_rate_in_bounds(period: i64, wanted_period: i64) -> i64 {
+    if wanted_period == 0 {
+        return LEVEL_RATE;
+    }
+    match raw_rate(period, wanted_period) {
+        raw @ LEAST_RAW_RATE..=GREATEST_RAW_RATE => raw,
+        _ => LEVEL_RATE,
+    }
 }
 
 /// Period x 65536 / wanted period, nearest, halves up.

@@ -12,15 +12,31 @@ pub struct Settings {
     pub decay: u32,
     /// A mean square.
     pub floor: u32,
+    /// Whose note is wanted: the scale's or the keyboard's.
+    pub mode: u32,
+    /// The keyboard's, 0 to 15.
+    pub channel: u32,
 }
 
+/// The modes.
+pub const SCALE: u32 = 0;
+pub const KEYBOARD: u32 = 1;
+
 impl Settings {
-    pub const DEFAULT: Settings = Settings {
-        scale: 4095,
-        eps: 100,
-        decay: 0,
-        floor: 100,
-    };
+    pub const DEFAULT: Settings = Settings::of([4095, 100, 0, 100]);
+
+    /// Scale, eps, decay and floor; mode and channel are those that hold
+    /// unless others are given.
+    pub const fn of([scale, eps, decay, floor]: [u32; 4]) -> Settings {
+        Settings {
+            scale,
+            eps,
+            decay,
+            floor,
+            mode: SCALE,
+            channel: 0,
+        }
+    }
 
     /// What these settings are answered: the first that is out of its range
     /// is named.
@@ -36,6 +52,12 @@ impl Settings {
         }
         if !(1..=1_000_000).contains(&self.floor) {
             return Answer::FloorOutOfRange;
+        }
+        if self.channel > 15 {
+            return Answer::ChannelOutOfRange;
+        }
+        if self.mode > KEYBOARD {
+            return Answer::ModeUnknown;
         }
         Answer::Taken
     }

@@ -1,6 +1,7 @@
 //! Records with one number out of range: 9 comes before all, and the record
 //! is given back unchanged.
 
+use crate::keyboard::Keyboard;
 use crate::rules::*;
 use crate::settings::Settings;
 use crate::statistics::Statistics;
@@ -30,8 +31,15 @@ fn tracking(alter: fn(&mut Tracking)) -> Tuner {
 fn pitch(period: i64, wanted_note: usize) -> Option<Pitch> {
     Some(Pitch {
         period,
-        wanted_note,
+        wanted_note: Some(wanted_note),
     })
+}
+
+/// A pitched tuner with this keyboard.
+fn with_keyboard(key: Option<u8>, status: Option<u8>, half: Option<u8>) -> Tuner {
+    let mut tuner = pitched();
+    tuner.keyboard = Keyboard { key, status, half };
+    tuner
 }
 
 fn altered(alter: fn(&mut Tuner)) -> Tuner {
@@ -45,6 +53,15 @@ fn spoiled_records_are_refused_first() {
     let spoiled = [
         altered(|tuner| tuner.settings.scale = 0),
         altered(|tuner| tuner.settings.floor = 1_000_001),
+        altered(|tuner| tuner.settings.mode = 2),
+        altered(|tuner| tuner.settings.channel = 16),
+        with_keyboard(Some(128), None, None),
+        with_keyboard(None, Some(127), None),
+        with_keyboard(None, Some(240), None),
+        with_keyboard(None, Some(144), Some(128)),
+        with_keyboard(None, None, Some(60)),
+        with_keyboard(None, Some(192), Some(60)),
+        with_keyboard(None, Some(223), Some(60)),
         altered(|tuner| tuner.limit = 2_399),
         altered(|tuner| tuner.eighths.store(0)),
         altered(|tuner| tuner.last.as_mut().unwrap().samples = vec![0; 513]),
@@ -62,8 +79,7 @@ fn spoiled_records_are_refused_first() {
         tracking(|tracking| tracking.last_best = tracking.lowest + 8),
         tracking(|tracking| tracking.pitch = pitch(4_095, 69)),
         tracking(|tracking| tracking.pitch = pitch(225_281, 69)),
-        tracking(|tracking| tracking.pitch = pitch(25_600, 31)),
-        tracking(|tracking| tracking.pitch = pitch(25_600, 101)),
+        tracking(|tracking| tracking.pitch = pitch(25_600, 128)),
         tracking(|tracking| tracking.pitch = None),
     ];
     for (place, tuner) in spoiled.into_iter().enumerate() {
@@ -76,6 +92,9 @@ fn spoiled_records_are_refused_first() {
         let mut bad = Settings::DEFAULT;
         bad.scale = 0;
         assert_eq!(given.change(bad), Answer::RecordOutOfRange);
+        for bytes in [&[][..], &[144, 60, 100]] {
+            assert_eq!(given.midi(bytes, &mut seen), Answer::RecordOutOfRange);
+        }
         assert_eq!(given.reset(), Answer::RecordOutOfRange);
         assert_eq!(given.meter(), Meter::Refused);
         assert!(given == tuner, "record {place} altered");
@@ -100,6 +119,21 @@ fn records_at_the_edge_are_good() {
         tracking(|tracking| (tracking.lowest, tracking.last_best) = (873, 880)),
         tracking(|tracking| tracking.pitch = pitch(4_096, 32)),
         tracking(|tracking| tracking.pitch = pitch(225_280, 100)),
+        tracking(|tracking| tracking.pitch = pitch(25_600, 0)),
+        tracking(|tracking| tracking.pitch = pitch(25_600, 127)),
+        tracking(|tracking| {
+            tracking.pitch = Some(Pitch {
+                period: 25_600,
+                wanted_note: None,
+            })
+        }),
+        altered(|tuner| (tuner.settings.mode, tuner.settings.channel) = (1, 15)),
+        with_keyboard(Some(0), Some(128), Some(0)),
+        with_keyboard(Some(127), Some(191), Some(127)),
+        with_keyboard(None, Some(224), None),
+        with_keyboard(None, Some(239), Some(60)),
+        with_keyboard(Some(60), Some(192), None),
+        with_keyboard(Some(60), Some(223), None),
     ];
     for (place, tuner) in good.into_iter().enumerate() {
         assert!(tuner.is_good(), "record {place}");

@@ -1,10 +1,13 @@
-//! How often each branch of document 01 was gone through. It only looks on.
+//! How often each branch of documents 01 and 02 was gone through. It only
+//! looks on.
 
+use crate::keyboard::{Event, Keyboard, Message};
 use crate::rules::*;
+use crate::table::{HIGHEST_NOTE, LOWEST_NOTE};
 use std::fmt;
 
 /// Numbers of answers, 10 for a line that cannot be read among them.
-pub const ANSWERS: usize = 14;
+pub const ANSWERS: usize = 16;
 
 macro_rules! counters {
     ($($(#[$meaning:meta])* $name:ident,)*) => {
@@ -71,7 +74,24 @@ counters! {
     moves_up,
     moves_stopped_at_16,
     moves_stopped_at_880,
+    /// In scale mode: two notes of the scale are nearest.
     notes_tied,
+    /// In scale mode, with a key held.
+    steps_past_a_key,
+    /// In keyboard mode, from here on to the raw rates.
+    steps_without_key,
+    steps_with_key_below_table,
+    steps_with_key_above_table,
+    /// With a key of the table and a raw rate within its bounds.
+    steps_by_key,
+    raw_rates_too_low,
+    raw_rates_too_high,
+    raw_rates_of_32767,
+    raw_rates_of_32768,
+    /// Below 32,768 before it is rounded.
+    raw_rates_rounded_to_32768,
+    raw_rates_of_131072,
+    raw_rates_of_131073,
     /// The read position just level with the input, while there is a period.
     positions_level,
     /// The read position just 1,000 samples behind, likewise.
@@ -80,6 +100,33 @@ counters! {
     cycles_dropped,
     /// Reads whose earlier neighbour stands before the take.
     reads_before_take,
+    /// Bytes of the keyboard, in both modes.
+    bytes_of_real_time,
+    /// Between the two data bytes of a message.
+    bytes_of_real_time_inside,
+    bytes_of_system,
+    /// Half messages that a byte of the system ended, and that a status did.
+    halves_ended_by_system,
+    halves_ended_by_status,
+    /// Data without a running status.
+    data_passed_over,
+    messages_of_one_byte,
+    messages_of_other_channels,
+    /// Of two data bytes, and not about a key.
+    messages_of_other_sorts,
+    notes_on,
+    /// With another key held.
+    notes_on_past_a_key,
+    releases_by_note_off,
+    releases_by_velocity_0,
+    /// Of a key that is not the latest.
+    releases_of_other_keys,
+    calls_ending_in_half,
+    /// What a reset and a new channel forgot.
+    keys_forgotten_by_reset,
+    keys_forgotten_by_channel,
+    halves_forgotten_by_reset,
+    halves_forgotten_by_channel,
 }
 
 impl Statistics {
@@ -104,7 +151,7 @@ impl Statistics {
         } += 1;
     }
 
-    pub fn step(&mut self, step: &Step, scale: u32) {
+    pub fn step(&mut self, step: &Step) {
         let period = step.period();
         self.steps += 1;
         self.bests_tied += u64::from(step.best_is_tied);
@@ -125,9 +172,89 @@ impl Statistics {
             Move::StoppedAtLowest => self.moves_stopped_at_16 += 1,
             Move::StoppedAtHighest => self.moves_stopped_at_880 += 1,
         }
+    }
+
+    /// A step in scale mode, with the key that is held.
+    pub fn scale_step(&mut self, scale: u32, key: Option<usize>, period: i64) {
         let least = distance(wanted_note(scale, period), period);
         let nearest = notes_of(scale).filter(|&note| distance(note, period) == least);
         self.notes_tied += u64::from(nearest.count() > 1);
+        self.steps_past_a_key += u64::from(key.is_some());
+    }
+
+    /// A step in keyboard mode.
+    pub fn keyboard_step(&mut self, key: Option<usize>, period: i64) {
+        match key {
+            None => self.steps_without_key += 1,
+            Some(..LOWEST_NOTE) => self.steps_with_key_below_table += 1,
+            Some(LOWEST_NOTE..=HIGHEST_NOTE) => self.key_step(period, wanted_period(key)),
+            Some(_) => self.steps_with_key_above_table += 1,
+        }
+    }
+
+    fn key_step(&mut self, period: i64, wanted_period: i64) {
+        let raw = raw_rate(period, wanted_period);
+        let exact_is_below = period * LEVEL_RATE < LEAST_RAW_RATE * wanted_period;
+        *match raw {
+            ..LEAST_RAW_RATE => &mut self.raw_rates_too_low,
+            LEAST_RAW_RATE..=GREATEST_RAW_RATE => &mut self.steps_by_key,
+            _ => &mut self.raw_rates_too_high,
+        } += 1;
+        self.raw_rates_of_32767 += u64::from(raw == 32_767);
+        self.raw_rates_of_32768 += u64::from(raw == 32_768);
+        self.raw_rates_rounded_to_32768 += u64::from(raw == 32_768 && exact_is_below);
+        self.raw_rates_of_131072 += u64::from(raw == 131_072);
+        self.raw_rates_of_131073 += u64::from(raw == 131_073);
+    }
+
+    /// A byte of the keyboard, with what stood before it.
+    pub fn keyboard_byte(&mut self, before: &Keyboard, byte: u8, event: Event) {
+        let half = u64::from(before.half.is_some());
+        match event {
+            Event::RealTime => {
+                self.bytes_of_real_time += 1;
+                self.bytes_of_real_time_inside += half;
+            }
+            Event::System => {
+                self.bytes_of_system += 1;
+                self.halves_ended_by_system += half;
+            }
+            Event::Status => self.halves_ended_by_status += half,
+            Event::PassedOver => self.data_passed_over += 1,
+            Event::First => {}
+            Event::Single => self.messages_of_one_byte += 1,
+            Event::Second(message) => self.message(before, byte, message),
+        }
+    }
+
+    fn message(&mut self, before: &Keyboard, second: u8, message: Message) {
+        match message {
+            Message::OfAnotherChannel => self.messages_of_other_channels += 1,
+            Message::Other => self.messages_of_other_sorts += 1,
+            Message::OtherRelease => self.releases_of_other_keys += 1,
+            Message::NoteOn => {
+                self.notes_on += 1;
+                self.notes_on_past_a_key += u64::from(before.key.is_some());
+            }
+            Message::Release => {
+                let by_off = before.status.is_some_and(|status| status < 144);
+                self.releases_by_note_off += u64::from(by_off);
+                self.releases_by_velocity_0 += u64::from(!by_off && second == 0);
+            }
+        }
+    }
+
+    /// A reset that was taken.
+    pub fn reset(&mut self, before: &Keyboard) {
+        self.keys_forgotten_by_reset += u64::from(before.key.is_some());
+        self.halves_forgotten_by_reset += u64::from(before.half.is_some());
+    }
+
+    /// A change of settings that was taken, with what the keyboard then held.
+    pub fn change(&mut self, before: &Keyboard, after: &Keyboard) {
+        let forgotten = u64::from(before != after);
+        self.keys_forgotten_by_channel += forgotten * u64::from(before.key.is_some());
+        self.halves_forgotten_by_channel += forgotten * u64::from(before.half.is_some());
     }
 
     pub fn reading(&mut self, cycle: Cycle, position: i64, input: i64, period: Option<i64>) {

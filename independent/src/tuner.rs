@@ -1,10 +1,10 @@
 //! What the host may call.
 
 use crate::history::History;
+use crate::keyboard::{Keyboard, HIGHEST_KEY};
 use crate::rules::*;
-use crate::settings::Settings;
+use crate::settings::{Settings, KEYBOARD};
 use crate::statistics::Statistics;
-use crate::table::{period_of, HIGHEST_NOTE, LOWEST_NOTE};
 
 /// The most samples in a take.
 pub const TAKE_LIMIT: usize = 1_000_000_000;
@@ -26,6 +26,8 @@ pub enum Answer {
     EpsOutOfRange = 11,
     DecayOutOfRange = 12,
     FloorOutOfRange = 13,
+    ChannelOutOfRange = 14,
+    ModeUnknown = 15,
 }
 
 impl Answer {
@@ -56,7 +58,8 @@ pub struct Tracking {
 #[derive(Clone, Copy, Debug, PartialEq, Eq)]
 pub struct Pitch {
     pub period: i64,
-    pub wanted_note: usize,
+    /// None without a key, in keyboard mode; a key may be outside the table.
+    pub wanted_note: Option<usize>,
 }
 
 #[derive(Clone, Copy, Debug, PartialEq, Eq)]
@@ -94,6 +97,7 @@ pub struct Figures {
 #[derive(Clone, Debug, PartialEq, Eq)]
 pub struct Tuner {
     pub(crate) settings: Settings,
+    pub(crate) keyboard: Keyboard,
     pub(crate) limit: usize,
     pub(crate) take: History,
     pub(crate) eighths: History,
@@ -128,6 +132,7 @@ impl Tuner {
     fn fresh(settings: Settings, limit: usize) -> Tuner {
         Tuner {
             settings,
+            keyboard: Keyboard::FRESH,
             limit,
             take: History::fresh(),
             eighths: History::fresh(),
@@ -138,14 +143,17 @@ impl Tuner {
         }
     }
 
-    /// New settings count from the next sample. Order: 9, then the settings'
-    /// own.
+    /// New settings count from the next sample. Another channel forgets what
+    /// the keyboard sent. Order: 9, then the settings' own.
     pub fn change(&mut self, settings: Settings) -> Answer {
         if !self.is_good() {
             return Answer::RecordOutOfRange;
         }
         let answer = settings.answer();
         if answer == Answer::Taken {
+            if settings.channel != self.settings.channel {
+                self.keyboard = Keyboard::FRESH;
+            }
             self.settings = settings;
         }
         answer
@@ -157,6 +165,15 @@ impl Tuner {
             return Answer::RecordOutOfRange;
         }
         *self = Tuner::fresh(self.settings, self.limit);
+        Answer::Taken
+    }
+
+    /// Takes bytes of the keyboard, in both modes. 9 alone refuses them.
+    pub fn midi(&mut self, bytes: &[u8], seen: &mut Statistics) -> Answer {
+        if !self.is_good() {
+            return Answer::RecordOutOfRange;
+        }
+        self.keyboard.take(bytes, &self.settings, seen);
         Answer::Taken
     }
 
@@ -292,12 +309,11 @@ impl Tuner {
                 self.rate = LEVEL_RATE;
             }
             Ok(step) => {
-                let Settings { scale, decay, .. } = self.settings;
-                seen.step(&step, scale);
+                seen.step(&step);
                 let period = step.period();
-                let wanted_note = wanted_note(scale, period);
-                let raw = raw_rate(period, period_of(wanted_note));
-                self.rate = smoothed_rate(decay, self.rate, raw);
+                let wanted_note = self.wanted_note(period, seen);
+                let raw = raw_rate_in_bounds(period, wanted_period(wanted_note));
+                self.rate = smoothed_rate(self.settings.decay, self.rate, raw);
                 self.mode = Mode::Tracking(Tracking {
                     lowest: step.next_lowest(),
                     last_best: step.best,
@@ -308,6 +324,18 @@ impl Tuner {
                 });
             }
         }
+    }
+
+    /// In keyboard mode the key as it now stands, else the scale's nearest.
+    fn wanted_note(&self, period: i64, seen: &mut Statistics) -> Option<usize> {
+        let Settings { scale, mode, .. } = self.settings;
+        let key = self.keyboard.key.map(usize::from);
+        if mode == KEYBOARD {
+            seen.keyboard_step(key, period);
+            return key;
+        }
+        seen.scale_step(scale, key, period);
+        Some(wanted_note(scale, period))
     }
 
     fn pitch(&self) -> Option<Pitch> {
@@ -331,7 +359,7 @@ impl Tuner {
                 None => Meter::Locking(tracking.last_best as f32),
                 Some(pitch) => Meter::Pitched(Figures {
                     period: pitch.period as f32 / 256.0,
-                    wanted_period: period_of(pitch.wanted_note) as f32 / 256.0,
+                    wanted_period: wanted_period(pitch.wanted_note) as f32 / 256.0,
                     rate: self.rate as f32 / 65_536.0,
                 }),
             },
@@ -374,11 +402,14 @@ impl Tuner {
             None => self.rate == LEVEL_RATE,
             Some(pitch) => {
                 (4_096..=225_280).contains(&pitch.period)
-                    && (LOWEST_NOTE..=HIGHEST_NOTE).contains(&pitch.wanted_note)
+                    && pitch
+                        .wanted_note
+                        .is_none_or(|note| note <= usize::from(HIGHEST_KEY))
                     && (32_768..=131_072).contains(&self.rate)
             }
         };
         self.settings.in_range()
+            && self.keyboard.is_good()
             && count <= self.limit
             && self.eighths.count() == count / 8
             && last_good

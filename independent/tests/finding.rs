@@ -5,12 +5,7 @@ use independent::rules::*;
 use independent::settings::Settings;
 
 /// Settings under which whatever sounds passes, if it repeats well.
-const WILLING: Settings = Settings {
-    scale: 4_095,
-    eps: 409,
-    decay: 0,
-    floor: 1,
-};
+const WILLING: Settings = Settings::of([4_095, 409, 0, 1]);
 
 /// A sound of `count` samples that repeats after `cycle`, and no sooner.
 fn cycling(cycle: usize, count: usize) -> Vec<i16> {

@@ -93,6 +93,41 @@ const KNOWN: &[(&str, &str)] = &[
     ("start\t4095\t100\t256\t100", "12"),
     ("change\t4095\t100\t0\t1000001", "13"),
     ("change\t4095\t100\t0\t18446744073709551716", "10"),
+    // The keyboard.
+    ("mod", "10"),
+    ("mode", "10"),
+    ("mode\t", "10"),
+    ("mode\t1", "0"),
+    ("mode\t01", "0"),
+    ("mode\t-1", "10"),
+    ("mode\t0\t1", "10"),
+    ("mode\t1\t0", "10"),
+    ("mode\t2", "15"),
+    ("mode\t65537", "15"),
+    ("mode\t4294967295", "15"),
+    ("mode\t4294967297", "10"),
+    ("channel\t0", "0"),
+    ("channel\t15", "0"),
+    ("channel\t16", "14"),
+    ("channel\t65536", "14"),
+    ("channel\t4294967296", "10"),
+    ("channel\t-0", "10"),
+    ("channel\t0\r", "10"),
+    ("midi", "10"),
+    ("midi\t", "10"),
+    ("midi\t1", "0"),
+    ("midi\t144\t60\t", "10"),
+    ("midi\t144\t60\t1", "0"),
+    ("midi\t144\t60\t255", "0"),
+    ("midi\t144\t60\t256", "10"),
+    ("midi\t144\t-60\t100", "10"),
+    ("midi\t144\t65596\t100", "10"),
+    ("midi\t144\t\t100", "10"),
+    ("midi\t144\t60\t100\t0", "0"),
+    ("midi\t144\t60\t100\t\t", "10"),
+    ("MIDI\t144\t60\t100", "10"),
+    ("mode\t144\t60\t100", "10"),
+    ("block\t144\t60\t100", "5\t0\t0\t0"),
 ];
 
 #[test]
@@ -111,7 +146,7 @@ fn known_lines_have_their_known_answers() {
             }
         }
         next = match answer.as_str() {
-            "0" if !line.starts_with(b"change") => 0,
+            "0" if line.starts_with(b"start") || line.starts_with(b"reset") => 0,
             _ if answer.starts_with("0\t") => next.wrapping_add(1),
             _ => next,
         };
@@ -133,8 +168,8 @@ fn lines_about_as_long_as_may_be() {
             .collect();
         answers.sort_unstable();
         let right = match length <= LONGEST_LINE {
-            true => ["0", "0\t2\t0\t", "0\t2\t0\t", "0\t512\t", "10"],
-            false => ["10"; 5],
+            true => ["0", "0", "0", "0\t2\t0\t", "0\t2\t0\t", "0\t512\t", "10"],
+            false => ["10"; 7],
         };
         assert_eq!(answers, right, "{length} bytes");
     }

@@ -156,6 +156,145 @@ fn refused_settings_keep_the_tuner() {
 }
 
 #[test]
+fn lines_of_the_keyboard() {
+    let table = [
+        ("mode 0", "0"),
+        ("mode 1", "0"),
+        ("mode 0001", "0"),
+        ("mode 2", "15"),
+        ("mode 4294967295", "15"),
+        ("mode 4294967296", "10"),
+        ("mode", "10"),
+        ("mode ", "10"),
+        ("mode 0 0", "10"),
+        ("mode -1", "10"),
+        ("channel 0", "0"),
+        ("channel 15", "0"),
+        ("channel 16", "14"),
+        ("channel 4294967295", "14"),
+        ("channel 4294967296", "10"),
+        ("channel", "10"),
+        ("channel 1 ", "10"),
+        ("midi", "10"),
+        ("midi ", "10"),
+        ("midi 0", "0"),
+        ("midi 144 60 100", "0"),
+        ("midi 255 0255 000", "0"),
+        ("midi 256", "10"),
+        ("midi -0", "10"),
+        ("midi 144 60 +1", "10"),
+        ("midi 144  100", "10"),
+        ("midi 144 60 ", "10"),
+        ("keys 60", "10"),
+    ];
+    for (line, number) in table {
+        assert_eq!(answers(line), format!("{number}\n"), "{line}");
+    }
+    // As many bytes as a line holds, and one more.
+    let line = |bytes: usize| ["midi".to_string(), "\t7".repeat(bytes)].concat();
+    assert_eq!(line(4_094).len(), LONGEST_LINE);
+    assert_eq!(answer(line(4_094).as_bytes()), "0\n");
+    assert_eq!(answer(line(4_095).as_bytes()), "10\n");
+}
+
+/// A block of a square wave of 96 samples to a cycle.
+fn wave(number: usize) -> String {
+    let samples = (100 * number..100 * number + 100).map(|at| match at % 96 < 48 {
+        true => " 8000",
+        false => " -8000",
+    });
+    format!("block {number}{}\n", samples.collect::<String>())
+}
+
+/// What is answered to 600 samples of the wave after 1,200 of them and these
+/// lines.
+fn sung_after(lines: &str) -> String {
+    let begun: String = (0..12).map(wave).collect();
+    let rest: String = (12..18).map(wave).collect();
+    let answers = answers(&format!("{begun}{lines}{rest}"));
+    let answers = answers.lines().skip(12 + lines.lines().count());
+    answers.collect::<Vec<&str>>().join("\n")
+}
+
+/// What is answered to the whole wave after these lines.
+fn sung_from(lines: &str) -> String {
+    let wave: String = (0..18).map(wave).collect();
+    let answers = answers(&format!("{lines}{wave}"));
+    let answers = answers.lines().skip(lines.lines().count());
+    answers.collect::<Vec<&str>>().join("\n")
+}
+
+#[test]
+fn change_keeps_mode_and_channel() {
+    let plain = sung_after("");
+    let played = sung_after("mode 1\nmidi 144 69 100\n");
+    assert_ne!(played, plain);
+    let keeping = [
+        "mode 1\nmidi 144 69 100\nchange 1 100 0 100\n",
+        "mode 1\nchange 4095 100 0 100\nmidi 144 69 100\n",
+        "midi 144 69 100\nmode 1\nchannel 0\n",
+        "mode 1\nchannel 7\nmidi 151 69 100\nchange 1 100 0 100\n",
+        // One unreadable byte and none is taken; refusals change nothing.
+        "mode 1\nmidi 144 69 100\nmidi 69 0 256\nmode 2\nchannel 16\nchange 0 0 0 0\n",
+        "mode 1\nmidi 144 69 100\nstart 0 0 0 0\n",
+        // Cut anywhere, and a real-time byte inside.
+        "mode 1\nmidi 144\nmidi 69\nmode 0\nmidi 254\nmode 1\nmidi 100\n",
+    ];
+    for lines in keeping {
+        assert_eq!(sung_after(lines), played, "{lines}");
+    }
+    let level = sung_after("mode 1\n");
+    assert!(level != played && level != plain);
+    let forgetting = [
+        "mode 1\nmidi 144 69 100\nchannel 1\n",
+        "mode 1\nmidi 144 69 100\nchannel 1\nchannel 0\nmidi 69 100\n",
+        "mode 1\nmidi 144 69\nchannel 1\nchannel 0\nmidi 100\n",
+        "mode 1\nmidi 144 31 100\n",
+        "mode 1\nmidi 145 69 100\n",
+    ];
+    for lines in forgetting {
+        assert_eq!(sung_after(lines), level, "{lines}");
+    }
+    let back = sung_after("mode 1\nmidi 144 69 100\nmode 0\n");
+    assert_eq!(back, plain);
+}
+
+/// A taken start sets scale mode and channel 0; a reset keeps both.
+#[test]
+fn starts_and_resets_in_keyboard_mode() {
+    let played = sung_from("mode 1\nmidi 144 69 100\n");
+    assert_ne!(played, sung_from(""));
+    let anew = "mode 1\nchannel 9\nstart 4095 100 0 100\n";
+    assert_eq!(sung_from(anew), sung_from(""));
+    let again = format!("{anew}mode 1\nmidi 144 69 100\n");
+    assert_eq!(sung_from(&again), played);
+    let reset = "mode 1\nchannel 9\nmidi 153 70 100\nreset\n";
+    assert_eq!(sung_from(reset), sung_from("mode 1\n"));
+    let again = format!("{reset}midi 153 69 100\n");
+    assert_eq!(sung_from(&again), played);
+}
+
+/// A block is given again after lines of the keyboard.
+#[test]
+fn the_repeat_among_lines_of_the_keyboard() {
+    let input = "block 0 9 8 7\n\
+                 mode 1\n\
+                 midi 144 60 100\n\
+                 channel 3\n\
+                 mode 9\n\
+                 block 0 9 8 7\n\
+                 block 1 6 5\n";
+    let expected = "0 3 0 0 0 0 0\n\
+                    0\n\
+                    0\n\
+                    0\n\
+                    15\n\
+                    1 3 0 0 0 0 0\n\
+                    0 2 0 0 0 9\n";
+    assert_eq!(answers(input), expected);
+}
+
+#[test]
 fn lines_that_cannot_be_read() {
     let unreadable: &[&[u8]] = &[
         b"",

@@ -1,6 +1,8 @@
-//! The meter through a take: searching, locking, pitched, lost.
+//! The meter through a take: searching, locking, pitched, lost; and drawn to the
+//! keyboard.
 
-use independent::settings::Settings;
+use independent::rules::raw_rate;
+use independent::settings::{Settings, KEYBOARD, SCALE};
 use independent::statistics::Statistics;
 use independent::tuner::{Answer, Figures, Meter, Tuner};
 
@@ -86,6 +88,166 @@ fn searching_locking_pitched_lost() {
     assert_eq!((lost + 1) % 5, 0);
     assert_eq!(take.tuner.reset(), Answer::Taken);
     assert_eq!(take.tuner.meter(), Meter::Searching);
+}
+
+impl Take {
+    fn hear_next(&mut self) -> Meter {
+        self.hear(square(usize::from(self.number)))
+    }
+
+    /// Hears up to the next tracking step, before which nothing may change, and
+    /// gives the figures after it: period and wanted period in 1/256 sample,
+    /// and the rate in 1/65536.
+    fn step(&mut self) -> [i64; 3] {
+        let before = self.tuner.meter();
+        while self.number % 5 < 4 {
+            assert_eq!(self.hear_next(), before);
+        }
+        let Meter::Pitched(figures) = self.hear_next() else {
+            panic!("the wave is tracked");
+        };
+        let Figures {
+            period,
+            wanted_period,
+            rate,
+        } = figures;
+        [period * 256.0, wanted_period * 256.0, rate * 65_536.0].map(|figure| figure as i64)
+    }
+
+    /// The next step wants this period, and the rate is right for it.
+    fn is_drawn_to(&mut self, wanted: i64) {
+        let [period, wanted_period, rate] = self.step();
+        assert_eq!(wanted_period, wanted);
+        assert_eq!(rate, raw_rate(period, wanted));
+    }
+
+    /// The next step wants this period, and the rate is level.
+    fn is_level(&mut self, wanted: i64) {
+        let [_, wanted_period, rate] = self.step();
+        assert_eq!((wanted_period, rate), (wanted, 65_536));
+    }
+
+    fn play(&mut self, bytes: &[u8]) {
+        let before = self.tuner.meter();
+        assert_eq!(self.tuner.midi(bytes, &mut self.seen), Answer::Taken);
+        assert_eq!(self.tuner.meter(), before);
+    }
+
+    fn change(&mut self, alter: fn(&mut Settings), settings: &mut Settings) {
+        alter(settings);
+        assert_eq!(self.tuner.change(*settings), Answer::Taken);
+    }
+}
+
+/// A take that is pitched at period 96, about.
+fn pitched(settings: Settings) -> Take {
+    let mut take = Take::begin(settings);
+    for _ in 0..600 {
+        take.hear_next();
+    }
+    take
+}
+
+/// Settings in keyboard mode.
+fn played() -> Settings {
+    let mut settings = Settings::DEFAULT;
+    settings.mode = KEYBOARD;
+    settings
+}
+
+/// The key counts from the next tracking step on, and as it then stands.
+#[test]
+fn drawn_to_the_keyboard() {
+    let mut take = pitched(played());
+    take.is_level(0);
+    take.play(&[144, 69, 100]);
+    take.is_drawn_to(25_658);
+    take.is_drawn_to(25_658);
+    // Struck and released between steps, and struck again.
+    take.play(&[69, 1, 69, 0]);
+    take.is_level(0);
+    take.play(&[69, 1, 69, 0, 70, 1]);
+    take.is_drawn_to(24_218);
+    // The latest key is released, and an older one is still down.
+    take.play(&[69, 1]);
+    take.play(&[69, 0]);
+    take.is_level(0);
+}
+
+/// Outside the table there is no wanted period; too far off, the key's, but no
+/// rate to go with it.
+#[test]
+fn drawn_to_keys_that_are_far() {
+    let mut take = pitched(played());
+    take.play(&[144]);
+    for outside in [0, 31, 101, 127] {
+        take.play(&[outside, 1]);
+        take.is_level(0);
+        take.play(&[70, 1]);
+        take.is_drawn_to(24_218);
+    }
+    for (near, wanted) in [(58, 48_436), (81, 12_829)] {
+        take.play(&[near, 1]);
+        take.is_drawn_to(wanted);
+    }
+    for (far, wanted) in [(57, 51_316), (82, 12_109), (32, 217_471), (100, 4_281)] {
+        take.play(&[far, 1]);
+        take.is_level(wanted);
+    }
+}
+
+/// Level is smoothed toward like any other raw rate.
+#[test]
+fn the_rate_glides_where_no_key_is_held() {
+    let mut settings = played();
+    let mut take = pitched(settings);
+    take.play(&[144, 69, 100]);
+    let [_, _, drawn] = take.step();
+    take.change(|settings| settings.decay = 128, &mut settings);
+    take.play(&[69, 0]);
+    let once = (128 * drawn + 128 * 65_536) / 256;
+    assert_eq!(take.step()[1..], [0, once]);
+    assert_eq!(take.step()[1..], [0, (128 * once + 128 * 65_536) / 256]);
+}
+
+/// Keys are followed in scale mode, and count when the mode does.
+#[test]
+fn changes_of_mode_and_channel() {
+    let mut settings = Settings::DEFAULT;
+    let mut take = pitched(settings);
+    take.play(&[144, 69, 100]);
+    take.is_drawn_to(24_218);
+    take.change(|settings| settings.mode = KEYBOARD, &mut settings);
+    take.is_drawn_to(25_658);
+    // The same channel keeps the key, another forgets it, and so does going back.
+    take.change(|settings| settings.channel = 0, &mut settings);
+    take.is_drawn_to(25_658);
+    take.change(|settings| settings.channel = 3, &mut settings);
+    take.is_level(0);
+    take.play(&[147, 69, 1, 144, 70, 1]);
+    take.is_drawn_to(25_658);
+    take.change(|settings| settings.channel = 0, &mut settings);
+    take.change(|settings| settings.channel = 3, &mut settings);
+    take.play(&[69, 1]);
+    take.is_level(0);
+    take.change(|settings| settings.mode = SCALE, &mut settings);
+    take.is_drawn_to(24_218);
+}
+
+/// A reset keeps mode and channel, and forgets key, running status and half
+/// message.
+#[test]
+fn a_reset_forgets_the_key() {
+    let mut settings = played();
+    settings.channel = 5;
+    let fresh = Take::begin(settings).tuner;
+    let mut take = Take::begin(settings);
+    take.play(&[149, 69, 100, 70]);
+    assert!(take.tuner != fresh);
+    assert_eq!(take.tuner.reset(), Answer::Taken);
+    assert!(take.tuner == fresh);
+    take.play(&[]);
+    assert!(take.tuner == fresh);
 }
 
 /// Silence, where D = E = 0, never passes.

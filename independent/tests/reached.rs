@@ -1,5 +1,5 @@
-//! Every branch of document 01 is reached by the scripts of some kind, and by
-//! the night.
+//! Every branch of documents 01 and 02 is reached by the scripts of some kind,
+//! and by the night.
 
 use independent::generator::kinds::{kind_named, KINDS};
 use independent::generator::night::{write_night, NIGHT};
@@ -38,11 +38,42 @@ const REACHED: &[(&str, &str, u64)] = &[
     ("moves_stopped_at_16", "glides", 1),
     ("moves_stopped_at_880", "glides", 1),
     ("notes_tied", "ones", 1),
+    ("steps_past_a_key", "played", 1),
+    ("steps_without_key", "melody", 1),
+    ("steps_with_key_below_table", "outside", 1),
+    ("steps_with_key_above_table", "outside", 1),
+    ("steps_by_key", "melody", 1),
+    ("raw_rates_too_low", "octaves", 1),
+    ("raw_rates_too_high", "octaves", 1),
+    ("raw_rates_of_32767", "octaves", 1),
+    ("raw_rates_of_32768", "octaves", 1),
+    ("raw_rates_rounded_to_32768", "octaves", 1),
+    ("raw_rates_of_131072", "octaves", 1),
+    ("raw_rates_of_131073", "octaves", 1),
     ("positions_level", "level", 1),
     ("positions_1000_behind", "brink", 1),
     ("cycles_repeated", "shifted", 1),
     ("cycles_dropped", "shifted", 2),
     ("reads_before_take", "rough", 1),
+    ("bytes_of_real_time", "bytes", 1),
+    ("bytes_of_real_time_inside", "pieces", 1),
+    ("bytes_of_system", "bytes", 1),
+    ("halves_ended_by_system", "pieces", 1),
+    ("halves_ended_by_status", "bytes", 1),
+    ("data_passed_over", "pieces", 1),
+    ("messages_of_one_byte", "played", 1),
+    ("messages_of_other_channels", "played", 1),
+    ("messages_of_other_sorts", "played", 1),
+    ("notes_on", "trill", 1),
+    ("notes_on_past_a_key", "trill", 1),
+    ("releases_by_note_off", "trill", 1),
+    ("releases_by_velocity_0", "melody", 1),
+    ("releases_of_other_keys", "trill", 1),
+    ("calls_ending_in_half", "pieces", 1),
+    ("keys_forgotten_by_reset", "played", 1),
+    ("keys_forgotten_by_channel", "pieces", 1),
+    ("halves_forgotten_by_reset", "pieces", 1),
+    ("halves_forgotten_by_channel", "pieces", 1),
     ("answer_0", "endless", 1),
     ("answer_1", "mixed", 1),
     ("answer_2", "hostile", 1),
@@ -54,6 +85,8 @@ const REACHED: &[(&str, &str, u64)] = &[
     ("answer_11", "choices", 1),
     ("answer_12", "choices", 1),
     ("answer_13", "choices", 1),
+    ("answer_14", "bytes", 1),
+    ("answer_15", "bytes", 1),
 ];
 
 /// No script reaches these: the line program always has room for 512 samples
@@ -171,7 +204,9 @@ fn block_numbers_wrap() {
 /// No tuner reached from a start by calls is ever answered 9.
 #[test]
 fn reached_tuners_are_good() {
-    for (kind, seed) in [("mixed", 3), ("rough", 3), ("glides", 3), ("settings", 3)] {
+    let kinds = ["mixed", "rough", "glides", "settings"];
+    let played = ["played", "octaves", "pieces", "bytes"];
+    for (kind, seed) in kinds.into_iter().chain(played).map(|kind| (kind, 3)) {
         let script = script(kind_named(kind).unwrap(), seed, 50_000);
         let mut program = Program::default();
         let mut answers = Vec::new();

@@ -78,7 +78,7 @@ fn refused_settings_over_a_record() {
         assert_eq!(left.number > 0, left.record == refused.bytes(), "{call:?}");
         numbers.insert(left.number);
     }
-    assert_eq!(Vec::from_iter(numbers), [0, 8, 11, 12, 13]);
+    assert_eq!(Vec::from_iter(numbers), [0, 8, 11, 12, 13, 14, 15]);
 }
 
 /// What versions 1 and 2 left is of another layout; a start asks nothing of it.

@@ -54,8 +54,10 @@ fn numbers_of_the_answers() {
         Answer::EpsOutOfRange,
         Answer::DecayOutOfRange,
         Answer::FloorOutOfRange,
+        Answer::ChannelOutOfRange,
+        Answer::ModeUnknown,
     ];
-    let numbers = [0, 1, 2, 3, 4, 5, 6, 7, 8, 9, 11, 12, 13];
+    let numbers = [0, 1, 2, 3, 4, 5, 6, 7, 8, 9, 11, 12, 13, 14, 15];
     assert_eq!(answers.map(Answer::number), numbers);
 }
 
@@ -148,30 +150,34 @@ fn numbers_wrap_after_65535() {
 
 #[test]
 fn settings_keep_their_ranges() {
-    let settings = |scale, eps, decay, floor| Settings {
-        scale,
-        eps,
-        decay,
-        floor,
+    let settings = |scale, eps, decay, floor, mode, channel| Settings {
+        mode,
+        channel,
+        ..Settings::of([scale, eps, decay, floor])
     };
     let good = [
-        settings(1, 0, 0, 1),
-        settings(4_095, 409, 255, 1_000_000),
+        settings(1, 0, 0, 1, 0, 0),
+        settings(4_095, 409, 255, 1_000_000, 1, 15),
         Settings::DEFAULT,
     ];
+    let most = u32::MAX;
     let bad = [
-        (8, settings(0, 100, 0, 100)),
-        (8, settings(4_096, 100, 0, 100)),
-        (11, settings(4_095, 410, 0, 100)),
-        (12, settings(4_095, 100, 256, 100)),
-        (13, settings(4_095, 100, 0, 0)),
-        (13, settings(4_095, 100, 0, 1_000_001)),
-        (8, settings(u32::MAX, u32::MAX, u32::MAX, u32::MAX)),
-        (11, settings(1, u32::MAX, u32::MAX, u32::MAX)),
-        (12, settings(1, 0, u32::MAX, u32::MAX)),
-        (13, settings(1, 0, 0, u32::MAX)),
+        (8, settings(0, 100, 0, 100, 0, 0)),
+        (8, settings(4_096, 100, 0, 100, 0, 0)),
+        (11, settings(4_095, 410, 0, 100, 0, 0)),
+        (12, settings(4_095, 100, 256, 100, 0, 0)),
+        (13, settings(4_095, 100, 0, 0, 0, 0)),
+        (13, settings(4_095, 100, 0, 1_000_001, 0, 0)),
+        (14, settings(4_095, 100, 0, 100, 0, 16)),
+        (15, settings(4_095, 100, 0, 100, 2, 0)),
+        (8, settings(most, most, most, most, most, most)),
+        (11, settings(1, most, most, most, most, most)),
+        (12, settings(1, 0, most, most, most, most)),
+        (13, settings(1, 0, 0, most, most, most)),
+        (14, settings(1, 0, 0, 1, most, most)),
+        (15, settings(1, 0, 0, 1, most, 15)),
     ];
-    assert_eq!(Settings::DEFAULT, settings(4_095, 100, 0, 100));
+    assert_eq!(Settings::DEFAULT, settings(4_095, 100, 0, 100, 0, 0));
     for settings in good {
         assert_eq!(Tuner::start(settings).0, Answer::Taken);
         assert_eq!(Tuner::default_start().change(settings), Answer::Taken);

@@ -37,7 +37,14 @@ const SUMS: &[(&str, u64, u64)] = &[
     ("rough", 0x196A_6D2A_21EE_0ECE, 0x3010_4349_CE17_A6E4),
     ("unreadable", 0x3EEE_253C_5A38_6F72, 0xF6A7_AA9B_8CFD_31AC),
     ("mixed", 0x4C33_055F_D2E0_01AD, 0x37C4_C34B_DBF2_B3A0),
-    ("hostile", 0x537F_B251_C8A5_0272, 0x53E3_54D9_B0D3_5EF4),
+    ("melody", 0x1168_9268_5BDB_217B, 0xFD4C_FE23_E96E_2BAD),
+    ("played", 0x6485_8542_E58A_199B, 0x7A3B_275F_4923_36DC),
+    ("octaves", 0xEAB1_CE2C_CCEB_6675, 0xDA87_0B02_70E2_A3C7),
+    ("outside", 0x1673_08CB_48AB_48BA, 0x19AA_4F6A_56CF_3F63),
+    ("trill", 0x913A_E882_BA82_2949, 0x2D54_AF49_9849_986C),
+    ("pieces", 0x6006_42FE_EE32_407E, 0x0A97_EED8_458E_7319),
+    ("bytes", 0x04A0_7B57_E116_7EB7, 0xE800_4E5E_E9E5_B2F0),
+    ("hostile", 0xF42B_8985_7347_A041, 0xABA4_67C5_DDB2_55AB),
     ("endless", 0x4781_3C14_FD81_70D8, 0x427C_84C0_40B9_EA7D),
 ];
 
@@ -80,11 +87,16 @@ fn blocks_have_the_length_asked_for() {
     assert_eq!(lengths[10..], [3], "the line that closes a script");
 }
 
-/// The README shows the cycles that are repeated and dropped in it.
+/// The README shows the cycles that are repeated and dropped in them.
 #[test]
-fn the_example_take_is_of_this_generator() {
+fn the_example_takes_are_of_this_generator() {
     let take = include_bytes!("../../examples/vibrato_drawn_to_a.txt");
     assert!(take[..] == script_in_blocks_of(64, "shifted", 70, 19_200));
     let (_, seen) = answers_to(take);
     assert_eq!((seen.cycles_repeated, seen.cycles_dropped), (5, 6));
+    let take = include_bytes!("../../examples/tone_drawn_to_a_melody.txt");
+    assert!(take[..] == script(kind_named("melody").unwrap(), 221, 13_824));
+    let (_, seen) = answers_to(take);
+    assert_eq!((seen.cycles_repeated, seen.cycles_dropped), (6, 2));
+    assert_eq!((seen.notes_on, seen.releases_by_velocity_0), (3, 3));
 }

@@ -1,6 +1,6 @@
 //! The table's rule, by twelfth powers, and its neighbours.
 
-use independent::rules::{raw_rate, wanted_note};
+use independent::rules::{raw_rate, raw_rate_in_bounds, wanted_note, wanted_period};
 use independent::table::{compare_with_twice_the_period, period_of, HIGHEST_NOTE, LOWEST_NOTE};
 use std::cmp::Ordering::{Equal, Greater, Less};
 
@@ -51,7 +51,53 @@ fn raw_rates_keep_their_bounds() {
     for class in 0..12 {
         for period in 4_096..=225_280 {
             let wanted = period_of(wanted_note(1 << class, period));
-            assert!((32_768..=131_072).contains(&raw_rate(period, wanted)));
+            let raw = raw_rate(period, wanted);
+            assert!((32_768..=131_072).contains(&raw));
+            assert_eq!(raw_rate_in_bounds(period, wanted), raw);
         }
     }
+}
+
+/// A key may be anywhere: the bounds are tested on the rounded raw rate.
+#[test]
+fn raw_rates_of_keys_are_held_in_their_bounds() {
+    let of_key = |period, key| raw_rate_in_bounds(period, wanted_period(Some(key)));
+    // Key 32 has 217471: half of that is 108735.5.
+    assert_eq!(of_key(108_737, 32), 32_768);
+    assert_eq!(of_key(108_736, 32), 32_768);
+    assert_eq!(of_key(108_735, 32), 32_768);
+    assert_eq!(of_key(108_734, 32), 32_768);
+    assert_eq!(of_key(108_733, 32), 65_536);
+    assert_eq!(raw_rate(108_733, 217_471), 32_767);
+    // Key 69 has 25658: half of that is 12829, and twice it 51316.
+    assert_eq!(
+        [12_828, 12_829].map(|period| of_key(period, 69)),
+        [65_536, 32_768]
+    );
+    assert_eq!(
+        [51_316, 51_317].map(|period| of_key(period, 69)),
+        [131_072, 65_536]
+    );
+    assert_eq!(raw_rate(51_317, 25_658), 131_075);
+    // Key 44 has 108736: twice it is 217472.
+    assert_eq!(
+        [217_472, 217_473].map(|period| of_key(period, 44)),
+        [131_072, 65_536]
+    );
+    assert_eq!(raw_rate(217_473, 108_736), 131_073);
+}
+
+/// No key and a key outside the table have no period.
+#[test]
+fn wanted_periods_of_keys() {
+    assert_eq!(wanted_period(None), 0);
+    for key in 0..=127 {
+        let right = match (LOWEST_NOTE..=HIGHEST_NOTE).contains(&key) {
+            true => period_of(key),
+            false => 0,
+        };
+        assert_eq!(wanted_period(Some(key)), right);
+    }
+    assert_eq!(raw_rate_in_bounds(4_096, 0), 65_536);
+    assert_eq!(raw_rate_in_bounds(225_280, 0), 65_536);
 }

@@ -16,9 +16,9 @@ use std::process::{Command, Stdio};
 const USAGE: &str = "records CASES SEED PROGRAM WORDS..";
 
 fn asked(bytes: &[u8; SIZE], call: &Call) -> Vec<u8> {
-    let mut words = [0u32; 8];
+    let mut words = [0u32; 10];
     let mut longs = [0u64; 2];
-    let (mut samples, mut out): (&[i16], &[i16]) = (&[], &[]);
+    let (mut midi, mut samples, mut out): (&[u8], &[i16], &[i16]) = (&[], &[], &[]);
     match call {
         Call::Start(settings) | Call::Change(settings) => {
             words[0] = if matches!(call, Call::Start(_)) { 0 } else { 2 };
@@ -27,6 +27,8 @@ fn asked(bytes: &[u8; SIZE], call: &Call) -> Vec<u8> {
                 settings.eps,
                 settings.decay,
                 settings.floor,
+                settings.mode,
+                settings.channel,
             ]);
         }
         Call::StartDefault => words[0] = 1,
@@ -46,8 +48,12 @@ fn asked(bytes: &[u8; SIZE], call: &Call) -> Vec<u8> {
         Call::Reset => words[0] = 4,
         Call::Meter => words[0] = 5,
         Call::Cut(length, k) => (words[0], longs) = (6, [*length, *k]),
+        Call::Midi(bytes) => {
+            (words[0], words[2]) = (8, bytes.len() as u32);
+            midi = bytes;
+        }
     }
-    let mut asked = Vec::with_capacity(48 + SIZE + 4 * samples.len());
+    let mut asked = Vec::with_capacity(56 + SIZE + 4 * samples.len() + midi.len());
     words
         .iter()
         .for_each(|word| asked.extend(word.to_le_bytes()));
@@ -55,6 +61,7 @@ fn asked(bytes: &[u8; SIZE], call: &Call) -> Vec<u8> {
         .iter()
         .for_each(|long| asked.extend(long.to_le_bytes()));
     asked.extend(bytes);
+    asked.extend(midi);
     samples
         .iter()
         .chain(out)
@@ -88,6 +95,7 @@ fn name(call: &Call) -> &'static str {
         Call::Start(_) => "start",
         Call::StartDefault => "start_default",
         Call::Change(_) => "change",
+        Call::Midi(_) => "midi",
         Call::Block { .. } => "block",
         Call::Reset => "reset",
         Call::Meter => "meter",

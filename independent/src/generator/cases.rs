@@ -51,8 +51,9 @@ impl Cases {
         let record = self.record();
         let random = &mut self.random;
         let call = match random.whole(0, 99) {
-            0..=69 => block(random, &record),
-            70..=77 => Call::Change(settings(random)),
+            0..=59 => block(random, &record),
+            60..=69 => Call::Midi(midi(random)),
+            70..=77 => Call::Change(change(random, &record)),
             78..=84 => Call::Reset,
             85..=93 => Call::Meter,
             94..=96 => Call::Start(settings(random)),
@@ -151,14 +152,21 @@ fn reach(random: &mut Random, reached: &mut Vec<Record>) {
             .gliding(period * random.real(0.97, 1.03));
         let sung = sing(&passage, &mut phase, random);
         for samples in sung.chunks(random.whole(1, LONGEST_BLOCK)) {
-            let call = Call::Block {
+            let block = Call::Block {
                 number,
                 samples: samples.to_vec(),
                 out: vec![0; samples.len()],
             };
-            let left = made(&bytes_of(record.bytes()), &call);
-            assert_eq!(left.number, 0, "a take that is played is taken");
-            record = Record::of_bytes(&bytes_of(left.record));
+            // A key of the table or beside it, and bytes that may release it.
+            let status = 144 + record.settings.channel as u8;
+            let key = random.whole(28, 104) as u8;
+            let struck = [vec![status, key, 100], midi(random)].concat();
+            let played = random.one_of(&[0, 0, 3, struck.len()]);
+            for call in [Call::Midi(struck[..played].to_vec()), block] {
+                let left = made(&bytes_of(record.bytes()), &call);
+                assert_eq!(left.number, 0, "a take that is played is taken");
+                record = Record::of_bytes(&bytes_of(left.record));
+            }
             number = number.wrapping_add(1);
             if random.chance(150) {
                 reached.push(record.clone());
@@ -175,13 +183,17 @@ fn settings(random: &mut Random) -> Settings {
         eps: random.whole(0, 409) as u32,
         decay: random.whole(0, 255) as u32,
         floor: random.one_of(&[1, 100, 1_000, 1_000_000]),
+        mode: random.one_of(&[0, 1]),
+        channel: random.one_of(&[0, 0, 1, 9, 15]),
     };
     for _ in 0..random.one_of(&[0, 0, 0, 1, 3]) {
-        match random.whole(0, 4) {
+        match random.whole(0, 6) {
             0 => settings.scale = random.one_of(&[0, 1, 4_095, 4_096, u32::MAX]),
             1 => settings.eps = random.one_of(&[0, 409, 410, u32::MAX]),
             2 => settings.decay = random.one_of(&[0, 255, 256, u32::MAX]),
             3 => settings.floor = random.one_of(&[0, 1, 1_000_000, 1_000_001, u32::MAX]),
+            4 => settings.mode = random.one_of(&[0, 1, 2, 256, u32::MAX]),
+            5 => settings.channel = random.one_of(&[0, 15, 16, 256, u32::MAX]),
             _ => settings.eps = random.next() as u32,
         }
     }
@@ -191,13 +203,49 @@ fn settings(random: &mut Random) -> Settings {
     settings
 }
 
+/// Some settings; half of the time the record's own but for a few of them.
+fn change(random: &mut Random, record: &Record) -> Settings {
+    let (new, old) = (settings(random), record.settings);
+    match random.whole(0, 5) {
+        0 => Settings {
+            mode: new.mode,
+            ..old
+        },
+        1 => Settings {
+            channel: new.channel,
+            ..old
+        },
+        2 => Settings {
+            mode: old.mode,
+            channel: old.channel,
+            ..new
+        },
+        _ => new,
+    }
+}
+
+/// Bytes of a keyboard: whole messages, cut ones, or any bytes.
+fn midi(random: &mut Random) -> Vec<u8> {
+    let length = random.one_of(&[0, 1, 1, 2, 3, 5, 9, 40, MOST]);
+    let few = [0, 1, 31, 32, 60, 62, 100, 101, 127];
+    let kind = random.whole(0, 3);
+    let byte = |random: &mut Random| match random.whole(0, 9) {
+        0..=6 if kind > 0 => random.one_of(&few),
+        7 if kind > 0 => random.one_of(&[128, 144, 144, 145, 159]),
+        8 if kind > 1 => random.one_of(&[160, 176, 192, 208, 223, 224, 239]),
+        9 if kind > 1 => random.one_of(&[240, 241, 244, 246, 247, 248, 254, 255]),
+        _ => random.next() as u8,
+    };
+    (0..length).map(|_| byte(random)).collect()
+}
+
 /// One number of the record altered, most often to the edge of its range.
 fn alter(random: &mut Random, record: &mut Record) {
     let place = random.whole(0, LONGEST_BLOCK - 1);
     let few = random.whole(0, 2) as i64 - 1;
     // Past 32 bits, the rest as it was or 0: what lost high bits would make right.
     let high = random.next() << 32;
-    match random.whole(0, 27) {
+    match random.whole(0, 31) {
         0 => record.settings = settings(random),
         1 => record.count = random.one_of(&[0, 1, 7, 8, 1_763, 1_764, 1_765, 1_791, 1_792]),
         2 => record.count = random.one_of(&[999_999_999, 1_000_000_000, 1_000_000_001, u64::MAX]),
@@ -206,7 +254,7 @@ fn alter(random: &mut Random, record: &mut Record) {
         5 | 6 => record.tracking = random.one_of(&[0, 1, 2, 3, 255, 256, 1 << 31, u32::MAX]),
         7 => record.period = random.one_of(&[0, 1, 4_095, 4_096, 225_280, 225_281, u32::MAX]),
         8 => record.period = random.whole(4_096, 225_280) as u32,
-        9 => record.note = random.one_of(&[0, 31, 32, 69, 100, 101, u32::MAX]),
+        9 => record.note = random.one_of(&[0, 31, 32, 69, 100, 101, 127, 128, 129, u32::MAX]),
         10 => record.rate = random.one_of(&[0, 32_767, 32_768, 65_536, 131_072, 131_073, u32::MAX]),
         11 => record.rate = random.whole(32_768, 131_072) as u32,
         12 => record.low = random.one_of(&[0, 15, 16, 17, 872, 873, 874, 881, u32::MAX]),
@@ -233,6 +281,10 @@ fn alter(random: &mut Random, record: &mut Record) {
         24 => record.layout = random.one_of(&[0, LAYOUT - 1, LAYOUT + 1, BEGINNING_OF_OLD, high]),
         25 => record.count = random.one_of(&[high, record.count | high]),
         26 => record.behind = random.one_of(&[high, record.behind | high]),
+        27 => record.key = random.one_of(&[0, 31, 32, 60, 100, 101, 127, 128, 129, 256, u32::MAX]),
+        28 => record.status = random.one_of(&[0, 1, 127, 128, 144, 145, 191, 192, 223, 224]),
+        29 => record.status = random.one_of(&[239, 240, 255, 256, 400, u16::MAX]),
+        30 => record.half = random.one_of(&[0, 60, 127, 128, 129, 255, 256, u16::MAX]),
         _ => {
             let place = random.whole(0, 108);
             record.energies[place] = record.energies[place].wrapping_add_signed(few);

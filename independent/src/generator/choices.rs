@@ -2,6 +2,7 @@
 //! good and bad fields in turn.
 
 use super::random::Random;
+use super::script::Moment;
 
 /// The values of a field that are good, and those that are bad.
 type Field = (&'static [u32], &'static [u32]);
@@ -16,13 +17,13 @@ const FIELDS: [Field; 4] = [
 ];
 
 /// A change, then a start, with each of the 16 choices of bad fields.
-pub fn choice_line(random: &mut Random, place: usize, _: u16) -> Vec<u8> {
-    let (word, choice) = (["change", "start"][place % 2], place / 2);
+pub fn choice_line(random: &mut Random, moment: &Moment) -> Option<Vec<u8>> {
+    let (word, choice) = (["change", "start"][moment.place % 2], moment.place / 2);
     let mut line = word.to_string();
     for (field, (good, bad)) in FIELDS.iter().enumerate() {
         let is_bad = choice >> field & 1 == 1;
         let value = random.one_of(if is_bad { bad } else { good });
         line += &format!("\t{value}");
     }
-    line.into_bytes()
+    Some(line.into_bytes())
 }

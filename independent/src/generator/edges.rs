@@ -15,8 +15,20 @@ pub const BEGINNING_OF_OLD: u64 = 4_095 | 100 << 32;
 const GOOD: &[Alter] = &[
     |_| {},
     |record| *record = Record::fresh(Settings::DEFAULT),
-    |record| record.settings = settings([1, 0, 0, 1]),
-    |record| record.settings = settings([4_095, 409, 255, 1_000_000]),
+    |record| record.settings = settings([1, 0, 0, 1, 0, 0]),
+    |record| record.settings = settings([4_095, 409, 255, 1_000_000, 1, 15]),
+    |record| keyboard(record, (0, 128, 0)),
+    |record| keyboard(record, (127, 191, 127)),
+    |record| keyboard(record, (128, 224, 128)),
+    |record| keyboard(record, (60, 239, 1)),
+    |record| keyboard(record, (60, 192, 128)),
+    |record| keyboard(record, (60, 223, 128)),
+    |record| keyboard(record, (60, 0, 128)),
+    // In keyboard mode the note of the last step, and the key of the next.
+    |record| {
+        (record.settings.mode, record.settings.channel) = (1, 9);
+        keyboard(record, (101, 153, 60));
+    },
     |record| record.count = 1_000_000_000,
     |record| alone(record, |fresh| fresh.count = 1_763),
     |record| alone(record, |fresh| (fresh.count, fresh.store[0]) = (1_764, 1)),
@@ -27,8 +39,14 @@ const GOOD: &[Alter] = &[
     |record| (record.low, record.last) = (873, 880),
     |record| record.period = 4_096,
     |record| record.period = 225_280,
+    |record| record.note = 0,
+    |record| record.note = 31,
     |record| record.note = 32,
     |record| record.note = 100,
+    |record| record.note = 101,
+    |record| record.note = 127,
+    // No wanted note.
+    |record| record.note = 128,
     |record| record.rate = 32_768,
     |record| record.rate = 131_072,
     // Locking, and searching with any lags: a note without a period is not looked at.
@@ -62,6 +80,26 @@ const BAD: &[Alter] = &[
     |record| record.settings.decay = 256,
     |record| record.settings.floor = 0,
     |record| record.settings.floor = 1_000_001,
+    |record| record.settings.mode = 2,
+    |record| record.settings.mode = u32::MAX,
+    |record| record.settings.channel = 16,
+    |record| record.settings.channel = u32::MAX,
+    |record| keyboard(record, (129, 0, 128)),
+    |record| keyboard(record, (256, 0, 128)),
+    |record| keyboard(record, (u32::MAX, 0, 128)),
+    |record| keyboard(record, (60, 1, 128)),
+    |record| keyboard(record, (60, 127, 128)),
+    |record| keyboard(record, (60, 240, 128)),
+    |record| keyboard(record, (60, 256, 128)),
+    |record| keyboard(record, (60, 400, 128)),
+    |record| keyboard(record, (60, 144, 129)),
+    |record| keyboard(record, (60, 144, 255)),
+    |record| keyboard(record, (60, 144, 256)),
+    |record| keyboard(record, (60, 144, u16::MAX)),
+    // A half message under no status, and under one with a single data byte.
+    |record| keyboard(record, (60, 0, 60)),
+    |record| keyboard(record, (60, 192, 0)),
+    |record| keyboard(record, (60, 223, 127)),
     |record| record.count = 1_000_000_001,
     |record| record.count += PAST_32_BITS,
     |record| record.count = u64::MAX,
@@ -74,8 +112,8 @@ const BAD: &[Alter] = &[
     |record| record.period = 1,
     |record| record.period = 4_095,
     |record| record.period = 225_281,
-    |record| record.note = 31,
-    |record| record.note = 101,
+    |record| record.note = 129,
+    |record| record.note = u32::MAX,
     |record| record.rate = 32_767,
     |record| record.rate = 131_073,
     |record| (record.period, record.rate) = (0, 65_535),
@@ -115,13 +153,17 @@ const WRONG_SUMS: &[Alter] = &[
     |record| record.eighths[223] += 1,
 ];
 
-fn settings([scale, eps, decay, floor]: [u32; 4]) -> Settings {
+/// All six, in the record's order.
+fn settings([scale, eps, decay, floor, mode, channel]: [u32; 6]) -> Settings {
     Settings {
-        scale,
-        eps,
-        decay,
-        floor,
+        mode,
+        channel,
+        ..Settings::of([scale, eps, decay, floor])
     }
+}
+
+fn keyboard(record: &mut Record, (key, status, half): (u32, u16, u16)) {
+    (record.key, record.status, record.half) = (key, status, half);
 }
 
 fn searching(record: &mut Record) {
@@ -166,22 +208,47 @@ pub fn bytes_of(record: Vec<u8>) -> [u8; SIZE] {
     record.try_into().expect("a record's bytes")
 }
 
-/// Starts and changes with every choice of settings at both sides of each bound, over a record that is pitched.
-pub fn choices() -> Vec<(Record, Call)> {
-    let pitched = pitched();
-    let mut choices = Vec::new();
-    for scale in [0, 1, 4_095, 4_096] {
-        for eps in [409, 410] {
-            for decay in [255, 256] {
-                for floor in [0, 1, 1_000_000, 1_000_001] {
-                    let settings = settings([scale, eps, decay, floor]);
-                    choices.push((pitched.clone(), Call::Start(settings)));
-                    choices.push((pitched.clone(), Call::Change(settings)));
-                }
-            }
-        }
+/// Every choice of values, one of each row.
+fn one_of_each<const ROWS: usize>(rows: [&[u32]; ROWS]) -> Vec<[u32; ROWS]> {
+    let mut choices = vec![[0; ROWS]];
+    for (place, row) in rows.into_iter().enumerate() {
+        choices = choices
+            .into_iter()
+            .flat_map(|chosen| {
+                row.iter().map(move |&value| {
+                    let mut more = chosen;
+                    more[place] = value;
+                    more
+                })
+            })
+            .collect();
     }
     choices
+}
+
+/// Starts and changes with every choice of good and bad settings, and with each at either bound, over a record that is pitched and
+/// holds a key.
+pub fn choices() -> Vec<(Record, Call)> {
+    let mut pitched = pitched();
+    keyboard(&mut pitched, (60, 144, 62));
+    let rows: [&[u32]; 6] = [
+        &[4_095, 4_096],
+        &[409, 410],
+        &[255, 256],
+        &[1, 0],
+        &[1, 2],
+        &[15, 16],
+    ];
+    let mut chosen = one_of_each(rows);
+    chosen.extend([
+        [0, 409, 255, 1, 1, 0],
+        [1, 409, 255, 1_000_000, 0, 15],
+        [1, 409, 255, 1_000_001, 2, 16],
+        [1, 0, 0, 1, 1, 0],
+    ]);
+    let chosen = chosen.into_iter().map(settings);
+    let calls = chosen.flat_map(|chosen| [Call::Start(chosen), Call::Change(chosen)]);
+    calls.map(|call| (pitched.clone(), call)).collect()
 }
 
 /// The records, and whether each is good.
@@ -198,8 +265,8 @@ pub fn edges() -> Vec<(Record, bool)> {
     good.chain(bad).chain(wrong).collect()
 }
 
-/// Every call that reads the record: the next block and the last again, a change that is allowed and one of each that isn't, a reset,
-/// the meter.
+/// Every call that reads the record: the next block and the last again, changes that are allowed and one that isn't, bytes of
+/// the keyboard, a reset, the meter.
 pub fn calls_over(record: &Record) -> Vec<Call> {
     let length = usize::from(record.length).min(512);
     let block = |number, samples: &[i16]| Call::Block {
@@ -215,10 +282,11 @@ pub fn calls_over(record: &Record) -> Vec<Call> {
         block(next, &[1_000, -1_000, 500]),
         block(record.number, &record.store[record.store.len() - length..]),
         Call::Change(Settings::DEFAULT),
-        Call::Change(settings([0, 410, 256, 0])),
-        Call::Change(settings([1, 410, 256, 0])),
-        Call::Change(settings([1, 409, 256, 0])),
-        Call::Change(settings([1, 409, 255, 0])),
+        Call::Change(settings([0, 410, 256, 0, 2, 16])),
+        Call::Change(settings([1, 409, 255, 1, 1, record.settings.channel])),
+        Call::Midi(vec![]),
+        Call::Midi(vec![100]),
+        Call::Midi(vec![144, 60, 100, 62]),
         Call::Reset,
         Call::Meter,
     ]

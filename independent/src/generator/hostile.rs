@@ -1,19 +1,52 @@
 //! Lines at the edge of what can be read, on both sides of it.
 
 use super::random::Random;
+use super::script::Moment;
 use super::spoilt::{filled_line, SPOILT};
 use crate::lines::LONGEST_LINE;
 use crate::rules::LONGEST_BLOCK;
 
 /// A line of each record that would be taken, NEXT being the block's number.
 /// The block comes last, since its line grows with that number.
-const RECORDS: [&str; 4] = [
+const RECORDS: [&str; 7] = [
     "start\t4095\t100\t0\t100",
     "change\t4095\t100\t0\t100",
     "reset",
+    "mode\t1",
+    "channel\t0",
+    MIDI,
     BLOCK,
 ];
+const MIDI: &str = "midi\t144\t60\t100";
 const BLOCK: &str = "block\tNEXT\t12\t-345";
+
+/// Lines of the keyboard that cannot be read.
+const SPOILT_KEYBOARD: &[&[u8]] = &[
+    b"mode",
+    b"mode\t",
+    b"mode\t\t1",
+    b"mode\t0\t1",
+    b"mode 1",
+    b"mode\tkeyboard",
+    b"channel",
+    b"channel\t",
+    b"channel\t0\t0",
+    b"channel\t-1",
+    b"channels\t0",
+    b"midi",
+    b"midi\t",
+    b"midi\t\t144",
+    b"midi\t144\t\t100",
+    b"midi\t144\t60\t100\t",
+    b"midi\t256",
+    b"midi\t-0",
+    b"midi\t144\t60\t-100",
+    b"midi\t144\t60\t300",
+    b"midi\t0x90\t60\t100",
+    b"midi 144 60 100",
+    b"Midi\t144\t60\t100",
+    b"midi\t\x90\x3C\x64",
+];
 
 /// A field written in another way.
 type Odd = fn(&str) -> String;
@@ -40,7 +73,9 @@ const ODD_WORDS: &[Odd] = &[
 ];
 
 /// Words in another's place; what they make may be read.
-const OTHER_WORDS: &[&str] = &["", "0", "stop", "start", "change", "block", "reset"];
+const OTHER_WORDS: &[&str] = &[
+    "", "0", "stop", "start", "change", "block", "reset", "mode", "channel", "midi",
+];
 
 const ODD_NUMBERS: &[Odd] = &[
     // Signs.
@@ -99,6 +134,11 @@ const OTHER_NUMBERS: &[&str] = &[
     "+",
     "0",
     "1",
+    "2",
+    "15",
+    "16",
+    "127",
+    "128",
     "255",
     "256",
     "409",
@@ -187,7 +227,8 @@ fn added(number: &str, more: i128) -> String {
 
 /// Every hostile line that is not left to chance.
 fn corpus(next: u16) -> Vec<Hostile> {
-    let mut corpus: Vec<Hostile> = SPOILT.iter().map(|line| Hostile::Plain(line)).collect();
+    let spoilt = SPOILT.iter().chain(SPOILT_KEYBOARD);
+    let mut corpus: Vec<Hostile> = spoilt.map(|line| Hostile::Plain(line)).collect();
     for record in RECORDS {
         for place in 0..record.split('\t').count() {
             let (odd, others) = match place {
@@ -200,9 +241,18 @@ fn corpus(next: u16) -> Vec<Hostile> {
         }
     }
     let full = ["block\tNEXT", &"\t-12345".repeat(LONGEST_BLOCK)].concat();
+    let many = ["midi\t144", &"\t6\t7\t6\t0".repeat(1_022)].concat();
     for length in LONGEST_LINE - 2..=LONGEST_LINE + 2 {
         corpus.push(Hostile::Zeros(length));
-        for (record, place) in [(RECORDS[1], 4), (BLOCK, 1), (BLOCK, 3), (&full, 1)] {
+        let records = [
+            (RECORDS[1], 4),
+            (MIDI, 3),
+            (&many, 1),
+            (BLOCK, 1),
+            (BLOCK, 3),
+            (&full, 1),
+        ];
+        for (record, place) in records {
             corpus.push(Hostile::Long(record.to_string(), place, length));
         }
     }
@@ -214,20 +264,21 @@ fn corpus(next: u16) -> Vec<Hostile> {
 }
 
 /// One line of the corpus after the other, each followed by one by chance.
-pub fn hostile_line(random: &mut Random, place: usize, next: u16) -> Vec<u8> {
+pub fn hostile_line(random: &mut Random, moment: &Moment) -> Option<Vec<u8>> {
+    let &Moment { place, next, .. } = moment;
     if !place.is_multiple_of(2) {
-        return line_by_chance(random, next);
+        return Some(line_by_chance(random, next));
     }
     let corpus = corpus(next);
-    corpus[place / 2 % corpus.len()].line(next)
+    Some(corpus[place / 2 % corpus.len()].line(next))
 }
 
 /// Any bytes, ends of lines among them; pieces of records; or a record that
 /// would be taken, but for one byte.
 fn line_by_chance(random: &mut Random, next: u16) -> Vec<u8> {
     const PIECES: &[&str] = &[
-        "start", "change", "block", "reset", "\t", "\t", "\t", "0", "7", "65535", "-", " ", "\r",
-        "\0", "\n",
+        "start", "change", "block", "reset", "mode", "channel", "midi", "\t", "\t", "\t", "\t",
+        "\t", "0", "7", "144", "65535", "-", " ", "\r", "\0", "\n",
     ];
     match random.whole(0, 2) {
         0 => {
@@ -255,11 +306,11 @@ fn line_by_chance(random: &mut Random, next: u16) -> Vec<u8> {
 
 /// Lines that are too long; one in a hundred, the first among them, has a
 /// million bytes.
-pub fn endless_line(random: &mut Random, place: usize, next: u16) -> Vec<u8> {
-    let length = match place % 100 {
+pub fn endless_line(random: &mut Random, moment: &Moment) -> Option<Vec<u8>> {
+    let length = match moment.place % 100 {
         0 => 1_000_000,
         _ => LONGEST_LINE + random.whole(1, 2_000),
     };
     let place = random.whole(1, 3);
-    Hostile::Long(BLOCK.to_string(), place, length).line(next)
+    Some(Hostile::Long(BLOCK.to_string(), place, length).line(moment.next))
 }

@@ -2,7 +2,9 @@
 
 use super::choices::choice_line;
 use super::hostile::{endless_line, hostile_line};
+use super::player;
 use super::random::Random;
+use super::script::Moment;
 use super::sound::{period_of_note, Passage, Wave};
 use crate::table::{HIGHEST_NOTE, LOWEST_NOTE};
 
@@ -12,9 +14,8 @@ const FULL: f64 = 32_768.0;
 /// A passage by chance and by its place in the script.
 type Singing = fn(&mut Random, usize) -> Passage;
 
-/// A line after a block, by chance, by its place among such lines and for the
-/// number that would be taken next.
-type Following = fn(&mut Random, usize, u16) -> Vec<u8>;
+/// Lines after a block, if there are any, by chance and by what then stands.
+type Following = fn(&mut Random, &Moment) -> Option<Vec<u8>>;
 
 pub struct Kind {
     pub name: &'static str,
@@ -22,6 +23,8 @@ pub struct Kind {
     pub singing: Singing,
     /// The settings that it starts with, if they are not left to chance.
     pub settings: Option<&'static str>,
+    /// Whether it begins in keyboard mode.
+    pub keyboard: bool,
     /// The lengths of blocks, least and most.
     pub lengths: (usize, usize),
     /// So many times in a thousand a block is followed by settings to take.
@@ -32,7 +35,7 @@ pub struct Kind {
     pub trouble: usize,
     /// So many times in a thousand by a line that cannot be read.
     pub unreadable: usize,
-    /// What follows each block, if anything does.
+    /// What may follow each block.
     pub following: Option<Following>,
 }
 
@@ -42,12 +45,23 @@ const fn kind(name: &'static str, meaning: &'static str, singing: Singing) -> Ki
         meaning,
         singing,
         settings: None,
+        keyboard: false,
         lengths: (1, 512),
         changes: 20,
         resets: 0,
         trouble: 0,
         unreadable: 0,
         following: None,
+    }
+}
+
+/// A kind in keyboard mode.
+const fn played(name: &'static str, meaning: &'static str, singing: Singing) -> Kind {
+    Kind {
+        settings: Some("4095\t409\t0\t1"),
+        keyboard: true,
+        changes: 0,
+        ..kind(name, meaning, singing)
     }
 }
 
@@ -125,6 +139,50 @@ pub const KINDS: &[Kind] = &[
         ..kind("mixed", "all of these", any)
     },
     Kind {
+        settings: Some("4095\t150\t0\t10"),
+        lengths: (64, 64),
+        following: Some(player::melody),
+        ..played("melody", "a held tone drawn to a played melody", held)
+    },
+    Kind {
+        lengths: (1, 200),
+        changes: 20,
+        resets: 10,
+        trouble: 30,
+        following: Some(player::beside),
+        ..played("played", "a player beside the singer", vibrato)
+    },
+    Kind {
+        lengths: (1, 100),
+        following: Some(player::octaves),
+        ..played("octaves", "keys an octave from the singing", in_tune)
+    },
+    Kind {
+        lengths: (1, 200),
+        following: Some(player::outside),
+        ..played("outside", "keys outside the table", tones)
+    },
+    Kind {
+        lengths: (1, 4),
+        following: Some(player::trill),
+        ..played("trill", "keys struck and released between steps", vibrato)
+    },
+    Kind {
+        lengths: (1, 60),
+        resets: 10,
+        trouble: 20,
+        unreadable: 20,
+        following: Some(player::pieces),
+        ..played("pieces", "keyboard messages cut anywhere", vibrato)
+    },
+    Kind {
+        lengths: (1, 60),
+        changes: 20,
+        resets: 5,
+        following: Some(player::any_bytes),
+        ..played("bytes", "any keyboard bytes, modes and channels", vibrato)
+    },
+    Kind {
         settings: Some("4095\t409\t0\t1"),
         lengths: (1, 4),
         changes: 0,
@@ -172,6 +230,27 @@ fn tones(random: &mut Random, place: usize) -> Passage {
     Passage::of(voice(random, 1.0), period, length)
         .loud(random.real(500.0, FULL))
         .breathy(random.one_of(&[0.0, 0.0, 20.0, 200.0]))
+}
+
+/// One tone among the keys of the melody, as long as the melody.
+fn held(random: &mut Random, _: usize) -> Passage {
+    let period = period_of_note(random.whole(58, 61), random.real(-50.0, 50.0));
+    let length = 64 * player::TONE * player::MELODY.len();
+    Passage::of(voice(random, 1.0), period, length)
+        .swinging(random.real(0.001, 0.008), random.real(3_000.0, 8_000.0))
+        .loud(random.real(200.0, 400.0))
+}
+
+/// Slowly through the period of a note, most often one of those whose octaves
+/// come nearest to the bounds of the raw rate.
+fn in_tune(random: &mut Random, _: usize) -> Passage {
+    let highest = random.one_of(&[64, 64, 99]);
+    let period = period_of_note(random.whole(33, highest), 0.0);
+    let past = random.one_of(&[0.9993, 1.0007]);
+    let length = random.whole(3_000, 6_000);
+    Passage::of(voice(random, 1.0), period * past, length)
+        .gliding(period / past)
+        .loud(random.real(5_000.0, 30_000.0))
 }
 
 /// Ends a little past the lags 16 and 880, so that the eight are stopped.

@@ -9,6 +9,7 @@ pub mod edges;
 mod hostile;
 pub mod kinds;
 pub mod night;
+mod player;
 mod random;
 pub mod script;
 mod sound;

@@ -32,7 +32,14 @@ pub const NIGHT: &[(&str, u64, usize)] = &[
     ("rough", 6, 16_000),
     ("unreadable", 52, 2_000),
     ("mixed", 70, 8_000),
-    ("hostile", 29, 5_500),
+    ("melody", 36, 5_000),
+    ("played", 14, 4_000),
+    ("octaves", 433, 6_000),
+    ("outside", 1, 4_000),
+    ("trill", 36, 2_000),
+    ("pieces", 24, 4_000),
+    ("bytes", 36, 3_000),
+    ("hostile", 29, 8_600),
 ];
 
 /// Each script begins anew, and the last line lacks its end.

@@ -25,6 +25,7 @@ pub fn write_script(
         to,
         sung: Vec::new(),
         phase: 0.0,
+        period: 0.0,
         followed: 0,
         last: None,
     };
@@ -38,6 +39,16 @@ pub fn write_script(
         script.between_blocks()?;
     }
     script.close()
+}
+
+/// What stands when a block was sent and something may follow it.
+pub struct Moment {
+    /// The place among such moments.
+    pub place: usize,
+    /// The number that would be taken next.
+    pub next: u16,
+    /// The period with which the passage that is sung began, in samples.
+    pub period: f64,
 }
 
 /// The same in memory.
@@ -54,9 +65,11 @@ struct Script<'a, W> {
     /// Sung and not yet sent.
     sung: Vec<i16>,
     phase: f64,
+    /// The period with which the last passage began.
+    period: f64,
     /// The place of the next passage; seeds begin at other ones.
     passages: usize,
-    /// Lines sent by what follows each block.
+    /// How often something might follow a block.
     followed: usize,
     /// The last block that was taken.
     last: Option<(u16, Vec<i16>)>,
@@ -67,9 +80,13 @@ impl<W: Write> Script<'_, W> {
     /// unless its kind has its own.
     fn open(&mut self) -> io::Result<()> {
         match self.kind.settings {
-            Some(settings) => self.send(format!("start\t{settings}").as_bytes()),
-            None if self.random.chance(250) => Ok(()),
-            None => self.send_settings("start"),
+            Some(settings) => self.send(format!("start\t{settings}").as_bytes())?,
+            None if self.random.chance(250) => {}
+            None => self.send_settings("start")?,
+        }
+        match self.kind.keyboard {
+            true => self.send(b"mode\t1"),
+            false => Ok(()),
         }
     }
 
@@ -98,10 +115,15 @@ impl<W: Write> Script<'_, W> {
             self.send(&line)?;
         }
         if let Some(following) = self.kind.following {
-            let next = self.next();
-            let line = following(&mut self.random, self.followed, next);
+            let moment = Moment {
+                place: self.followed,
+                next: self.next(),
+                period: self.period,
+            };
             self.followed += 1;
-            self.send(&line)?;
+            if let Some(line) = following(&mut self.random, &moment) {
+                self.send(&line)?;
+            }
         }
         Ok(())
     }
@@ -111,6 +133,7 @@ impl<W: Write> Script<'_, W> {
         while self.sung.len() < length {
             let passage = (self.kind.singing)(&mut self.random, self.passages);
             self.passages += 1;
+            self.period = passage.from;
             let more = sing(&passage, &mut self.phase, &mut self.random);
             self.sung.extend(more);
         }
