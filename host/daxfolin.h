@@ -10,11 +10,11 @@
  * or host/build program.c OUT for both, also where the processor is another one (docs/HOST.md).
  *
  * What the proof takes for granted of the caller, as C cannot say it:
- * - a record is lent at an address that is a multiple of 8, all its 6944 bytes readable and, but for daxfolin_meter, writable;
+ * - a record is lent at an address that is a multiple of 8, all its 6960 bytes readable and, but for daxfolin_meter, writable;
  *   daxfolin_start and daxfolin_start_default write them all and read none, so there it may be fresh memory;
- * - `samples` and `out` stand at even addresses, with as many samples behind them as the length beside them says; of a length of 0
- *   nothing is read or written;
- * - record, samples and out do not overlap, and during a call nobody else touches them. Calls on different records may run at once. */
+ * - `samples` and `out` stand at even addresses, with as many samples behind them as the length beside them says, and `bytes` anywhere,
+ *   likewise; of a length of 0 nothing is read or written;
+ * - record, samples, out and bytes do not overlap, and during a call nobody else touches them. Calls on different records may run at once. */
 #ifndef DAXFOLIN_H
 #define DAXFOLIN_H
 
@@ -25,39 +25,53 @@
 extern "C" {
 #endif
 
-#define DAXFOLIN_VERSION 4u                /* of these calls: what daxfolin_version() answers */
-#define DAXFOLIN_LAYOUT 20003u             /* of the record: what stands first in it */
+#define DAXFOLIN_VERSION 5u                /* of these calls: what daxfolin_version() answers */
+#define DAXFOLIN_LAYOUT 20004u             /* of the record: what stands first in it */
 #define DAXFOLIN_LONGEST_BLOCK 512u        /* samples of a block */
 #define DAXFOLIN_LONGEST_TAKE 1000000000u  /* samples of a take */
 
 /* The answers. After a refusal, any number from 2 on, the record is as it was, and so is every sample of the output; but a start that
- * is refused (8, 11, 12 or 13) leaves the default tuner in the record, and what that held is gone. Of settings the first bad one is
- * named, in the order scale, eps, decay, floor. 10 answers lines that cannot be read, and so none of these calls. */
+ * is refused (8, 11 to 15) leaves the default tuner in the record, and what that held is gone. Of settings the first bad one is named,
+ * in the order scale, eps, decay, floor, channel, mode. 10 answers lines that cannot be read, and so none of these calls. */
 enum {
-    DAXFOLIN_TAKEN = 0,               /* taken: start, change, block or reset */
-    DAXFOLIN_GIVEN_AGAIN = 1,         /* the last block's number, length and samples: the same counts and output again, record unchanged */
+    DAXFOLIN_TAKEN = 0,                 /* taken: start, change, keyboard bytes, block or reset */
+    DAXFOLIN_GIVEN_AGAIN = 1,           /* the last block's number, length and samples: the same counts and output again, record unchanged */
     DAXFOLIN_BLOCK_EMPTY = 2,
     DAXFOLIN_BLOCK_OVER_512 = 3,
-    DAXFOLIN_OUTPUT_SHORT = 4,        /* shorter than the block */
-    DAXFOLIN_NUMBER_NEITHER = 5,      /* neither the next number nor the last taken */
-    DAXFOLIN_OTHER_SAMPLES = 6,       /* the last taken number, other length or samples */
-    DAXFOLIN_TAKE_FULL = 7,           /* the take would pass 1,000,000,000 samples */
-    DAXFOLIN_SCALE_OUT_OF_RANGE = 8,  /* 0, or over 4095; here and below, a change leaves the record as it was, a start the default tuner */
-    DAXFOLIN_RECORD_OUT_OF_RANGE = 9, /* a number of the record is out of its range (docs/RANGES.md), its layout's among them */
-    DAXFOLIN_EPS_OUT_OF_RANGE = 11,   /* over 409 */
-    DAXFOLIN_DECAY_OUT_OF_RANGE = 12, /* over 255 */
-    DAXFOLIN_FLOOR_OUT_OF_RANGE = 13  /* 0, or over 1,000,000 */
+    DAXFOLIN_OUTPUT_SHORT = 4,          /* shorter than the block */
+    DAXFOLIN_NUMBER_NEITHER = 5,        /* neither the next number nor the last taken */
+    DAXFOLIN_OTHER_SAMPLES = 6,         /* the last taken number, other length or samples */
+    DAXFOLIN_TAKE_FULL = 7,             /* the take would pass 1,000,000,000 samples */
+    DAXFOLIN_SCALE_OUT_OF_RANGE = 8,    /* 0, or over 4095; here and from 11 on, a change leaves the record as it was, a start the default tuner */
+    DAXFOLIN_RECORD_OUT_OF_RANGE = 9,   /* a number of the record is out of its range (docs/RANGES.md), its layout's among them */
+    DAXFOLIN_EPS_OUT_OF_RANGE = 11,     /* over 409 */
+    DAXFOLIN_DECAY_OUT_OF_RANGE = 12,   /* over 255 */
+    DAXFOLIN_FLOOR_OUT_OF_RANGE = 13,   /* 0, or over 1,000,000 */
+    DAXFOLIN_CHANNEL_OUT_OF_RANGE = 14, /* over 15 */
+    DAXFOLIN_MODE_UNKNOWN = 15          /* over 1 */
 };
 
+/* The modes: whose note is wanted. */
+enum { DAXFOLIN_SCALE_MODE = 0, DAXFOLIN_KEYBOARD_MODE = 1 };
+
 typedef struct daxfolin_settings {
-    uint32_t scale; /* 1 to 4095: a mask of 12 bits, bit = note number mod 12 */
-    uint32_t eps;   /* 0 to 409, in 1/1024 */
-    uint32_t decay; /* 0 to 255, in 1/256 */
-    uint32_t floor; /* 1 to 1,000,000: a mean square */
+    uint32_t scale;   /* 1 to 4095: a mask of 12 bits, bit = note number mod 12 */
+    uint32_t eps;     /* 0 to 409, in 1/1024 */
+    uint32_t decay;   /* 0 to 255, in 1/256 */
+    uint32_t floor;   /* 1 to 1,000,000: a mean square */
+    uint32_t mode;    /* 0: the nearest note of the scale is wanted; 1: the key that is held on the keyboard */
+    uint32_t channel; /* 0 to 15: the keyboard's */
 } daxfolin_settings;
 
 /* What daxfolin_start_default starts with: `daxfolin_settings settings = DAXFOLIN_DEFAULTS;`. */
-#define DAXFOLIN_DEFAULTS {4095, 100, 0, 100}
+#define DAXFOLIN_DEFAULTS {4095, 100, 0, 100, 0, 0}
+
+/* What the keyboard's bytes left. */
+typedef struct daxfolin_keyboard {
+    uint32_t key;    /* the latest note on, until it is released: 0 to 127; 128: none */
+    uint16_t status; /* the running status, 128 to 239; 0: none */
+    uint16_t half;   /* the first data byte of a message that lacks its second, 0 to 127; 128: none */
+} daxfolin_keyboard;
 
 /* What was heard of the take. */
 typedef struct daxfolin_heard {
@@ -78,7 +92,7 @@ typedef struct daxfolin_tracker {
 
 typedef struct daxfolin_tone {
     uint32_t period; /* in 1/256 sample; 0: no period */
-    uint32_t note;   /* the wanted note */
+    uint32_t note;   /* the wanted note, 0 to 127, chosen at the last tracking step; 128: none */
     uint32_t rate;   /* in 1/65536 */
 } daxfolin_tone;
 
@@ -108,6 +122,7 @@ typedef struct daxfolin_last {
 typedef struct daxfolin_record {
     uint64_t layout; /* DAXFOLIN_LAYOUT */
     daxfolin_settings settings;
+    daxfolin_keyboard keyboard;
     daxfolin_heard heard;
     daxfolin_pitch pitch;
     daxfolin_head head;
@@ -129,7 +144,7 @@ typedef struct daxfolin_shown {
     uint32_t state;
     float lag;    /* locking: the found lag, in samples */
     float period; /* pitched: in samples */
-    float wanted; /* pitched: the wanted period, in samples */
+    float wanted; /* pitched: the wanted period, in samples; 0 where no key is held, or one outside the table of notes 32 to 100 */
     float rate;   /* pitched: as a ratio */
 } daxfolin_shown;
 
@@ -145,7 +160,8 @@ typedef struct daxfolin_stretch {
 #define DAXFOLIN_SAME(a, b) _Static_assert((a) == (b), "layout")
 #endif
 /* The record's parts lie one after the other, and so do the numbers of each: no padding. */
-DAXFOLIN_SAME(sizeof(daxfolin_settings), 4 * 4);
+DAXFOLIN_SAME(sizeof(daxfolin_settings), 6 * 4);
+DAXFOLIN_SAME(sizeof(daxfolin_keyboard), 4 + 2 * 2);
 DAXFOLIN_SAME(sizeof(daxfolin_heard), 8 + 109 * 8 + 109 * 8 + 1764 * 2 + 224 * 2);
 DAXFOLIN_SAME(sizeof(daxfolin_tracker), 4 + 4 + 8 * 8 + 8 * 8);
 DAXFOLIN_SAME(sizeof(daxfolin_tone), 3 * 4);
@@ -153,11 +169,12 @@ DAXFOLIN_SAME(sizeof(daxfolin_pitch), 136 + 12 + 4);
 DAXFOLIN_SAME(sizeof(daxfolin_head), 8);
 DAXFOLIN_SAME(sizeof(daxfolin_last), 4 * 2 + 512 * 2);
 DAXFOLIN_SAME(offsetof(daxfolin_record, settings), 8);
-DAXFOLIN_SAME(offsetof(daxfolin_record, heard), 24);
-DAXFOLIN_SAME(offsetof(daxfolin_record, pitch), 5752);
-DAXFOLIN_SAME(offsetof(daxfolin_record, head), 5904);
-DAXFOLIN_SAME(offsetof(daxfolin_record, last), 5912);
-DAXFOLIN_SAME(sizeof(daxfolin_record), 6944);
+DAXFOLIN_SAME(offsetof(daxfolin_record, keyboard), 32);
+DAXFOLIN_SAME(offsetof(daxfolin_record, heard), 40);
+DAXFOLIN_SAME(offsetof(daxfolin_record, pitch), 5768);
+DAXFOLIN_SAME(offsetof(daxfolin_record, head), 5920);
+DAXFOLIN_SAME(offsetof(daxfolin_record, last), 5928);
+DAXFOLIN_SAME(sizeof(daxfolin_record), 6960);
 DAXFOLIN_SAME(sizeof(daxfolin_answer), 12);
 DAXFOLIN_SAME(sizeof(daxfolin_shown), 20);
 DAXFOLIN_SAME(sizeof(size_t), 8);
@@ -166,23 +183,27 @@ DAXFOLIN_SAME(sizeof(size_t), 8);
 /* The version of these calls: DAXFOLIN_VERSION. */
 uint32_t daxfolin_version(void);
 
-/* A fresh tuner with these settings. 0; or the number of the first bad setting (8, 11, 12, 13), and the record is not as it was: it is
+/* A fresh tuner with these settings. 0; or the number of the first bad setting (8, 11 to 15), and the record is not as it was: it is
  * the default tuner. */
 uint32_t daxfolin_start(daxfolin_record *record, daxfolin_settings settings);
 
 /* A fresh tuner with the default settings. 0. */
 uint32_t daxfolin_start_default(daxfolin_record *record);
 
-/* New settings, which count from the next sample. 0; or 9, then the number of the first bad setting (8, 11, 12, 13), and the record is
- * as it was. */
+/* New settings, which count from the next sample; another channel than the one in force forgets the key, the running status and any
+ * half message. 0; or 9, then the number of the first bad setting (8, 11 to 15), and the record is as it was. */
 uint32_t daxfolin_change(daxfolin_record *record, daxfolin_settings settings);
+
+/* Bytes of a keyboard, MIDI 1.0, between blocks: any bytes, cut anywhere, and in both modes. The key that they leave counts from the
+ * next tracking step. 0, of no bytes too; or 9, and the record is as it was. */
+uint32_t daxfolin_midi(daxfolin_record *record, const uint8_t *bytes, size_t length);
 
 /* Block `number` of the take (the first is 0, and 65535 is followed by 0): 1 to 512 samples in, as many out; samples of `out` past
  * them are never touched. Answers 0, or 1, or a refusal: 9, 2, 3, 4, then 5 or 6 (or the repeat, 1), then 7. */
 daxfolin_answer daxfolin_block(daxfolin_record *record, uint16_t number, const int16_t *samples, size_t samples_length, int16_t *out,
                                size_t out_length);
 
-/* Settings kept, everything else fresh. 0; or 9, and the record is as it was. */
+/* Settings kept, everything else fresh, the key, the running status and any half message forgotten. 0; or 9, and the record is as it was. */
 uint32_t daxfolin_reset(daxfolin_record *record);
 
 /* What the meter shows: searching; or locking; or pitched; or refused, of a record that the other calls answer 9. */

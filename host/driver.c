@@ -1,14 +1,15 @@
 /* Makes the calls that standard input asks for, one after the other, and writes what each left: for a program that compares, and
  * cannot link the library itself. Every buffer stands between guards; a touched guard or sample in is an answer of its own.
  *
- * Asked:    call, number, two lengths, settings, two numbers for a cut (`asked`), then the record, the samples and the output as they are.
+ * Asked:    call, number, two lengths, settings, two numbers for a cut (`asked`), then the record, the samples and the output as they
+ *           are; bytes of the keyboard stand in the place of samples, the first length being theirs.
  * Answered: number and counts, the meter, a stretch, whether something else was touched (`said`), then the record and the output. */
 #include "daxfolin.h"
 #include <stdio.h>
 #include <stdlib.h>
 #include <string.h>
 
-enum { START, START_DEFAULT, CHANGE, BLOCK, RESET, METER, CUT, VERSION };
+enum { START, START_DEFAULT, CHANGE, BLOCK, RESET, METER, CUT, VERSION, MIDI };
 enum { GUARD = 64, MOST = 4096 };
 
 struct asked {
@@ -53,15 +54,17 @@ static void answer(struct said *said, daxfolin_answer a) {
     said->number = a.number, said->written = a.written, said->repeated = a.repeated, said->dropped = a.dropped;
 }
 
-/* The header's names stand where the library writes: a tuner after its first block. */
+/* The header's names stand where the library writes: a tuner after a key and its first block. */
 static int misnamed(void) {
     static daxfolin_record t;
-    daxfolin_settings settings = {1, 2, 3, 4};
+    daxfolin_settings settings = {1, 2, 3, 4, 1, 6};
+    uint8_t bytes[4] = {150, 60, 100, 62};
     int16_t block[3] = {1000, -1000, 500}, room[3];
-    if (daxfolin_start(&t, settings) || daxfolin_block(&t, 0, block, 3, room, 3).number) return 1;
-    return t.layout != DAXFOLIN_LAYOUT || memcmp(&t.settings, &settings, sizeof settings) || t.heard.count != 3 ||
-           memcmp(t.heard.store + 1761, block, sizeof block) || t.pitch.tone.rate != 65536 || t.pitch.tracking || t.head.behind ||
-           t.last.length != 3 || memcmp(t.last.out, room, sizeof room);
+    if (daxfolin_start(&t, settings) || daxfolin_midi(&t, bytes, 4) || daxfolin_block(&t, 0, block, 3, room, 3).number) return 1;
+    return t.layout != DAXFOLIN_LAYOUT || memcmp(&t.settings, &settings, sizeof settings) || t.keyboard.key != 60 ||
+           t.keyboard.status != 150 || t.keyboard.half != 62 || t.heard.count != 3 ||
+           memcmp(t.heard.store + 1761, block, sizeof block) || t.pitch.tone.note != 128 || t.pitch.tone.rate != 65536 ||
+           t.pitch.tracking || t.head.behind || t.last.length != 3 || memcmp(t.last.out, room, sizeof room);
 }
 
 int main(void) {
@@ -75,7 +78,7 @@ int main(void) {
         memset(in, FILL, sizeof in);
         memset(out, FILL, sizeof out);
         get(&lent.record, sizeof lent.record);
-        get(in + GUARD, 2 * samples_length);
+        get(in + GUARD, asked.call == MIDI ? samples_length : 2 * samples_length);
         get(out + GUARD, 2 * out_length);
         memcpy(in_was, in, sizeof in);
         switch (asked.call) {
@@ -90,6 +93,7 @@ int main(void) {
             said.from = stretch.from, said.count = stretch.count;
             break;
         }
+        case MIDI: said.number = daxfolin_midi(&lent.record, (uint8_t *)(in + GUARD), samples_length); break;
         case VERSION: said.number = daxfolin_version(); break;
         default: return 2;
         }

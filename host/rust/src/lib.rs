@@ -21,20 +21,20 @@
 use std::fmt;
 
 /// The version of the calls.
-pub const VERSION: u32 = 4;
+pub const VERSION: u32 = 5;
 /// The number of the record's layout, which stands first in it.
-pub const LAYOUT: u64 = 20_003;
+pub const LAYOUT: u64 = 20_004;
 /// The most samples of a block.
 pub const LONGEST_BLOCK: usize = 512;
 /// The most samples of a take.
 pub const LONGEST_TAKE: u32 = 1_000_000_000;
 
-/// Taken: a start, a change, a block or a reset.
+/// Taken: a start, a change, bytes of a keyboard, a block or a reset.
 pub const TAKEN: u32 = 0;
 /// The last block's number, length and samples: the same counts and output again, the record unchanged.
 pub const GIVEN_AGAIN: u32 = 1;
 /// The block has no samples. From here on a call is refused: the record and the output are as they were, but for a start, which hands
-/// back the default tuner beside 8, 11, 12 or 13.
+/// back the default tuner beside 8 and 11 to 15.
 pub const BLOCK_EMPTY: u32 = 2;
 /// The block has more than 512 samples.
 pub const BLOCK_OVER_512: u32 = 3;
@@ -46,8 +46,8 @@ pub const NUMBER_NEITHER: u32 = 5;
 pub const OTHER_SAMPLES: u32 = 6;
 /// The take would pass 1,000,000,000 samples.
 pub const TAKE_FULL: u32 = 7;
-/// The scale is 0 or over 4095. Of settings the first bad one is named, in the order scale, eps, decay, floor; a change leaves the
-/// record as it was, a start hands back the default tuner.
+/// The scale is 0 or over 4095. Of settings the first bad one is named, in the order scale, eps, decay, floor, channel, mode; a change
+/// leaves the record as it was, a start hands back the default tuner.
 pub const SCALE_OUT_OF_RANGE: u32 = 8;
 /// A number of the record is out of its range, its layout's among them.
 pub const RECORD_OUT_OF_RANGE: u32 = 9;
@@ -57,6 +57,15 @@ pub const EPS_OUT_OF_RANGE: u32 = 11;
 pub const DECAY_OUT_OF_RANGE: u32 = 12;
 /// Floor is 0 or over 1,000,000.
 pub const FLOOR_OUT_OF_RANGE: u32 = 13;
+/// The channel is over 15.
+pub const CHANNEL_OUT_OF_RANGE: u32 = 14;
+/// The mode is over 1.
+pub const MODE_UNKNOWN: u32 = 15;
+
+/// A mode: the nearest note of the scale is wanted.
+pub const SCALE_MODE: u32 = 0;
+/// A mode: the key that is held on the keyboard is wanted.
+pub const KEYBOARD_MODE: u32 = 1;
 
 /// What the host may set.
 #[repr(C)]
@@ -70,6 +79,10 @@ pub struct Settings {
     pub decay: u32,
     /// 1 to 1,000,000: a mean square.
     pub floor: u32,
+    /// [`SCALE_MODE`] or [`KEYBOARD_MODE`].
+    pub mode: u32,
+    /// 0 to 15: the keyboard's.
+    pub channel: u32,
 }
 
 impl Default for Settings {
@@ -79,6 +92,8 @@ impl Default for Settings {
             eps: 100,
             decay: 0,
             floor: 100,
+            mode: SCALE_MODE,
+            channel: 0,
         }
     }
 }
@@ -104,6 +119,7 @@ pub enum Meter {
     Locking(f32),
     Pitched {
         period: f32,
+        /// 0 where no key is held, or one outside the table of notes 32 to 100.
         wanted: f32,
         rate: f32,
     },
@@ -143,6 +159,7 @@ mod archive {
         pub fn daxfolin_start(record: *mut Record, settings: Settings) -> u32;
         pub fn daxfolin_start_default(record: *mut Record) -> u32;
         pub fn daxfolin_change(record: *mut Record, settings: Settings) -> u32;
+        pub fn daxfolin_midi(record: *mut Record, bytes: *const u8, length: usize) -> u32;
         pub fn daxfolin_block(
             record: *mut Record,
             number: u16,
@@ -158,8 +175,8 @@ mod archive {
 }
 
 const _: () = {
-    assert!(size_of::<Record>() == 6944 && align_of::<Record>() == 8);
-    assert!(size_of::<Settings>() == 16 && size_of::<Answer>() == 12);
+    assert!(size_of::<Record>() == 6960 && align_of::<Record>() == 8);
+    assert!(size_of::<Settings>() == 24 && size_of::<Answer>() == 12);
     assert!(size_of::<archive::Shown>() == 20 && size_of::<archive::Stretch>() == 16);
 };
 
@@ -178,7 +195,7 @@ pub fn cut(recording: &[i16], k: usize) -> &[i16] {
 
 impl Record {
     /// The bytes of a record.
-    pub const SIZE: usize = 6944;
+    pub const SIZE: usize = 6960;
 
     fn blank() -> Record {
         assert_eq!(
@@ -191,7 +208,7 @@ impl Record {
         }
     }
 
-    /// A fresh tuner with these settings and 0; or the default tuner beside the number of the first bad setting: 8, 11, 12 or 13.
+    /// A fresh tuner with these settings and 0; or the default tuner beside the number of the first bad setting: 8, or 11 to 15.
     pub fn start(settings: Settings) -> (u32, Record) {
         let mut record = Record::blank();
         // SAFETY: the record is a reference's.
@@ -207,11 +224,18 @@ impl Record {
         (number, record)
     }
 
-    /// New settings, which count from the next sample: 0; or 9, then the number of the first bad setting (8, 11, 12, 13), and the record
-    /// is as it was.
+    /// New settings, which count from the next sample; another channel than the one in force forgets the key, the running status and any
+    /// half message. 0; or 9, then the number of the first bad setting (8, 11 to 15), and the record is as it was.
     pub fn change(&mut self, settings: Settings) -> u32 {
         // SAFETY: the record is a reference's, and may hold any bytes.
         unsafe { archive::daxfolin_change(self, settings) }
+    }
+
+    /// Bytes of a keyboard, MIDI 1.0, between blocks: any bytes, cut anywhere, and in both modes. The key that they leave counts from
+    /// the next tracking step. 0, of no bytes too; or 9, and the record is as it was.
+    pub fn midi(&mut self, bytes: &[u8]) -> u32 {
+        // SAFETY: the record and the slice are references', so that they don't overlap, and the length is the slice's own.
+        unsafe { archive::daxfolin_midi(self, bytes.as_ptr(), bytes.len()) }
     }
 
     /// Block `number` of the take: 1 to 512 samples in, as many out; samples of `out` past them are never touched.
@@ -230,7 +254,7 @@ impl Record {
         }
     }
 
-    /// Settings kept, everything else fresh: 0; or 9, and the record is as it was.
+    /// Settings kept, everything else fresh, the key, the running status and any half message forgotten: 0; or 9, and the record is as it was.
     pub fn reset(&mut self) -> u32 {
         // SAFETY: the record is a reference's, and may hold any bytes.
         unsafe { archive::daxfolin_reset(self) }

@@ -5,8 +5,9 @@
 #![cfg(target_arch = "x86_64")]
 
 use daxfolin::{
-    cut, Answer, Meter, Record, Settings, DECAY_OUT_OF_RANGE, EPS_OUT_OF_RANGE, FLOOR_OUT_OF_RANGE,
-    LAYOUT, RECORD_OUT_OF_RANGE, SCALE_OUT_OF_RANGE, TAKEN,
+    cut, Answer, Meter, Record, Settings, CHANNEL_OUT_OF_RANGE, DECAY_OUT_OF_RANGE,
+    EPS_OUT_OF_RANGE, FLOOR_OUT_OF_RANGE, KEYBOARD_MODE, LAYOUT, MODE_UNKNOWN, RECORD_OUT_OF_RANGE,
+    SCALE_OUT_OF_RANGE, TAKEN,
 };
 use independent::generator::cases::Cases;
 use independent::generator::edges::fresh_of_version_2;
@@ -26,6 +27,8 @@ fn settings(of: &independent::settings::Settings) -> Settings {
         eps: of.eps,
         decay: of.decay,
         floor: of.floor,
+        mode: of.mode,
+        channel: of.channel,
     }
 }
 
@@ -35,6 +38,7 @@ fn left_by(record: &mut Record, call: &Call) -> Left {
         Call::Start(with) => (left.number, *record) = Record::start(settings(with)),
         Call::StartDefault => (left.number, *record) = Record::start_default(),
         Call::Change(to) => left.number = record.change(settings(to)),
+        Call::Midi(bytes) => left.number = record.midi(bytes),
         Call::Reset => left.number = record.reset(),
         Call::Block {
             number,
@@ -112,6 +116,8 @@ fn is_of_another_layout(bytes: &[u8; Record::SIZE]) {
         ..Settings::default()
     };
     assert_eq!(record.change(scale_0), RECORD_OUT_OF_RANGE);
+    assert_eq!(record.midi(&[]), RECORD_OUT_OF_RANGE);
+    assert_eq!(record.midi(&[144, 60, 100]), RECORD_OUT_OF_RANGE);
     assert_eq!(record.reset(), RECORD_OUT_OF_RANGE);
     assert_eq!(record.meter(), Meter::Refused);
     assert!(&record.to_bytes() == bytes, "the record was touched");
@@ -148,17 +154,21 @@ fn a_record_of_another_layout_is_refused() {
 #[test]
 fn each_setting_has_its_own_refusal() {
     let refused = [
-        (SCALE_OUT_OF_RANGE, [0, 410, 256, 0]),
-        (EPS_OUT_OF_RANGE, [1, 410, 256, 0]),
-        (DECAY_OUT_OF_RANGE, [1, 409, 256, 0]),
-        (FLOOR_OUT_OF_RANGE, [1, 409, 255, 0]),
+        (SCALE_OUT_OF_RANGE, [0, 410, 256, 0, 2, 16]),
+        (EPS_OUT_OF_RANGE, [1, 410, 256, 0, 2, 16]),
+        (DECAY_OUT_OF_RANGE, [1, 409, 256, 0, 2, 16]),
+        (FLOOR_OUT_OF_RANGE, [1, 409, 255, 0, 2, 16]),
+        (CHANNEL_OUT_OF_RANGE, [1, 409, 255, 1, 2, 16]),
+        (MODE_UNKNOWN, [1, 409, 255, 1, 2, 15]),
     ];
-    for (number, [scale, eps, decay, floor]) in refused {
+    for (number, [scale, eps, decay, floor, mode, channel]) in refused {
         let settings = Settings {
             scale,
             eps,
             decay,
             floor,
+            mode,
+            channel,
         };
         assert_eq!(Record::start(settings), (number, Record::default()));
         let mut record = Record::default();
@@ -167,6 +177,32 @@ fn each_setting_has_its_own_refusal() {
         assert_eq!(record.change(settings), number);
         assert_eq!(record, before);
     }
+}
+
+/// A key is held through a change of mode, and forgotten by another channel and by a reset.
+#[test]
+fn bytes_of_a_keyboard() {
+    let settings = |mode, channel| Settings {
+        mode,
+        channel,
+        ..Settings::default()
+    };
+    let fresh = |mode, channel| Record::start(settings(mode, channel)).1;
+    let mut record = Record::default();
+    assert_eq!(record.midi(&[]), TAKEN);
+    assert_eq!(record, Record::default());
+    assert_eq!(record.midi(&[144, 60, 100, 62]), TAKEN);
+    let (mut at_once, mut in_two) = (fresh(KEYBOARD_MODE, 0), fresh(KEYBOARD_MODE, 0));
+    at_once.midi(&[144, 60, 100, 62]);
+    in_two.midi(&[144, 60]);
+    in_two.midi(&[100, 62]);
+    assert_eq!(record.change(settings(KEYBOARD_MODE, 0)), TAKEN);
+    assert!(record == at_once && record == in_two);
+    assert_ne!(record, fresh(KEYBOARD_MODE, 0));
+    assert_eq!(record.change(settings(KEYBOARD_MODE, 1)), TAKEN);
+    assert_eq!(record, fresh(KEYBOARD_MODE, 1));
+    assert_eq!(at_once.reset(), TAKEN);
+    assert_eq!(at_once, fresh(KEYBOARD_MODE, 0));
 }
 
 #[test]
