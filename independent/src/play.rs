@@ -2,8 +2,10 @@
 //! read: every call, every refusal, repeats and resets, in both programs.
 //!
 //! A record has 1050 bytes: byte 0 is the call; 2, 4 and 6 are a block's
-//! number, length and room, low byte first; from 8 on the four settings; from
-//! 24 on the samples, each with 32768 added.
+//! number, length and room, low byte first; from 8 on scale, eps, decay and
+//! floor; from 24 on the samples, each with 32768 added. Where settings are
+//! given, mode and channel stand in the places of number and room. Bytes of the
+//! keyboard stand from 24 on, as many as the length says.
 
 use crate::rules::{cut, POSITION_UNIT};
 use crate::settings::Settings;
@@ -29,6 +31,7 @@ pub enum Call {
     Age = 8,
     /// The position is put level.
     Mend = 9,
+    Midi = 10,
 }
 
 /// One record.
@@ -48,6 +51,14 @@ pub fn record(call: Call, number: u16, room: u16, settings: [u32; 4], samples: &
     bytes
 }
 
+/// One record of bytes of the keyboard.
+fn midi_record(midi: &[u8]) -> Vec<u8> {
+    let mut bytes = record(Call::Midi, 0, 0, [0; 4], &[]);
+    bytes[4..6].copy_from_slice(&(midi.len() as u16).to_le_bytes());
+    bytes[24..24 + midi.len()].copy_from_slice(midi);
+    bytes
+}
+
 fn word(bytes: &[u8], at: usize) -> u16 {
     u16::from_le_bytes([bytes[at], bytes[at + 1]])
 }
@@ -58,7 +69,11 @@ fn sample(bytes: &[u8], place: usize) -> i16 {
 
 fn settings(bytes: &[u8]) -> Settings {
     let long = |at: usize| u32::from_le_bytes(bytes[at..at + 4].try_into().unwrap());
-    Settings::of([long(8), long(12), long(16), long(20)])
+    Settings {
+        mode: u32::from(word(bytes, 2)),
+        channel: u32::from(word(bytes, 6)),
+        ..Settings::of([long(8), long(12), long(16), long(20)])
+    }
 }
 
 fn said(answer: Answer, counts: Counts) -> String {
@@ -114,9 +129,14 @@ pub fn play(tuner: &mut Tuner, bytes: &[u8]) -> String {
             tuner.put_near_the_limit();
             String::new()
         }
-        _ => {
+        9 => {
             tuner.put_behind(0);
             String::new()
+        }
+        _ => {
+            let length = usize::from(word(bytes, 4)).min(RECORD - 24);
+            let midi = &bytes[24..24 + length];
+            said(tuner.midi(midi, &mut Statistics::default()), none)
         }
     }
 }
@@ -227,5 +247,59 @@ pub fn script() -> Vec<u8> {
     }
     add(Call::StartDefault, 0, 0, ALL, none);
     add(Call::Meter, 0, 0, ALL, none);
+    bytes.extend(played());
     bytes
+}
+
+/// The take goes on in keyboard mode, on channel 3: keys near and far, none,
+/// cut messages, a new channel, refusals and a reset.
+fn played() -> Vec<u8> {
+    const ALL: [u32; 4] = [4095, 100, 0, 100];
+    let settings = |call, mode, channel| record(call, mode, channel, ALL, &[]);
+    let mut records = vec![settings(Call::Start, 1, 3)];
+    let between: [&[u8]; 12] = [
+        &[],
+        &[147, 53, 100],
+        &[58, 90, 53],
+        &[0],
+        &[57, 248, 64, 57, 0],
+        &[131, 50, 0, 147, 31, 1],
+        &[101, 1],
+        &[40, 1, 70, 1],
+        &[144, 55, 100, 240, 55, 1, 247, 55],
+        &[179, 123, 0, 195, 55, 55],
+        &[147, 56],
+        &[100],
+    ];
+    for number in 0..36u16 {
+        let from = 400 * usize::from(number);
+        let samples: Vec<i16> = (from..from + 400).map(voice).collect();
+        records.push(record(Call::Block, number, 400, ALL, &samples));
+        records.push(record(Call::Meter, 0, 0, ALL, &[]));
+        records.push(midi_record(between[usize::from(number) % between.len()]));
+        match number {
+            10 => records.push(settings(Call::Change, 0, 3)),
+            12 | 21 => records.push(settings(Call::Change, 1, 3)),
+            20 => records.push(settings(Call::Change, 1, 4)),
+            24 => {
+                records.push(settings(Call::Change, 2, 3));
+                records.push(settings(Call::Change, 2, 16));
+                // Sent again after all of this.
+                records.push(record(Call::Block, number, 400, ALL, &samples));
+            }
+            30 => {
+                records.push(settings(Call::Spoil, 0, 0));
+                records.push(midi_record(&[147, 60, 100]));
+                records.push(settings(Call::Change, 2, 16));
+                records.push(settings(Call::Mend, 0, 0));
+            }
+            _ => {}
+        }
+    }
+    records.push(settings(Call::Reset, 0, 0));
+    records.push(record(Call::Block, 0, 8, ALL, &[1, 2, 3, 4, 5, 6, 7, 8]));
+    records.push(settings(Call::Start, 2, 16));
+    records.push(settings(Call::Start, 2, 15));
+    records.push(settings(Call::Meter, 0, 0));
+    records.concat()
 }
