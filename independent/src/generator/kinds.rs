@@ -139,13 +139,13 @@ pub const KINDS: &[Kind] = &[
         ..kind("mixed", "all of these", any)
     },
     Kind {
-        settings: Some("4095\t150\t0\t10"),
+        settings: Some("4095\t150\t128\t10"),
         lengths: (64, 64),
         following: Some(player::melody),
         ..played("melody", "a held tone drawn to a played melody", held)
     },
     Kind {
-        lengths: (1, 200),
+        lengths: (1, 100),
         changes: 20,
         resets: 10,
         trouble: 30,

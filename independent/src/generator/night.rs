@@ -33,12 +33,12 @@ pub const NIGHT: &[(&str, u64, usize)] = &[
     ("unreadable", 52, 2_000),
     ("mixed", 70, 8_000),
     ("melody", 36, 5_000),
-    ("played", 14, 4_000),
+    ("played", 93, 10_000),
     ("octaves", 433, 6_000),
     ("outside", 1, 4_000),
     ("trill", 36, 2_000),
-    ("pieces", 24, 4_000),
-    ("bytes", 36, 3_000),
+    ("pieces", 6, 7_000),
+    ("bytes", 36, 5_000),
     ("hostile", 29, 8_600),
 ];
 

@@ -29,9 +29,18 @@ pub const MELODY: [u8; 3] = [64, 55, 62];
 pub const TONE: usize = 72;
 const HELD: usize = 60;
 
-/// Each key is struck, held and released, by the running status.
+/// Each key is struck, held and released, by the running status. Then comes as
+/// long a rest: a reset forgets a key, the running status and a half message.
 pub fn melody(_: &mut Random, moment: &Moment) -> Option<Vec<u8>> {
-    let key = MELODY[moment.place / TONE % MELODY.len()];
+    let tone = moment.place / TONE % (MELODY.len() + 1);
+    let Some(&key) = MELODY.get(tone) else {
+        let lines = [
+            &midi(&[NOTE_ON, 60, 100, 62])[..],
+            b"\nreset\n",
+            &midi(&[100]),
+        ];
+        return moment.place.is_multiple_of(TONE).then(|| lines.concat());
+    };
     match moment.place % TONE {
         0 => Some(midi(&[NOTE_ON, key, 100])),
         HELD => Some(midi(&[key, 0])),
@@ -39,26 +48,40 @@ pub fn melody(_: &mut Random, moment: &Moment) -> Option<Vec<u8>> {
     }
 }
 
-/// Keys near the singing, one over another, and changes of mode.
+/// Keys near the singing, one over another, with changes of mode; for some
+/// time on one channel, then on the next.
 pub fn beside(random: &mut Random, moment: &Moment) -> Option<Vec<u8>> {
+    let channel = [0, 5, 0, 15][moment.place / 40 % 4];
+    if moment.place.is_multiple_of(40) {
+        return Some(format!("channel\t{channel}").into_bytes());
+    }
+    let (on, off) = (NOTE_ON + channel, NOTE_OFF + channel);
     let sung = sung_key(moment);
     let key = sung + random.one_of(&[0, 1, 4, 7]) - 3;
     let velocity = velocity(random);
-    let line = match random.whole(0, 29) {
-        0..=5 => midi(&[NOTE_ON, key, velocity]),
-        6..=7 => midi(&[key, velocity]),
+    let line = match random.whole(0, 59) {
+        0..=11 => midi(&[on, key, velocity]),
+        12..=15 => midi(&[key, velocity]),
         // The later of two keys is released, or the older.
-        8 => midi(&[NOTE_ON, sung, velocity, key, velocity, key, 0]),
-        9 => midi(&[NOTE_ON, sung, velocity, key, velocity, sung, 0]),
-        10 => midi(&[NOTE_OFF, key, velocity]),
-        11 => midi(&[NOTE_ON, key, 0]),
+        16..=17 => midi(&[on, sung, velocity, key, velocity, key, 0]),
+        18..=19 => midi(&[on, sung, velocity, key, velocity, sung, 0]),
+        20..=21 => midi(&[off, key, velocity]),
+        22..=23 => midi(&[on, key, 0]),
         // Another channel, and messages that are not about keys.
-        12 => midi(&[NOTE_ON + 1, key, velocity, key, 0]),
-        13 => midi(&[176, 123, 0, 192, key, 224, 0, 64, 160, key, 9, 208, key]),
-        14 => b"mode\t0".to_vec(),
-        15..=16 => b"mode\t1".to_vec(),
-        17 => b"channel\t0".to_vec(),
-        18 => b"channel\t1\nchannel\t0".to_vec(),
+        24..=25 => midi(&[on ^ 1, key, velocity, key, 0]),
+        26..=27 => {
+            let sorts = [176, 123, 0, 192, key, 224, 0, 64, 160, key, 9, 208, key];
+            midi(&sorts.map(|byte| if byte < 128 { byte } else { byte + channel }))
+        }
+        28..=29 => b"mode\t0".to_vec(),
+        30..=33 => b"mode\t1".to_vec(),
+        // The same channel again; another and back, and then no running status.
+        34 => format!("channel\t{channel}").into_bytes(),
+        35 => {
+            let away = format!("channel\t{}\nchannel\t{channel}\n", channel ^ 1);
+            [away.as_bytes(), &midi(&[key, velocity])].concat()
+        }
+        36 => b"start\t4095\t409\t128\t1".to_vec(),
         _ => return None,
     };
     Some(line)
