@@ -134,7 +134,7 @@ pub fn play(tuner: &mut Tuner, bytes: &[u8]) -> String {
             String::new()
         }
         _ => {
-            let length = usize::from(word(bytes, 4)).min(RECORD - 24);
+            let length = usize::from(word(bytes, 4)).min(MOST);
             let midi = &bytes[24..24 + length];
             said(tuner.midi(midi, &mut Statistics::default()), none)
         }

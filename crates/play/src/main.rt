@@ -1,5 +1,6 @@
 // Plays a scripted take through the tuner's calls: records of 1050 bytes in, a line for each out.
-// Byte 0 is the call; 2, 4 and 6 a block's number, length and room, low byte first; from 8 on the four settings; from 24 on the samples.
+// Byte 0 is the call; 2, 4 and 6 a block's number, length and room, low byte first; from 8 on scale, eps, decay and floor; from 24 on the samples.
+// Where settings are given, 2 and 6 are mode and channel. Keyboard bytes stand from 24 on, as many as the length says.
 ghost use mathlib.Core.Path.{_≡_};
 ghost use Prim.Native.Nat.{_≤_, _<_, _*_, _+_};
 use libc::STDIN_FILENO;
@@ -47,6 +48,8 @@ fn settings(b: &[u8; 1050]) -> Settings {
         eps: long(b, 12),
         decay: long(b, 16),
         floor: long(b, 20),
+        mode: word(b, 2),
+        channel: word(b, 6),
     }
 }
 
@@ -153,6 +156,24 @@ fn took(r: Taken) -> Tuner {
     r.tuner
 }
 
+fn keys(b: &[u8; 1050], n: usize) -> [u8; 513]
+    requires { ⌜ n ≤ 513 ⌝ }
+{
+    let mut ks = [0u8; 513];
+    let mut i: usize = 0;
+    while i < n {
+        ks[i] = b[24 + i];
+        i += 1;
+    }
+    ks
+}
+
+fn midi(t: Tuner, b: &[u8; 1050]) -> Tuner {
+    let n = most(word(b, 4));
+    let ks = keys(b, n);
+    took(t.midi(&ks[..n]))
+}
+
 fn other(op: u8, t: Tuner, b: &[u8; 1050]) -> Tuner {
     if op == 5 {
         metered(t);
@@ -168,7 +189,10 @@ fn other(op: u8, t: Tuner, b: &[u8; 1050]) -> Tuner {
     if op == 8 {
         return aged(t);
     }
-    mended(t)
+    if op == 9 {
+        return mended(t);
+    }
+    midi(t, b)
 }
 
 fn one(t: Tuner, b: &[u8; 1050]) -> Tuner {
