@@ -229,18 +229,18 @@ impl Tuner {
     pub fn midi(self, bytes: &[u8]) -> Taken
         ensures { λ r. ⌜ Keyed self (now (bytes .entry)) (r .tuner) (r .answer) ⌝ }
     {
-        if !good(self) {
+        if good(self) {
+            let keys = self.keyboard;
+            let mut t = self;
+            t.keyboard = keyboard::played(self.settings.channel, keys, bytes);
             return Taken {
-                tuner: self,
-                answer: answers::plain(9),
+                tuner: t,
+                answer: answers::plain(0),
             };
         }
-        let keys = self.keyboard;
-        let mut t = self;
-        t.keyboard = keyboard::played(self.settings.channel, keys, bytes);
         Taken {
-            tuner: t,
-            answer: answers::plain(0),
+            tuner: self,
+            answer: answers::plain(9),
         }
     }
 
