@@ -3,54 +3,76 @@ use mathlib.Core.Path.{_≡_, refl, sym, ap, _∙_, subst}
 use mathlib.Core.Bool.{Bool, true, false, cond, _&&_}
 use mathlib.Core.List.{List, [], _∷_, _++_, append-assoc, append-nil}
 use mathlib.Core.Option.{Option, none, some, Option·map, bind}
-use Prim.Native.Nat.{ℕ, zero, suc, _+_, _-_, _≤_, _<_}
+use Prim.Native.Nat.{ℕ, _+_, _-_, _*_, _≤_, _<_}
 use native.Mathlib.Omega.{arith}
 use native.Mathlib.Numerals.{add-one}
-use borrow.Author.Tests.{eqb-true, eq-eqb, lt-leb, le-leb}
+use borrow.Author.Tests.{eqb-true, eq-eqb, ne-eqb, lt-leb, le-leb}
 use lib.Dec.{eqb}
-use lib.IntN.{ℤ, pos}
-use lib.ListN.{length, take, set}
-use lib.Seq.{take-suc-set}
+use lib.IntN.{ℤ}
+use lib.ListN.{length, take, drop, set, length-set, length-drop}
+use lib.Seq.{take-suc-set, length-take-le}
 use Rattle.whole.specs.Tests.{Decides, yes-and-no, and-left, and-right, by, cond-yes, cond-no}
-use Rattle.rules.specs.declared.Settings.{Settings}
 use Rattle.tuner.specs.declared.Tuner.{Tuner}
 use Rattle.answers.specs.declared.Answer.{Answer}
 use Rattle.tuner.specs.Tuners.{Verdict, record-out-of-range, block-empty, block-over-512, output-short, number-neither, other-samples, given-again, take-full, taken, answerBy, Took}
 use Rattle.text.specs.Text.{fields, number, sample}
-use Rattle.text.specs.Places.{optional}
+use Rattle.text.specs.Places.{optional, First}
+use Rattle.text.specs.Fields.{later, later-end, later-some, later-field}
+use Rattle.text.specs.Reading.{field-long}
+use Rattle.lines.specs.declared.NumberField.{NumberField}
 use Rattle.lines.specs.declared.Reply.{Reply}
-use Rattle.lines.specs.Lines.{Line, start, change, block, unreadable, each, four, settingsIn, lineOf, startIn, changeIn, blockIn, resetIn, recordIn, read, Said, Answered, answered, same, startWord, changeWord, blockWord, resetWord}
-use Rattle.lines.specs.Steps.{NumberIn, no-field, no-number, a-number, wordOf, Replied}
+use Rattle.lines.specs.Lines.{Line, block, midi, unreadable, each, one, settingsIn, lineOf, startIn, changeIn, blockIn, resetIn, modeIn, channelIn, midiIn, recordIn, read, Said, Answered, answered, same, startWord, changeWord, blockWord, resetWord, modeWord, channelWord, midiWord}
+use Rattle.lines.specs.Steps.{NumberIn, no-field, no-number, a-number, NumberRead, FieldRead, FieldsRead, wordOf, keyboardWordOf, keyboardChosen, Replied}
 
 -- ---- a field is read, or not
 pub number-in : {most : ℕ} {fs more : List (List ℕ)} {f : List ℕ} (ok : Bool) (v : ℕ) → fs ≡ f ∷ more → optional ok v ≡ number most f → NumberIn most fs ok v more
 number-in true v e n = a-number e (sym n)
 number-in false v e n = no-number e (sym n)
 
--- ---- settings, one field after the other: g makes something of the numbers that are still to come
-abbrev pub then : (List ℕ → Option Settings) → List (List ℕ) → Option Settings
-then g fs = bind (each (number 4294967295) fs) g
+-- a field ends at the next tab or at the line's end
+pub field-at : {A : Type 0} (how : List ℕ → Option A) → how [] ≡ none → (line : List ℕ) (at to : ℕ) (ok : Bool) (x : A) → at < length line → First line (at + 1) 9 to →
+    optional ok x ≡ how (take (to - (at + 1)) (drop (at + 1) line)) → FieldRead how line at ok x to
+field-at how z line at to ok x h f e =
+    let part = take (to - (at + 1)) (drop (at + 1) line) in
+    let n = length-take-le (to - (at + 1)) (drop (at + 1) line) (omega (arith, f .within, length-drop (at + 1) line)) in
+    record {
+      within = f .within;
+      text = part;
+      field = later-field line at to h f;
+      read = e;
+      long = λ y. omega (arith, n, f .after, field-long how z part x (ap (λ (b : Bool). optional b x) (sym y) ∙ e));
+    }
 
-module _ (g : List ℕ → Option Settings) where
+-- before the end there is a field
+pub field-read : {most : ℕ} {line : List ℕ} {at : ℕ} {r : NumberField} → at < length line → NumberRead most line at r → FieldRead (number most) line at (r .ok) (r .value) (r .to)
+field-read {most} {line} {at} {r} h n = by-field (n .long) (n .field)
+  where
+    by-field : {ok : Bool} {v : ℕ} → (ok ≡ true → at + 2 ≤ r .to) → NumberIn most (later line at) ok v (later line (r .to)) → FieldRead (number most) line at ok v (r .to)
+    by-field l (no-field e) = absurd (omega (arith, ap length e, later-some line at h))
+    by-field l (no-number {f = f} e z) = record { within = n .within; text = f; field = e; read = sym z; long = l }
+    by-field l (a-number {f = f} e z) = record { within = n .within; text = f; field = e; read = sym z; long = l }
+
+-- ---- settings, one field after the other: g makes something of the numbers that are still to come
+module _ {A : Type 0} (g : List ℕ → Option A) where
   turned : (v : ℕ) (o : Option (List ℕ)) → bind (Option·map (λ (ns : List ℕ). v ∷ ns) o) g ≡ bind o (λ (ns : List ℕ). g (v ∷ ns))
   unfolding bind
   turned v none = refl
   turned v (some ns) = refl
 
-  pub setting-read : {fs more : List (List ℕ)} {ok : Bool} {v : ℕ} → ok ≡ true → NumberIn 4294967295 fs ok v more → then g fs ≡ then (λ (ns : List ℕ). g (v ∷ ns)) more
+  pub setting-read : {fs more : List (List ℕ)} {ok : Bool} {v : ℕ} → ok ≡ true → NumberIn 4294967295 fs ok v more → settingsIn g fs ≡ settingsIn (λ (ns : List ℕ). g (v ∷ ns)) more
   unfolding each bind
   setting-read y (no-field e) = absurd (yes-and-no y refl)
   setting-read y (no-number e n) = absurd (yes-and-no y refl)
   setting-read {more = more} {v = v} y (a-number e n) = rw (e, n) (turned v (each (number 4294967295) more))
 
-  pub setting-missing : {fs more : List (List ℕ)} {ok : Bool} {v : ℕ} → g [] ≡ none → ok ≡ false → NumberIn 4294967295 fs ok v more → then g fs ≡ none
+  pub setting-missing : {fs more : List (List ℕ)} {ok : Bool} {v : ℕ} → g [] ≡ none → ok ≡ false → NumberIn 4294967295 fs ok v more → settingsIn g fs ≡ none
   unfolding each bind
   setting-missing z y (no-field e) = rw e z
   setting-missing z y (no-number e n) = rw (e, n)
   setting-missing z y (a-number e n) = absurd (yes-and-no refl y)
 
   -- a field too many
-  pub setting-extra : (fs : List (List ℕ)) → 0 < length fs → ((n : ℕ) (ns : List ℕ) → g (n ∷ ns) ≡ none) → then g fs ≡ none
+  pub setting-extra : (fs : List (List ℕ)) → 0 < length fs → ((n : ℕ) (ns : List ℕ) → g (n ∷ ns) ≡ none) → settingsIn g fs ≡ none
   unfolding each bind
   setting-extra [] h z = absurd (omega arith)
   setting-extra (f ∷ fs) h z = by-first (number 4294967295 f) (each (number 4294967295) fs)
@@ -60,51 +82,95 @@ module _ (g : List ℕ → Option Settings) where
       by-first (some n) none = refl
       by-first (some n) (some ns) = z n ns
 
--- ---- samples, one field after the other: those so far stand in front
-abbrev pub after : List ℤ → List (List ℕ) → Option (List ℤ)
-after xs fs = Option·map (λ (ys : List ℤ). xs ++ ys) (each sample fs)
+-- one setting, and no field after it
+pub one-read : {fs more : List (List ℕ)} {ok : Bool} {v : ℕ} → more ≡ [] → NumberIn 4294967295 fs ok v more → optional ok v ≡ settingsIn one fs
+unfolding each bind one
+one-read m (no-field e) = rw e
+one-read m (no-number e n) = rw (e, n)
+one-read m (a-number e n) = rw (e, n, m)
 
-module _ {fs more : List (List ℕ)} {f : List ℕ} (e : fs ≡ f ∷ more) where
-  pub no-sample : (ok : Bool) (x : ℤ) (xs : List ℤ) → optional ok x ≡ sample f → ok ≡ false → after xs fs ≡ none
-  unfolding each bind
-  no-sample ok x xs v n = rw (e, sym v, n)
+pub one-extra : {fs more : List (List ℕ)} {ok : Bool} {v : ℕ} → 0 < length more → NumberIn 4294967295 fs ok v more → settingsIn one fs ≡ none
+unfolding each bind one
+one-extra m (no-field e) = rw e
+one-extra m (no-number e n) = rw (e, n)
+one-extra {more = more} {v = v} m (a-number e n) = setting-read one refl (a-number e n) ∙ setting-extra (λ (ns : List ℕ). one (v ∷ ns)) more m (λ n ns. refl)
 
-  pub one-sample : (ok : Bool) (x : ℤ) (xs : List ℤ) → optional ok x ≡ sample f → ok ≡ true → after (xs ++ (x ∷ [])) more ≡ after xs fs
-  unfolding each bind
-  one-sample ok x xs v n = rw (e, sym v, n) (joined (each sample more))
+-- ---- all fields from a place on, each read in one way: those read so far stand in front
+module _ {A : Type 0} (how : List ℕ → Option A) where
+  abbrev after : List A → List (List ℕ) → Option (List A)
+  after xs fs = Option·map (λ (ys : List A). xs ++ ys) (each how fs)
+
+  module _ {fs more : List (List ℕ)} {f : List ℕ} (e : fs ≡ f ∷ more) where
+    none-more : (ok : Bool) (x : A) (xs : List A) → optional ok x ≡ how f → ok ≡ false → after xs fs ≡ none
+    unfolding each bind
+    none-more ok x xs v n = rw (e, sym v, n)
+
+    one-more : (ok : Bool) (x : A) (xs : List A) → optional ok x ≡ how f → ok ≡ true → after (xs ++ (x ∷ [])) more ≡ after xs fs
+    unfolding each bind
+    one-more ok x xs v n = rw (e, sym v, n) (joined (each how more))
+      where
+        joined : (o : Option (List A)) → Option·map (λ (ys : List A). (xs ++ (x ∷ [])) ++ ys) o ≡ Option·map (λ (ys : List A). xs ++ ys) (Option·map (λ (ys : List A). x ∷ ys) o)
+        joined none = refl
+        joined (some ys) = ap some (append-assoc xs (x ∷ []) ys)
+
+  no-more : (xs : List A) → after xs [] ≡ some xs
+  unfolding each
+  no-more xs = ap some (append-nil xs)
+
+  none-before : (fs : List (List ℕ)) → after [] fs ≡ each how fs
+  none-before fs = same-again (each how fs)
     where
-      joined : (o : Option (List ℤ)) → Option·map (λ (ys : List ℤ). (xs ++ (x ∷ [])) ++ ys) o ≡ Option·map (λ (ys : List ℤ). xs ++ ys) (Option·map (λ (ys : List ℤ). x ∷ ys) o)
-      joined none = refl
-      joined (some ys) = ap some (append-assoc xs (x ∷ []) ys)
+      same-again : (o : Option (List A)) → Option·map (λ (ys : List A). [] ++ ys) o ≡ o
+      same-again none = refl
+      same-again (some ys) = refl
 
-pub no-more : (xs : List ℤ) → after xs [] ≡ some xs
-unfolding each
-no-more xs = ap some (append-nil xs)
+  -- n fields from `at` on were read, as far as `to`, and each took at least two bytes
+  pub record Reading (line : List ℕ) (at : ℕ) (xs : List A) (to n : ℕ) : Type 0 where
+    pub two-each : at + 2 * n ≤ to
+    pub within : to ≤ length line
+    pub room : length xs ≡ 4096
+    pub so-far : after (take n xs) (later line to) ≡ each how (later line at)
 
-pub none-before : (fs : List (List ℕ)) → after [] fs ≡ each sample fs
-none-before fs = same-again (each sample fs)
-  where
-    same-again : (o : Option (List ℤ)) → Option·map (λ (ys : List ℤ). [] ++ ys) o ≡ o
-    same-again none = refl
-    same-again (some ys) = refl
+  module _ {line : List ℕ} {at : ℕ} {xs : List A} where
+    pub none-read : at ≤ length line → length xs ≡ 4096 → Reading line at xs at 0
+    none-read h e = record { two-each = omega arith; within = h; room = e; so-far = none-before (later line at) }
+
+    module _ {to n : ℕ} (p : Reading line at xs to n) (short : length line ≤ 8192) where
+      -- there is a place for one more
+      pub place-left : to < length line → n < length xs
+      place-left h = omega (arith, p .two-each, p .room)
+
+      pub all-read : length line ≤ to → FieldsRead how line at (record { ok = true; value = n }) xs
+      all-read h =
+          record {
+            many = omega (arith, p .two-each, p .within);
+            long = p .room;
+            values = sym (sym (p .so-far) ∙ ap (after (take n xs)) (later-end line to h) ∙ no-more (take n xs));
+          }
+
+      module _ {ok : Bool} {x : A} {to′ : ℕ} (f : FieldRead how line to ok x to′) where
+        pub one-unread : ok ≡ false → FieldsRead how line at (record { ok = false; value = 0 }) xs
+        one-unread e = record { many = omega arith; long = p .room; values = sym (sym (p .so-far) ∙ none-more (f .field) ok x (take n xs) (f .read) e) }
+
+        pub next-read : to < length line → ok ≡ true → Reading line at (set xs n x) to′ (n + 1)
+        next-read h e =
+            let s : take (n + 1) (set xs n x) ≡ take n xs ++ (x ∷ []) = ap (λ (k : ℕ). take k (set xs n x)) (add-one n) ∙ take-suc-set xs n x (place-left h) in
+            record {
+              two-each = omega (arith, p .two-each, f .long e);
+              within = f .within;
+              room = length-set xs n x ∙ p .room;
+              so-far = ap (λ (ys : List A). after ys (later line to′)) s ∙ one-more (f .field) ok x (take n xs) (f .read) e ∙ p .so-far;
+            }
 
 -- ---- what the fields say
-module _ (fs : List (List ℕ)) (ok : Bool) (s : Settings) (e : optional ok s ≡ settingsIn fs) where
-  pub start-read : ok ≡ true → startIn fs ≡ start s
-  unfolding startIn lineOf
-  start-read y = rw (sym e, y)
+module _ {A : Type 0} (make : A → Line) {o : Option A} (ok : Bool) (v : A) (e : optional ok v ≡ o) where
+  pub line-read : ok ≡ true → lineOf (Option·map make o) ≡ make v
+  unfolding lineOf
+  line-read y = rw (sym e, y)
 
-  pub start-unread : ok ≡ false → startIn fs ≡ unreadable
-  unfolding startIn lineOf
-  start-unread y = rw (sym e, y)
-
-  pub change-read : ok ≡ true → changeIn fs ≡ change s
-  unfolding changeIn lineOf
-  change-read y = rw (sym e, y)
-
-  pub change-unread : ok ≡ false → changeIn fs ≡ unreadable
-  unfolding changeIn lineOf
-  change-unread y = rw (sym e, y)
+  pub line-unread : ok ≡ false → lineOf (Option·map make o) ≡ unreadable
+  unfolding lineOf
+  line-unread y = rw (sym e, y)
 
 pub reset-extra : (fs : List (List ℕ)) → 0 < length fs → resetIn fs ≡ unreadable
 unfolding resetIn
@@ -132,12 +198,15 @@ module _ {fs more : List (List ℕ)} {ok : Bool} {k : ℕ} (n : NumberIn 65535 f
         by-field (a-number e n) y = rw (e, n)
 
     pub block-unread : good ≡ false → blockIn fs ≡ unreadable
-    unfolding lineOf
-    block-unread y = numbered ∙ rw (sym e, y)
+    block-unread y = numbered ∙ line-unread (block k) good xs e y
 
     pub block-read : good ≡ true → blockIn fs ≡ block k xs
-    unfolding lineOf
-    block-read y = numbered ∙ rw (sym e, y)
+    block-read y = numbered ∙ line-read (block k) good xs e y
+
+pub midi-some : (fs : List (List ℕ)) → 0 < length fs → midiIn fs ≡ lineOf (Option·map midi (each (number 255) fs))
+unfolding midiIn
+midi-some [] h = absurd (omega arith)
+midi-some (f ∷ fs) h = refl
 
 -- ---- words
 same-is : (a b : List ℕ) → same a b ≡ true → a ≡ b
@@ -157,32 +226,31 @@ decided {b} w u d = by b (λ y. ap (same w) (sym (d .yes y)) ∙ is-same w ∙ s
 
 -- the fields after the first word, by what it is
 unfoldable pub chosen : ℕ → List (List ℕ) → Line
-chosen zero fs = unreadable
-chosen (suc zero) fs = startIn fs
-chosen (suc (suc zero)) fs = changeIn fs
-chosen (suc (suc (suc zero))) fs = blockIn fs
-chosen (suc (suc (suc (suc zero)))) fs = resetIn fs
-chosen (suc (suc (suc (suc (suc n))))) fs = unreadable
+chosen n fs = cond (eqb n 1) (startIn fs) (cond (eqb n 2) (changeIn fs) (cond (eqb n 3) (blockIn fs) (cond (eqb n 4) (resetIn fs) (keyboardChosen n fs))))
 
 pub record-chosen : (w : List ℕ) (fs : List (List ℕ)) → recordIn (w ∷ fs) ≡ chosen (wordOf w) fs
-unfolding recordIn wordOf chosen
-record-chosen w fs = by-tests (same w startWord) (same w changeWord) (same w blockWord) (same w resetWord)
+unfolding recordIn wordOf keyboardWordOf chosen keyboardChosen
+record-chosen w fs = by-tests (same w startWord) (same w changeWord) (same w blockWord) (same w resetWord) (same w modeWord) (same w channelWord) (same w midiWord)
   where
-    by-tests : (a b c d : Bool) → cond a (startIn fs) (cond b (changeIn fs) (cond c (blockIn fs) (cond d (resetIn fs) unreadable))) ≡ chosen (cond a 1 (cond b 2 (cond c 3 (cond d 4 0)))) fs
-    by-tests true b c d = refl
-    by-tests false true c d = refl
-    by-tests false false true d = refl
-    by-tests false false false true = refl
-    by-tests false false false false = refl
+    by-tests : (a b c d e f g : Bool) →
+        cond a (startIn fs) (cond b (changeIn fs) (cond c (blockIn fs) (cond d (resetIn fs) (cond e (modeIn fs) (cond f (channelIn fs) (cond g (midiIn fs) unreadable))))))
+        ≡ chosen (cond a 1 (cond b 2 (cond c 3 (cond d 4 (cond e 5 (cond f 6 (cond g 7 0))))))) fs
+    by-tests true b c d e f g = refl
+    by-tests false true c d e f g = refl
+    by-tests false false true d e f g = refl
+    by-tests false false false true e f g = refl
+    by-tests false false false false true f g = refl
+    by-tests false false false false false true g = refl
+    by-tests false false false false false false true = refl
+    by-tests false false false false false false false = refl
 
-pub chosen-other : (n : ℕ) (fs : List (List ℕ)) → (n ≡ 1 → ⊥) → (n ≡ 2 → ⊥) → (n ≡ 3 → ⊥) → (n ≡ 4 → ⊥) → chosen n fs ≡ unreadable
+pub chosen-other : (n : ℕ) (fs : List (List ℕ)) → (n ≡ 1 → ⊥) → (n ≡ 2 → ⊥) → (n ≡ 3 → ⊥) → (n ≡ 4 → ⊥) → chosen n fs ≡ keyboardChosen n fs
 unfolding chosen
-chosen-other zero fs a b c d = refl
-chosen-other (suc zero) fs a b c d = absurd (a refl)
-chosen-other (suc (suc zero)) fs a b c d = absurd (b refl)
-chosen-other (suc (suc (suc zero))) fs a b c d = absurd (c refl)
-chosen-other (suc (suc (suc (suc zero)))) fs a b c d = absurd (d refl)
-chosen-other (suc (suc (suc (suc (suc n))))) fs a b c d = refl
+chosen-other n fs a b c d = rw (ne-eqb n 1 a, ne-eqb n 2 b, ne-eqb n 3 c, ne-eqb n 4 d)
+
+pub keyboard-other : (n : ℕ) (fs : List (List ℕ)) → (n ≡ 5 → ⊥) → (n ≡ 6 → ⊥) → (n ≡ 7 → ⊥) → keyboardChosen n fs ≡ unreadable
+unfolding keyboardChosen
+keyboard-other n fs a b c = rw (ne-eqb n 5 a, ne-eqb n 6 b, ne-eqb n 7 c)
 
 -- ---- a line is answered
 pub read-long : (line : List ℕ) → 8192 < length line → read line ≡ unreadable

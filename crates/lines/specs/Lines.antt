@@ -10,9 +10,10 @@ use mathlib.Core.Logic.{_⊎_}
 use Prim.Native.Nat.{_+_}
 use lib.ListN.{length, getD, take, drop, replicate}
 use Rattle.rules.specs.declared.Settings.{Settings}
+use Rattle.rules.specs.Rules.{scaleMode, longestBlock}
 use Rattle.tuner.specs.declared.Tuner.{Tuner}
 use Rattle.answers.specs.declared.Answer.{Answer}
-use Rattle.tuner.specs.Tuners.{Took, Started, Changed, Reset}
+use Rattle.tuner.specs.Tuners.{Took, Started, Changed, Reset, Keyed}
 use Rattle.text.specs.Text.{fields, number, sample, decimal, sampleFields, Put}
 
 -- ---- what a line says
@@ -22,6 +23,9 @@ pub data Line : Type 0 where
   change : Settings → Line
   block : ℕ → List ℤ → Line
   reset : Line
+  mode : ℕ → Line
+  channel : ℕ → Line
+  midi : List ℕ → Line
   unreadable : Line
 
 -- every field is read in one way; none where one of them cannot be
@@ -29,18 +33,24 @@ unfoldable pub each : {A : Type 0} → (List ℕ → Option A) → List (List �
 each how [] = some []
 each {A} how (f ∷ fs) = bind (how f) (λ (x : A). Option·map (λ (xs : List A). x ∷ xs) (each how fs))
 
--- scale, eps, decay, floor: neither a missing nor an extra field
+-- scale, eps, decay, floor: neither a missing nor an extra field; mode and channel are the scale's and 0
 unfoldable pub four : List ℕ → Option Settings
 four [] = none
 four (a ∷ []) = none
 four (a ∷ b ∷ []) = none
 four (a ∷ b ∷ c ∷ []) = none
-four (a ∷ b ∷ c ∷ d ∷ []) = some (record { scale = a; eps = b; decay = c; floor = d })
+four (a ∷ b ∷ c ∷ d ∷ []) = some (record { scale = a; eps = b; decay = c; floor = d; mode = scaleMode; channel = 0 })
 four (a ∷ b ∷ c ∷ d ∷ e ∷ more) = none
 
--- a setting is at most 4294967295
-unfoldable pub settingsIn : List (List ℕ) → Option Settings
-settingsIn fs = bind (each (number 4294967295) fs) four
+-- a setting alone
+unfoldable pub one : List ℕ → Option ℕ
+one [] = none
+one (a ∷ []) = some a
+one (a ∷ b ∷ more) = none
+
+-- what is made of settings; each is at most 4294967295
+abbrev pub settingsIn : {A : Type 0} → (List ℕ → Option A) → List (List ℕ) → Option A
+settingsIn make fs = bind (each (number 4294967295) fs) make
 
 -- what could be read, or a line that cannot be
 unfoldable pub lineOf : Option Line → Line
@@ -49,10 +59,10 @@ lineOf (some line) = line
 
 -- the fields after the first word
 unfoldable pub startIn : List (List ℕ) → Line
-startIn fs = lineOf (Option·map start (settingsIn fs))
+startIn fs = lineOf (Option·map start (settingsIn four fs))
 
 unfoldable pub changeIn : List (List ℕ) → Line
-changeIn fs = lineOf (Option·map change (settingsIn fs))
+changeIn fs = lineOf (Option·map change (settingsIn four fs))
 
 -- a block number is at most 65535; without samples it is an empty block
 unfoldable pub blockIn : List (List ℕ) → Line
@@ -63,6 +73,17 @@ unfoldable pub resetIn : List (List ℕ) → Line
 resetIn [] = reset
 resetIn (f ∷ fs) = unreadable
 
+unfoldable pub modeIn : List (List ℕ) → Line
+modeIn fs = lineOf (Option·map mode (settingsIn one fs))
+
+unfoldable pub channelIn : List (List ℕ) → Line
+channelIn fs = lineOf (Option·map channel (settingsIn one fs))
+
+-- at least one byte, each at most 255
+unfoldable pub midiIn : List (List ℕ) → Line
+midiIn [] = unreadable
+midiIn (f ∷ fs) = lineOf (Option·map midi (each (number 255) (f ∷ fs)))
+
 -- two texts are the same
 unfoldable pub same : List ℕ → List ℕ → Bool
 same [] [] = true
@@ -70,7 +91,7 @@ same [] (b ∷ bs) = false
 same (a ∷ rest) [] = false
 same (a ∷ rest) (b ∷ bs) = eqb a b && same rest bs
 
--- "start", "change", "block", "reset"
+-- "start", "change", "block", "reset", "mode", "channel", "midi"
 abbrev pub startWord : List ℕ
 startWord = 115 ∷ 116 ∷ 97 ∷ 114 ∷ 116 ∷ []
 
@@ -83,10 +104,25 @@ blockWord = 98 ∷ 108 ∷ 111 ∷ 99 ∷ 107 ∷ []
 abbrev pub resetWord : List ℕ
 resetWord = 114 ∷ 101 ∷ 115 ∷ 101 ∷ 116 ∷ []
 
+abbrev pub modeWord : List ℕ
+modeWord = 109 ∷ 111 ∷ 100 ∷ 101 ∷ []
+
+abbrev pub channelWord : List ℕ
+channelWord = 99 ∷ 104 ∷ 97 ∷ 110 ∷ 110 ∷ 101 ∷ 108 ∷ []
+
+abbrev pub midiWord : List ℕ
+midiWord = 109 ∷ 105 ∷ 100 ∷ 105 ∷ []
+
 unfoldable pub recordIn : List (List ℕ) → Line
 recordIn [] = unreadable
 recordIn (word ∷ fs) =
-    cond (same word startWord) (startIn fs) (cond (same word changeWord) (changeIn fs) (cond (same word blockWord) (blockIn fs) (cond (same word resetWord) (resetIn fs) unreadable)))
+    cond (same word startWord) (startIn fs)
+    (cond (same word changeWord) (changeIn fs)
+    (cond (same word blockWord) (blockIn fs)
+    (cond (same word resetWord) (resetIn fs)
+    (cond (same word modeWord) (modeIn fs)
+    (cond (same word channelWord) (channelIn fs)
+    (cond (same word midiWord) (midiIn fs) unreadable))))))
 
 -- a line of at most 8,192 bytes, without its end
 unfoldable pub read : List ℕ → Line
@@ -103,13 +139,26 @@ abbrev pub blockLine : Answer → List ℤ → List ℕ
 blockLine a ys =
     decimal (a .number) ++ (9 ∷ decimal (a .written)) ++ (9 ∷ decimal (a .repeated)) ++ (9 ∷ decimal (a .dropped)) ++ sampleFields (take (a .written) ys) ++ (10 ∷ [])
 
+-- the settings that a line asks the tuner t for: those that it does not name stay
+abbrev pub withFour : Tuner → Settings → Settings
+withFour t s = record { scale = s .scale; eps = s .eps; decay = s .decay; floor = s .floor; mode = t .settings .mode; channel = t .settings .channel }
+
+abbrev pub withMode : Tuner → ℕ → Settings
+withMode t m = let s = t .settings in record { scale = s .scale; eps = s .eps; decay = s .decay; floor = s .floor; mode = m; channel = s .channel }
+
+abbrev pub withChannel : Tuner → ℕ → Settings
+withChannel t c = let s = t .settings in record { scale = s .scale; eps = s .eps; decay = s .decay; floor = s .floor; mode = s .mode; channel = c }
+
 -- a line to the tuner t leaves t′ and is answered by this text
 pub data Said (t : Tuner) : Line → Tuner → List ℕ → Type 0 where
   begun : {s : Settings} {t′ : Tuner} {a : Answer} → Started s t′ a → a .number ≡ 0 → Said t (start s) t′ (numberLine (a .number))
   not-begun : {s : Settings} {t′ : Tuner} {a : Answer} → Started s t′ a → (a .number ≡ 0 → ⊥) → Said t (start s) t (numberLine (a .number))
-  changed : {s : Settings} {t′ : Tuner} {a : Answer} → Changed t s t′ a → Said t (change s) t′ (numberLine (a .number))
-  taken : {k : ℕ} {xs ys : List ℤ} {t′ : Tuner} {a : Answer} → Took t k xs (replicate 512 (pos 0)) t′ a ys → Said t (block k xs) t′ (blockLine a ys)
+  changed : {s : Settings} {t′ : Tuner} {a : Answer} → Changed t (withFour t s) t′ a → Said t (change s) t′ (numberLine (a .number))
+  taken : {k : ℕ} {xs ys : List ℤ} {t′ : Tuner} {a : Answer} → Took t k xs (replicate longestBlock (pos 0)) t′ a ys → Said t (block k xs) t′ (blockLine a ys)
   begun-again : {t′ : Tuner} {a : Answer} → Reset t t′ a → Said t reset t′ (numberLine (a .number))
+  mode-changed : {m : ℕ} {t′ : Tuner} {a : Answer} → Changed t (withMode t m) t′ a → Said t (mode m) t′ (numberLine (a .number))
+  channel-changed : {c : ℕ} {t′ : Tuner} {a : Answer} → Changed t (withChannel t c) t′ a → Said t (channel c) t′ (numberLine (a .number))
+  keyed : {bytes : List ℕ} {t′ : Tuner} {a : Answer} → Keyed t bytes t′ a → Said t (midi bytes) t′ (numberLine (a .number))
   not-read : Said t unreadable t (numberLine 10)
 
 -- the promise of a line: with room for 4,096 bytes it is answered at the front of the output, and with less nothing is done

@@ -7,10 +7,10 @@ use lib.IntN.{pos}
 use lib.ListN.{length, replicate}
 use Rattle.tuner.specs.declared.Tuner.{Tuner}
 use Rattle.answers.specs.declared.Answer.{Answer}
-use Rattle.tuner.specs.Verdicts.{took-one, changed-one, reset-one}
+use Rattle.tuner.specs.Verdicts.{took-one, changed-one, reset-one, keyed-one}
 use Rattle.tuner.specs.Starts.{one-start}
 use Rattle.text.specs.Text.{Put, put}
-use Rattle.lines.specs.Lines.{Line, numberLine, blockLine, Said, begun, not-begun, changed, taken, begun-again, not-read, Answered, answered, no-room}
+use Rattle.lines.specs.Lines.{Line, numberLine, blockLine, Said, begun, not-begun, changed, taken, begun-again, mode-changed, channel-changed, keyed, not-read, Answered, answered, no-room}
 
 numbers : {a b : Answer} → a ≡ b → a .number ≡ b .number
 numbers e = ap (λ (a : Answer). a .number) e
@@ -24,6 +24,9 @@ module _ {t : Tuner} where
   said-one (changed p) (changed q) = let o = changed-one p q in (o .0, ap numberLine (numbers (o .1)))
   said-one (taken p) (taken q) = let o = took-one p q in (o .0, λ i. blockLine (o .1 i) (o .2 i))
   said-one (begun-again p) (begun-again q) = let o = reset-one p q in (o .0, ap numberLine (numbers (o .1)))
+  said-one (mode-changed p) (mode-changed q) = let o = changed-one p q in (o .0, ap numberLine (numbers (o .1)))
+  said-one (channel-changed p) (channel-changed q) = let o = changed-one p q in (o .0, ap numberLine (numbers (o .1)))
+  said-one (keyed p) (keyed q) = let o = keyed-one p q in (o .0, ap numberLine (numbers (o .1)))
   said-one not-read not-read = (refl, refl)
 
   pub answered-one : {line out : List ℕ} {t₁ t₂ : Tuner} {n₁ n₂ : ℕ} {o₁ o₂ : List ℕ} → Answered t line out t₁ n₁ o₁ → Answered t line out t₂ n₂ o₂ → (t₁ ≡ t₂) × (n₁ ≡ n₂) × (o₁ ≡ o₂)

@@ -4,17 +4,19 @@ use mathlib.Core.Bool.{Bool, true, false, cond}
 use mathlib.Core.List.{List, [], _∷_, _++_}
 use mathlib.Core.Option.{Option, none, some, Option·map, bind}
 use Prim.Native.Nat.{ℕ, _+_, _≤_, _<_}
-use lib.IntN.{ℤ, pos}
+use lib.Dec.{eqb}
 use lib.ListN.{length, take}
+use Rattle.rules.specs.declared.Settings.{Settings}
+use Rattle.answers.specs.declared.Answer.{Answer}
 use Rattle.tuner.specs.declared.Tuner.{Tuner}
-use Rattle.text.specs.Text.{number, sample, Put}
+use Rattle.tuner.specs.Tuners.{Changed}
+use Rattle.text.specs.Text.{number, Put}
 use Rattle.text.specs.Places.{optional}
 use Rattle.text.specs.Fields.{later}
 use Rattle.lines.specs.declared.Reply.{Reply}
 use Rattle.lines.specs.declared.NumberField.{NumberField}
-use Rattle.lines.specs.declared.SampleField.{SampleField}
 use Rattle.lines.specs.declared.Count.{Count}
-use Rattle.lines.specs.Lines.{Line, each, same, startWord, changeWord, blockWord, resetWord, Said}
+use Rattle.lines.specs.Lines.{Line, unreadable, each, modeIn, channelIn, midiIn, same, startWord, changeWord, blockWord, resetWord, modeWord, channelWord, midiWord, numberLine, Said}
 
 -- the first of some fields is read, and the fields after it
 pub data NumberIn (most : ℕ) (fs : List (List ℕ)) : Bool → ℕ → List (List ℕ) → Type 0 where
@@ -25,23 +27,33 @@ pub data NumberIn (most : ℕ) (fs : List (List ℕ)) : Bool → ℕ → List (L
 pub record NumberRead (most : ℕ) (line : List ℕ) (at : ℕ) (r : NumberField) : Type 0 where
   pub within : r .to ≤ length line
   pub small : r .value ≤ most
+  pub long : r .ok ≡ true → at + 2 ≤ r .to
   pub field : NumberIn most (later line at) (r .ok) (r .value) (later line (r .to))
 
-pub record SampleRead (line : List ℕ) (at : ℕ) (r : SampleField) : Type 0 where
-  pub within : r .to ≤ length line
+-- the field after a place is read in one way, and the place after it; one that can be read takes at least two bytes with its tab
+pub record FieldRead {A : Type 0} (how : List ℕ → Option A) (line : List ℕ) (at : ℕ) (ok : Bool) (value : A) (to : ℕ) : Type 0 where
+  pub within : to ≤ length line
   pub text : List ℕ
-  pub field : later line at ≡ text ∷ later line (r .to)
-  pub value : optional (r .ok) (r .value) ≡ sample text
-  pub long : r .ok ≡ true → at + 2 ≤ r .to
+  pub field : later line at ≡ text ∷ later line to
+  pub read : optional ok value ≡ how text
+  pub long : ok ≡ true → at + 2 ≤ to
 
-pub record SamplesRead (line : List ℕ) (at : ℕ) (r : Count) (xs : List ℤ) : Type 0 where
+-- all fields from a place on are read in one way
+pub record FieldsRead {A : Type 0} (how : List ℕ → Option A) (line : List ℕ) (at : ℕ) (r : Count) (xs : List A) : Type 0 where
   pub many : r .value ≤ 4096
   pub long : length xs ≡ 4096
-  pub values : optional (r .ok) (take (r .value) xs) ≡ each sample (later line at)
+  pub values : optional (r .ok) (take (r .value) xs) ≡ each how (later line at)
 
--- the first word: 1 start, 2 change, 3 block, 4 reset, 0 another
+-- the first word: 1 start, 2 change, 3 block, 4 reset, 5 mode, 6 channel, 7 midi, 0 another
+unfoldable pub keyboardWordOf : List ℕ → ℕ
+keyboardWordOf w = cond (same w modeWord) 5 (cond (same w channelWord) 6 (cond (same w midiWord) 7 0))
+
 unfoldable pub wordOf : List ℕ → ℕ
-wordOf w = cond (same w startWord) 1 (cond (same w changeWord) 2 (cond (same w blockWord) 3 (cond (same w resetWord) 4 0)))
+wordOf w = cond (same w startWord) 1 (cond (same w changeWord) 2 (cond (same w blockWord) 3 (cond (same w resetWord) 4 (keyboardWordOf w))))
+
+-- the fields after the first word, by what it is
+unfoldable pub keyboardChosen : ℕ → List (List ℕ) → Line
+keyboardChosen n fs = cond (eqb n 5) (modeIn fs) (cond (eqb n 6) (channelIn fs) (cond (eqb n 7) (midiIn fs) unreadable))
 
 -- a line was answered at the front of the output
 pub record Replied (t : Tuner) (line : Line) (r : Reply) (out out′ : List ℕ) : Type 0 where
@@ -52,3 +64,13 @@ pub record Replied (t : Tuner) (line : Line) (r : Reply) (out out′ : List ℕ)
 -- the same line by another name
 pub replied-as : {t : Tuner} {line line′ : Line} {r : Reply} {out out′ : List ℕ} → line ≡ line′ → Replied t line′ r out out′ → Replied t line r out out′
 replied-as {t} {r = r} {out} {out′} e p = subst (λ (l : Line). Replied t l r out out′) (sym e) p
+
+-- other settings were asked for, and their number was answered
+pub record ChangeReplied (t : Tuner) (s : Settings) (r : Reply) (out out′ : List ℕ) : Type 0 where
+  pub answer : Answer
+  pub changed : Changed t s (r .tuner) answer
+  pub put : Put out 0 (numberLine (answer .number)) out′ (r .length)
+
+-- as a line that asks for them
+pub replied-changed : {t : Tuner} {s : Settings} {line : Line} {r : Reply} {out out′ : List ℕ} (p : ChangeReplied t s r out out′) → Said t line (r .tuner) (numberLine (p .answer .number)) → Replied t line r out out′
+replied-changed p said = record { text = numberLine (p .answer .number); said = said; put = p .put }

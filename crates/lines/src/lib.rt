@@ -1,5 +1,7 @@
 // The line program's lines: a line is read, answered by the tuner's calls, and the answer is written.
 use rules::LONGEST_BLOCK;
+use rules::SCALE_MODE;
+use text::Number;
 use tuner::Answer;
 use tuner::Settings;
 use tuner::Tuner;
@@ -8,11 +10,11 @@ ghost use mathlib.Core.Bool.{false};
 ghost use Prim.Native.Nat.{_+_, _≤_, _<_};
 ghost use lib.ListN.{length};
 ghost use Rattle.rules.specs.Rules.{longestBlock};
-ghost use Rattle.text.specs.Text.{fields, Put};
+ghost use Rattle.text.specs.Text.{fields, number, sample, Put};
 ghost use Rattle.text.specs.Places.{optional};
 ghost use Rattle.text.specs.Fields.{later};
-ghost use Rattle.lines.specs.Lines.{settingsIn, recordIn, startIn, changeIn, blockIn, resetIn, numberLine, blockLine, Answered, AnsweredAll, unreadable};
-ghost use Rattle.lines.specs.Steps.{NumberRead, SampleRead, SamplesRead, wordOf, Replied};
+ghost use Rattle.lines.specs.Lines.{settingsIn, four, one, recordIn, startIn, changeIn, blockIn, resetIn, modeIn, channelIn, midiIn, numberLine, blockLine, Answered, AnsweredAll, unreadable};
+ghost use Rattle.lines.specs.Steps.{NumberRead, FieldRead, FieldsRead, wordOf, keyboardWordOf, keyboardChosen, Replied, ChangeReplied};
 
 // What a line is answered: the tuner after it, and how many bytes were written.
 pub struct Reply {
@@ -47,7 +49,7 @@ struct FourSettings {
     settings: Settings,
 }
 
-// How many samples were read, where ok.
+// How many values were read, where ok.
 struct Count {
     ok: bool,
     value: usize,
@@ -79,7 +81,7 @@ fn number_field(line: &[u8], at: usize, most: u32) -> NumberField
 // The sample in the field after the tab at a place.
 fn sample_field(line: &[u8], at: usize) -> SampleField
     requires { ⌜ at < length (now line) ⌝ }
-    ensures { λ r. ⌜ SampleRead (now (line .entry)) at r ⌝ }
+    ensures { λ r. ⌜ FieldRead sample (now (line .entry)) at (r .ok) (r .value) (r .to) ⌝ }
 {
     let from = at + 1;
     let to = text::first(line, from, 9);
@@ -101,6 +103,8 @@ fn no_settings() -> FourSettings
             eps: 0,
             decay: 0,
             floor: 0,
+            mode: SCALE_MODE,
+            channel: 0,
         },
     }
 }
@@ -108,7 +112,7 @@ fn no_settings() -> FourSettings
 // The four settings in the fields from a place on, and no field more.
 fn four_settings(line: &[u8], at: usize) -> FourSettings
     requires { ⌜ at ≤ length (now line) ⌝ }
-    ensures { λ r. ⌜ optional (r .ok) (r .settings) ≡ settingsIn (later (now (line .entry)) at) ⌝ }
+    ensures { λ r. ⌜ optional (r .ok) (r .settings) ≡ settingsIn four (later (now (line .entry)) at) ⌝ }
 {
     let a = number_field(line, at, 4294967295);
     if !a.ok {
@@ -136,14 +140,34 @@ fn four_settings(line: &[u8], at: usize) -> FourSettings
             eps: b.value,
             decay: c.value,
             floor: d.value,
+            mode: SCALE_MODE,
+            channel: 0,
         },
+    }
+}
+
+// The setting in the field from a place on, and no field more.
+fn one_setting(line: &[u8], at: usize) -> Number
+    requires { ⌜ at ≤ length (now line) ⌝ }
+    ensures { λ r. ⌜ optional (r .ok) (r .value) ≡ settingsIn one (later (now (line .entry)) at) ⌝ }
+{
+    let a = number_field(line, at, 4294967295);
+    if a.to < line.len() {
+        return Number {
+            ok: false,
+            value: 0,
+        };
+    }
+    Number {
+        ok: a.ok,
+        value: a.value,
     }
 }
 
 // The samples in the fields from a place on.
 fn samples_from(line: &[u8], at: usize, xs: &mut [i16; 4096]) -> Count
     requires { ⌜ (at ≤ length (now line)) × (length (now line) ≤ 8192) × (length (now xs) ≡ 4096) ⌝ }
-    ensures { λ r. ⌜ SamplesRead (now (line .entry)) at r (now (xs .exit)) ⌝ }
+    ensures { λ r. ⌜ FieldsRead sample (now (line .entry)) at r (now (xs .exit)) ⌝ }
 {
     let mut to = at;
     let mut n: usize = 0;
@@ -159,6 +183,29 @@ fn samples_from(line: &[u8], at: usize, xs: &mut [i16; 4096]) -> Count
         xs[n] = v;
         n += 1;
         to = x.to;
+    }
+    Count { ok: true, value: n }
+}
+
+// The bytes in the fields from a place on.
+fn bytes_from(line: &[u8], at: usize, bytes: &mut [u8; 4096]) -> Count
+    requires { ⌜ (at ≤ length (now line)) × (length (now line) ≤ 8192) × (length (now bytes) ≡ 4096) ⌝ }
+    ensures { λ r. ⌜ FieldsRead (number 255) (now (line .entry)) at r (now (bytes .exit)) ⌝ }
+{
+    let mut to = at;
+    let mut n: usize = 0;
+    while to < line.len() {
+        let b = number_field(line, to, 255);
+        if !b.ok {
+            return Count {
+                ok: false,
+                value: 0,
+            };
+        }
+        let v = b.value as u8;
+        bytes[n] = v;
+        n += 1;
+        to = b.to;
     }
     Count { ok: true, value: n }
 }
@@ -225,6 +272,21 @@ fn start_line(t: Tuner, line: &[u8], at: usize, out: &mut [u8]) -> Reply
     }
 }
 
+// Asks for other settings, and writes the number that is answered.
+fn settings_line(t: Tuner, s: Settings, out: &mut [u8]) -> Reply
+    requires { ⌜ 4096 ≤ length (now out) ⌝ }
+    ensures { λ r. ⌜ ChangeReplied t s r (now (out .entry)) (now (out .exit)) ⌝ }
+{
+    let d = t.change(s);
+    let n = say_number(out, d.answer.number);
+    let u = d.tuner;
+    Reply {
+        tuner: u,
+        length: n,
+    }
+}
+
+// Change keeps mode and channel.
 fn change_line(t: Tuner, line: &[u8], at: usize, out: &mut [u8]) -> Reply
     requires { ⌜ (at ≤ length (now line)) × (4096 ≤ length (now out)) ⌝ }
     ensures { λ r. ⌜ Replied t (changeIn (later (now (line .entry)) at)) r (now (out .entry)) (now (out .exit)) ⌝ }
@@ -233,13 +295,36 @@ fn change_line(t: Tuner, line: &[u8], at: usize, out: &mut [u8]) -> Reply
     if !s.ok {
         return unreadable(t, out);
     }
-    let d = t.change(s.settings);
-    let n = say_number(out, d.answer.number);
-    let u = d.tuner;
-    Reply {
-        tuner: u,
-        length: n,
+    let mut asked = s.settings;
+    asked.mode = t.settings.mode;
+    asked.channel = t.settings.channel;
+    settings_line(t, asked, out)
+}
+
+fn mode_line(t: Tuner, line: &[u8], at: usize, out: &mut [u8]) -> Reply
+    requires { ⌜ (at ≤ length (now line)) × (4096 ≤ length (now out)) ⌝ }
+    ensures { λ r. ⌜ Replied t (modeIn (later (now (line .entry)) at)) r (now (out .entry)) (now (out .exit)) ⌝ }
+{
+    let m = one_setting(line, at);
+    if !m.ok {
+        return unreadable(t, out);
     }
+    let mut asked = t.settings;
+    asked.mode = m.value;
+    settings_line(t, asked, out)
+}
+
+fn channel_line(t: Tuner, line: &[u8], at: usize, out: &mut [u8]) -> Reply
+    requires { ⌜ (at ≤ length (now line)) × (4096 ≤ length (now out)) ⌝ }
+    ensures { λ r. ⌜ Replied t (channelIn (later (now (line .entry)) at)) r (now (out .entry)) (now (out .exit)) ⌝ }
+{
+    let c = one_setting(line, at);
+    if !c.ok {
+        return unreadable(t, out);
+    }
+    let mut asked = t.settings;
+    asked.channel = c.value;
+    settings_line(t, asked, out)
 }
 
 fn reset_line(t: Tuner, line: &[u8], at: usize, out: &mut [u8]) -> Reply
@@ -283,7 +368,45 @@ fn block_line(t: Tuner, line: &[u8], at: usize, out: &mut [u8]) -> Reply
     }
 }
 
-// The first word: 1 start, 2 change, 3 block, 4 reset, 0 another.
+fn midi_line(t: Tuner, line: &[u8], at: usize, out: &mut [u8]) -> Reply
+    requires { ⌜ (at ≤ length (now line)) × (length (now line) ≤ 8192) × (4096 ≤ length (now out)) ⌝ }
+    ensures { λ r. ⌜ Replied t (midiIn (later (now (line .entry)) at)) r (now (out .entry)) (now (out .exit)) ⌝ }
+{
+    if at == line.len() {
+        return unreadable(t, out);
+    }
+    let mut bytes = [0u8; 4096];
+    let c = bytes_from(line, at, &mut bytes);
+    if !c.ok {
+        return unreadable(t, out);
+    }
+    let n = c.value;
+    let d = t.midi(&bytes[..n]);
+    let length = say_number(out, d.answer.number);
+    let u = d.tuner;
+    Reply {
+        tuner: u,
+        length: length,
+    }
+}
+
+// 5 mode, 6 channel, 7 midi, 0 another.
+fn keyboard_word(f: &[u8]) -> u32
+    ensures { λ r. ⌜ r ≡ keyboardWordOf (now (f .entry)) ⌝ }
+{
+    if text::same(f, b"mode") {
+        return 5;
+    }
+    if text::same(f, b"channel") {
+        return 6;
+    }
+    if text::same(f, b"midi") {
+        return 7;
+    }
+    0
+}
+
+// The first word: 1 start, 2 change, 3 block, 4 reset, or one of the keyboard's.
 fn word(f: &[u8]) -> u32
     ensures { λ r. ⌜ r ≡ wordOf (now (f .entry)) ⌝ }
 {
@@ -299,7 +422,24 @@ fn word(f: &[u8]) -> u32
     if text::same(f, b"reset") {
         return 4;
     }
-    0
+    keyboard_word(f)
+}
+
+// By the line's first word w, which is one of the keyboard's or another.
+fn keyboard_line(t: Tuner, line: &[u8], at: usize, w: u32, out: &mut [u8]) -> Reply
+    requires { ⌜ (at ≤ length (now line)) × (length (now line) ≤ 8192) × (4096 ≤ length (now out)) ⌝ }
+    ensures { λ r. ⌜ Replied t (keyboardChosen w (later (now (line .entry)) at)) r (now (out .entry)) (now (out .exit)) ⌝ }
+{
+    if w == 5 {
+        return mode_line(t, line, at, out);
+    }
+    if w == 6 {
+        return channel_line(t, line, at, out);
+    }
+    if w == 7 {
+        return midi_line(t, line, at, out);
+    }
+    unreadable(t, out)
 }
 
 // By the line's first word.
@@ -321,7 +461,7 @@ fn record_line(t: Tuner, line: &[u8], out: &mut [u8]) -> Reply
     if w == 4 {
         return reset_line(t, line, at, out);
     }
-    unreadable(t, out)
+    keyboard_line(t, line, at, w, out)
 }
 
 // Answers a line, given without its end. With less room than 4,096 bytes nothing is done.

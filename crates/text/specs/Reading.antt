@@ -91,8 +91,7 @@ unfolding sample
 plain-sample [] ok n h m e = absurd (omega arith)
 plain-sample (b ∷ bs) ok n h m e = rw (ne-eqb b 45 m) (turned (λ (n : ℕ). pos n) ok n e)
 
--- a field with a sample in it is not empty
-pub sample-long : (f : List ℕ) (x : ℤ) → optional true x ≡ sample f → 0 < length f
-unfolding sample
-sample-long [] x e = absurd (Option·some-ne-none x e)
-sample-long (b ∷ bs) x e = omega arith
+-- where nothing is read from an empty field, a field that something was read from is not empty
+pub field-long : {A : Type 0} (how : List ℕ → Option A) → how [] ≡ none → (f : List ℕ) (x : A) → optional true x ≡ how f → 0 < length f
+field-long how z [] x e = absurd (Option·some-ne-none x (e ∙ z))
+field-long how z (b ∷ bs) x e = omega arith

@@ -3,14 +3,18 @@
 use native.Mathlib.Omega.{arith}
 use borrow.Author.Needs.{needs}
 use mathlib.Core.Path.{_≡_, refl, sym, ap, _∙_, subst}
-use Rattle.text.specs.Fields.{later-end, later-field}
+use mathlib.Core.List.{[]}
+use Rattle.whole.specs.Tests.{yes-and-no}
+use Rattle.text.specs.Text.{number}
+use Rattle.text.specs.Fields.{later-end}
+use Rattle.text.specs.Reading.{number-empty}
 use Rattle.lines.specs.Steps.{no-field}
-use Rattle.lines.specs.Laws.{number-in}
+use Rattle.lines.specs.Laws.{field-at, number-in}
 use Rattle.lines.proofs.number_field.Statement.{statement}
 use Rattle.lines.proofs.number_field.Tie as tie
 
 returns : tie.Need-returns
-returns c = record { within = omega arith; small = omega arith; field = no-field (later-end (c .before .before .args .line .now) (c .before .before .args .at) (omega arith)) }
+returns c = record { within = omega arith; small = omega arith; long = λ y. absurd (yes-and-no y refl); field = no-field (later-end (c .before .before .args .line .now) (c .before .before .args .at) (omega arith)) }
 
 add-from : tie.Need-add-from
 add-from c = search needs
@@ -34,11 +38,9 @@ returns-2 : tie.Need-returns-2
 returns-2 c =
     let f = c .before .before .first in
     let a = c .before .before .before .before .before .args in
-    record {
-      within = f .ensures .within;
-      small = c .read-number .ensures .1;
-      field = number-in (c .read-number .result .ok) (c .read-number .result .value) (later-field (a .line .now) (a .at) (f .result) (omega arith) (f .ensures)) (c .read-number .ensures .0);
-    }
+    let n = c .read-number in
+    let p = field-at (number (a .most)) (number-empty (a .most) [] refl) (a .line .now) (a .at) (f .result) (n .result .ok) (n .result .value) (omega arith) (f .ensures) (n .ensures .0) in
+    record { within = p .within; small = n .ensures .1; long = p .long; field = number-in (n .result .ok) (n .result .value) (p .field) (p .read) }
 
 pub number-field-spec : {M : Type 1} → statement M
 number-field-spec =

@@ -86,8 +86,8 @@ returns-4 c =
     let q = c .before .before in
     replied-as (by-word (q .before .before .before .before .before .before) (q .before .before .if4 .taken)) (q .reset-line .ensures)
 
-unreadable-requires : tie.Need-unreadable-requires
-unreadable-requires c κs = search needs
+keyboard-line-requires : tie.Need-keyboard-line-requires
+keyboard-line-requires c κs = search needs
 
 same-length-5 : tie.Need-same-length-5
 same-length-5 c = search needs
@@ -97,7 +97,7 @@ returns-5 c =
     let q = c .before .before in
     let e = q .before .before in
     let w = e .before .before .before .before in
-    replied-as (by-word w refl ∙ chosen-other (w .word .result) (left w) (e .before .before .before .if1 .left) (e .before .before .if2 .left) (e .before .if3 .left) (e .if4 .left)) (q .unreadable .ensures)
+    replied-as (by-word w refl ∙ chosen-other (w .word .result) (left w) (e .before .before .before .if1 .left) (e .before .before .if2 .left) (e .before .if3 .left) (e .if4 .left)) (q .keyboard-line .ensures)
 
 pub record-line-spec : {M : Type 1} → statement M
 record-line-spec =
@@ -118,6 +118,6 @@ record-line-spec =
     reset-line-requires
     same-length-4
     returns-4
-    unreadable-requires
+    keyboard-line-requires
     same-length-5
     returns-5)

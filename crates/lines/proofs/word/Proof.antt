@@ -50,9 +50,17 @@ returns-4 : tie.Need-returns-4
 unfolding wordOf
 returns-4 c = let q = c .before .before .before in let p = q .before .before .before in let o = p .before .before .before in rw (decided _ startWord (o .before .same .ensures), o .if1 .left, decided _ changeWord (p .before .same2 .ensures), p .if2 .left, decided _ blockWord (q .before .same3 .ensures), q .if3 .left, decided _ resetWord (c .before .same4 .ensures), c .if4 .taken)
 
+keyboard-word-requires : tie.Need-keyboard-word-requires
+keyboard-word-requires c κs = search needs
+
 returns-5 : tie.Need-returns-5
 unfolding wordOf
-returns-5 c = let q = c .before .before .before in let p = q .before .before .before in let o = p .before .before .before in rw (decided _ startWord (o .before .same .ensures), o .if1 .left, decided _ changeWord (p .before .same2 .ensures), p .if2 .left, decided _ blockWord (q .before .same3 .ensures), q .if3 .left, decided _ resetWord (c .before .same4 .ensures), c .if4 .left)
+returns-5 c =
+    let r = c .before in
+    let q = r .before .before .before in
+    let p = q .before .before .before in
+    let o = p .before .before .before in
+    rw (decided _ startWord (o .before .same .ensures), o .if1 .left, decided _ changeWord (p .before .same2 .ensures), p .if2 .left, decided _ blockWord (q .before .same3 .ensures), q .if3 .left, decided _ resetWord (r .before .same4 .ensures), r .if4 .left) (c .keyboard-word .ensures)
 
 pub word-spec : {M : Type 1} → statement M
 word-spec =
@@ -70,4 +78,5 @@ word-spec =
     slice-aggregate-same-4
     same-requires-4
     returns-4
+    keyboard-word-requires
     returns-5)
