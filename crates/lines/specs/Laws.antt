@@ -1,6 +1,6 @@
 -- Laws of reading a line field by field.
 use mathlib.Core.Path.{_≡_, refl, sym, ap, _∙_, subst}
-use mathlib.Core.Bool.{Bool, true, false, cond, _&&_}
+use mathlib.Core.Bool.{Bool, true, false, cond}
 use mathlib.Core.List.{List, [], _∷_, _++_, append-assoc, append-nil}
 use mathlib.Core.Option.{Option, none, some, Option·map, bind}
 use Prim.Native.Nat.{ℕ, _+_, _-_, _*_, _≤_, _<_}
@@ -11,7 +11,7 @@ use lib.Dec.{eqb}
 use lib.IntN.{ℤ}
 use lib.ListN.{length, take, drop, set, length-set, length-drop}
 use lib.Seq.{take-suc-set, length-take-le}
-use Rattle.whole.specs.Tests.{Decides, yes-and-no, and-left, and-right, by, cond-yes, cond-no}
+use Rattle.whole.specs.Tests.{Decides, yes-and-no, and-left, and-right, by}
 use Rattle.tuner.specs.declared.Tuner.{Tuner}
 use Rattle.answers.specs.declared.Answer.{Answer}
 use Rattle.tuner.specs.Tuners.{Verdict, record-out-of-range, block-empty, block-over-512, output-short, number-neither, other-samples, given-again, take-full, taken, answerBy, Took}
@@ -137,7 +137,7 @@ module _ {A : Type 0} (how : List ℕ → Option A) where
 
     module _ {to n : ℕ} (p : Reading line at xs to n) (short : length line ≤ 8192) where
       -- there is a place for one more
-      pub place-left : to < length line → n < length xs
+      place-left : to < length line → n < length xs
       place-left h = omega (arith, p .two-each, p .room)
 
       pub all-read : length line ≤ to → FieldsRead how line at (record { ok = true; value = n }) xs

@@ -3,13 +3,12 @@ use mathlib.Core.Path.{_≡_, refl, sym, ap, _∙_}
 use mathlib.Core.List.{List}
 use Prim.Native.Nat.{ℕ}
 use native.Mathlib.Omega.{arith}
-use lib.IntN.{pos}
-use lib.ListN.{length, replicate}
+use lib.ListN.{length}
 use Rattle.tuner.specs.declared.Tuner.{Tuner}
 use Rattle.answers.specs.declared.Answer.{Answer}
 use Rattle.tuner.specs.Verdicts.{took-one, changed-one, reset-one, keyed-one}
 use Rattle.tuner.specs.Starts.{one-start}
-use Rattle.text.specs.Text.{Put, put}
+use Rattle.text.specs.Text.{put}
 use Rattle.lines.specs.Lines.{Line, numberLine, blockLine, Said, begun, not-begun, changed, taken, begun-again, mode-changed, channel-changed, keyed, not-read, Answered, answered, no-room}
 
 numbers : {a b : Answer} → a ≡ b → a .number ≡ b .number

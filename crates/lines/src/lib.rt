@@ -195,17 +195,17 @@ fn bytes_from(line: &[u8], at: usize, bytes: &mut [u8; 4096]) -> Count
     let mut to = at;
     let mut n: usize = 0;
     while to < line.len() {
-        let b = number_field(line, to, 255);
-        if !b.ok {
+        let byte = number_field(line, to, 255);
+        if !byte.ok {
             return Count {
                 ok: false,
                 value: 0,
             };
         }
-        let v = b.value as u8;
+        let v = byte.value as u8;
         bytes[n] = v;
         n += 1;
-        to = b.to;
+        to = byte.to;
     }
     Count { ok: true, value: n }
 }

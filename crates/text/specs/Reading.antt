@@ -1,14 +1,13 @@
 -- Laws of numbers that are read digit by digit.
 use mathlib.Core.Path.{_≡_, refl, sym, ap, _∙_, subst}
-use mathlib.Core.Bool.{Bool, true, false, cond, _&&_}
+use mathlib.Core.Bool.{Bool, true, false}
 use mathlib.Core.List.{List, [], _∷_}
 use mathlib.Core.Option.{Option, none, some, Option·map, bind, Option·some-ne-none}
-use Prim.Native.Nat.{ℕ, zero, suc, _+_, _-_, _*_, _≤_, _<_}
+use Prim.Native.Nat.{ℕ, suc, _+_, _-_, _*_, _≤_, _<_}
 use native.Mathlib.Numerals.{add-one}
 use native.Mathlib.Omega.{arith}
 use borrow.Author.Tests.{lt-leb, le-leb, eq-eqb, ne-eqb}
-use lib.IntN.{ℤ, pos, negℤ}
-use lib.Dec.{leb, eqb}
+use lib.IntN.{pos, negℤ}
 use lib.ListN.{length, getD, take, drop}
 use lib.Seq.{drop-cons, drop-length, take-all}
 use Rattle.text.specs.Text.{oneMore, moreDigits, number, sample}

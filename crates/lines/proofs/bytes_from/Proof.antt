@@ -1,12 +1,11 @@
 -- `lines::bytes_from` meets its contract: those read so far stand in front of those still to come, and each took at least two bytes.
 -- Assumes nothing.
 use native.Mathlib.Omega.{arith}
-use borrow.Author.Needs.{needs}
 use Prim.Native.Nat.{_-_}
 use borrow.Author.Tests.{not-true, not-false}
 use lib.ListN.{length}
 use Rattle.text.specs.Text.{number}
-use Rattle.lines.specs.Laws.{field-read, Reading, none-read, next-read, one-unread, all-read, place-left}
+use Rattle.lines.specs.Laws.{field-read, Reading, none-read, next-read, one-unread, all-read}
 use Rattle.lines.proofs.bytes_from.Statement.{statement}
 use Rattle.lines.proofs.bytes_from.Tie as tie
 

@@ -1,6 +1,5 @@
 -- `lines::keyboard_line` meets its contract: the fields by the word given.
 -- Assumes nothing.
-use native.Mathlib.Omega.{arith}
 use borrow.Author.Needs.{needs}
 use mathlib.Core.Path.{_≡_, ap}
 use mathlib.Core.List.{List}

@@ -2,7 +2,7 @@
 -- Assumes nothing.
 use native.Mathlib.Omega.{arith}
 use borrow.Author.Needs.{needs}
-use mathlib.Core.Path.{_≡_, refl, sym, ap, _∙_, subst}
+use mathlib.Core.Path.{refl}
 use mathlib.Core.List.{[]}
 use Rattle.whole.specs.Tests.{yes-and-no}
 use Rattle.text.specs.Text.{number}

@@ -1,8 +1,7 @@
 -- `lines::one_setting` meets its contract: the number read leaves the fields after it, and there is none.
 -- Assumes nothing.
-use native.Mathlib.Omega.{arith}
 use borrow.Author.Needs.{needs}
-use mathlib.Core.Path.{_≡_, sym}
+use mathlib.Core.Path.{sym}
 use Rattle.text.specs.Fields.{later-end, later-some}
 use Rattle.lines.specs.Laws.{one-read, one-extra}
 use Rattle.lines.proofs.one_setting.Statement.{statement}

@@ -1,8 +1,7 @@
 -- `lines::sample_field` meets its contract: the field ends at the next tab or at the line's end.
 -- Assumes nothing.
-use native.Mathlib.Omega.{arith}
 use borrow.Author.Needs.{needs}
-use mathlib.Core.Path.{_≡_, refl, sym, ap, _∙_, subst}
+use mathlib.Core.Path.{refl, ap, _∙_}
 use mathlib.Core.List.{[]}
 use mir.Syntax.{w16}
 use mir.Val.{SFits, toZ, ofZ}

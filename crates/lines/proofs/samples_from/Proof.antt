@@ -2,7 +2,7 @@
 -- Assumes nothing.
 use native.Mathlib.Omega.{arith}
 use borrow.Author.Needs.{needs}
-use mathlib.Core.Path.{_≡_, sym, subst}
+use mathlib.Core.Path.{sym, subst}
 use Prim.Native.Nat.{_+_, _-_}
 use borrow.Author.Tests.{not-true, not-false}
 use borrow.Author.Needs.{sfits-of}
@@ -12,7 +12,7 @@ use mir.Syntax.{w16}
 use mir.Val.{SFits}
 use mir.Facts.{toZ-ofZ}
 use Rattle.text.specs.Text.{sample}
-use Rattle.lines.specs.Laws.{Reading, none-read, next-read, one-unread, all-read, place-left}
+use Rattle.lines.specs.Laws.{Reading, none-read, next-read, one-unread, all-read}
 use Rattle.lines.proofs.samples_from.Statement.{statement}
 use Rattle.lines.proofs.samples_from.Tie as tie
 

@@ -1,6 +1,5 @@
 -- `lines::start_line` meets its contract: the call's own promise, and the number that it answers.
 -- Assumes nothing.
-use native.Mathlib.Omega.{arith}
 use borrow.Author.Needs.{needs}
 use borrow.Author.Tests.{not-true, not-false}
 use Rattle.lines.specs.Lines.{start, startIn, numberLine, begun, not-begun}

@@ -1,9 +1,6 @@
 -- `lines::word` meets its contract: the tests in the same order.
 -- Assumes nothing.
-use native.Mathlib.Omega.{arith}
 use borrow.Author.Needs.{needs}
-use mathlib.Core.Path.{_≡_, refl, sym, ap, _∙_, subst}
-use mathlib.Core.Bool.{true, false}
 use Rattle.lines.specs.Lines.{same, startWord, changeWord, blockWord, resetWord}
 use Rattle.lines.specs.Steps.{wordOf}
 use Rattle.lines.specs.Laws.{decided}
