@@ -33,7 +33,7 @@ unfoldable pub each : {A : Type 0} → (List ℕ → Option A) → List (List �
 each how [] = some []
 each {A} how (f ∷ fs) = bind (how f) (λ (x : A). Option·map (λ (xs : List A). x ∷ xs) (each how fs))
 
--- scale, eps, decay, floor: neither a missing nor an extra field; mode and channel are the scale's and 0
+-- scale, eps, decay, floor: neither a missing nor an extra field; a start has mode scale and channel 0
 unfoldable pub four : List ℕ → Option Settings
 four [] = none
 four (a ∷ []) = none
@@ -42,7 +42,7 @@ four (a ∷ b ∷ c ∷ []) = none
 four (a ∷ b ∷ c ∷ d ∷ []) = some (record { scale = a; eps = b; decay = c; floor = d; mode = scaleMode; channel = 0 })
 four (a ∷ b ∷ c ∷ d ∷ e ∷ more) = none
 
--- a setting alone
+-- a setting alone: neither a missing nor an extra field
 unfoldable pub one : List ℕ → Option ℕ
 one [] = none
 one (a ∷ []) = some a
@@ -139,7 +139,7 @@ abbrev pub blockLine : Answer → List ℤ → List ℕ
 blockLine a ys =
     decimal (a .number) ++ (9 ∷ decimal (a .written)) ++ (9 ∷ decimal (a .repeated)) ++ (9 ∷ decimal (a .dropped)) ++ sampleFields (take (a .written) ys) ++ (10 ∷ [])
 
--- the settings that a line asks the tuner t for: those that it does not name stay
+-- the settings that change, mode and channel ask the tuner t for: those that a line does not name stay
 abbrev pub withFour : Tuner → Settings → Settings
 withFour t s = record { scale = s .scale; eps = s .eps; decay = s .decay; floor = s .floor; mode = t .settings .mode; channel = t .settings .channel }
 
