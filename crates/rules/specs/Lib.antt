@@ -9,6 +9,7 @@ pub mod Periods
 pub mod Every
 pub mod Table
 pub mod Notes
+pub mod Smoothing
 pub mod Position
 pub mod Blocks
 pub mod Sane
