@@ -8,11 +8,12 @@ use rules::LAST_NOTE;
 use rules::LEAST_RATE;
 use rules::NOTES;
 use rules::SCALE_MODE;
+use rules::Smoothed;
 use rules::Tone;
 ghost use mathlib.Core.Path.{_≡_};
 ghost use mathlib.Core.Option.{some};
 ghost use Prim.Native.Nat.{ℕ, _+_, _-_, _%_, _≤_, _<_};
-ghost use Rattle.rules.specs.Rules.{table, notePeriod, ofScale, wanted, noteOf, wantedPeriod, rawRate, rawToward, smooth, leastPeriod, greatestPeriod, greatestRate, goalOf, goal, tuned};
+ghost use Rattle.rules.specs.Rules.{table, notePeriod, ofScale, wanted, noteOf, wantedPeriod, rawRate, rawToward, smoothRate, smoothKept, leastPeriod, greatestPeriod, greatestRate, goalOf, goal, tuned};
 ghost use Rattle.rules.specs.Facts.{ForceIn, OfTable, ToneIn};
 ghost use Rattle.notes.specs.Around.{Halving, Longer, LastOfScale, FirstOfScale};
 
@@ -257,12 +258,16 @@ fn raw_toward(period: u32, wanted: u32) -> u32
     raw
 }
 
-// (decay x rate + (256 - decay) x raw) / 256, rounded down.
-fn smooth(decay: u32, rate: u32, raw: u32) -> u32
-    requires { ⌜ (decay ≤ 255) × (rate ≤ greatestRate) × (raw ≤ greatestRate) ⌝ }
-    ensures { λ r. ⌜ r ≡ smooth decay rate raw ⌝ }
+// (decay x rate + (256 - decay) x raw + kept) / 256, rounded down, and what rounding cut off.
+fn smooth(decay: u32, rate: u32, kept: u32, raw: u32) -> Smoothed
+    requires { ⌜ (decay ≤ 255) × (rate ≤ greatestRate) × (kept ≤ 255) × (raw ≤ greatestRate) ⌝ }
+    ensures { λ r. ⌜ (r .rate ≡ smoothRate decay rate kept raw) × (r .kept ≡ smoothKept decay rate kept raw) ⌝ }
 {
-    (decay * rate + (256 - decay) * raw) / 256
+    let total = decay * rate + (256 - decay) * raw + kept;
+    Smoothed {
+        rate: total / 256,
+        kept: total % 256,
+    }
 }
 
 // The goal of this period by the scale. Its raw rate is never out of its bounds.
@@ -308,9 +313,11 @@ pub fn tune(f: InForce, t: Tone, period: u32) -> Tone
     ensures { λ r. ⌜ r ≡ tuned f t period ⌝ }
 {
     let g = goal(f, period);
+    let s = smooth(f.settings.decay, t.rate, t.kept, g.raw);
     Tone {
         period: period,
         note: g.note,
-        rate: smooth(f.settings.decay, t.rate, g.raw),
+        rate: s.rate,
+        kept: s.kept,
     }
 }

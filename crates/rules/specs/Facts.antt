@@ -25,10 +25,10 @@ pub record OfTable (n : ℕ) : Type 0 where
   pub from : firstNote ≤ n
   pub upto : n < firstNote + notes
 
--- a tone in its ranges: a period, a wanted note or none, and a rate; or no period, and the rate 65536
+-- a tone in its ranges: a period, a wanted note or none, and a rate; or no period, and the rate 65536; and what is kept, 0 to 255
 pub data ToneIn (t : Tone) : Type 0 where
-  pitched : leastPeriod ≤ t .period → t .period ≤ greatestPeriod → t .note ≤ noNote → leastRate ≤ t .rate → t .rate ≤ greatestRate → ToneIn t
-  unpitched : t .period ≡ 0 → t .rate ≡ freshRate → ToneIn t
+  pitched : leastPeriod ≤ t .period → t .period ≤ greatestPeriod → t .note ≤ noNote → leastRate ≤ t .rate → t .rate ≤ greatestRate → t .kept ≤ 255 → ToneIn t
+  unpitched : t .period ≡ 0 → t .rate ≡ freshRate → t .kept ≤ 255 → ToneIn t
 
 -- eight lags in their range, and the last best among them
 pub record LagsIn (low last : ℕ) : Type 0 where

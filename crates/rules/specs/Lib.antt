@@ -16,4 +16,5 @@ pub mod Sane
 pub mod Local
 pub mod History
 pub mod Accounts
+pub mod Held
 pub mod Worked

@@ -1,4 +1,4 @@
--- The wanted note is the one that document 01 asks for; raw rates are nearest and lie from a half to two; smoothing keeps within any bounds.
+-- The wanted note is the one that document 01 asks for; raw rates are nearest and lie from a half to two, and so the rate does.
 -- Notes an octave apart share their bit of the scale, so a note more than an octave off loses to its octave: no case of a mask.
 use mathlib.Core.Path.{_≡_, refl, ap, _∙_, subst}
 use mathlib.Core.Bool.{true, false, cond, _&&_, _||_}
@@ -10,11 +10,9 @@ use native.Mathlib.Nat.{
   le-div-iff-mul-le,
   div-lt-iff-lt-mul,
   mul-comm,
-  add-mul,
   add-zero,
   add-suc,
   add-sub-of-le,
-  mul-le-mul-left,
   pow-succ',
   pow-le-pow-right,
 }
@@ -35,7 +33,6 @@ use Rattle.rules.specs.Rules.{
   wantedOf,
   wanted,
   rawRate,
-  smooth,
   leastPeriod,
   greatestPeriod,
   leastRate,
@@ -56,7 +53,8 @@ use Rattle.rules.specs.declared.InForce.{InForce}
 use Rattle.rules.specs.declared.Tone.{Tone}
 use Rattle.rules.specs.declared.Goal.{Goal}
 use Rattle.rules.specs.Facts.{ForceIn, OfTable, ToneIn, pitched}
-use Rattle.rules.specs.Position.{tone-rate}
+use Rattle.rules.specs.Position.{tone-rate, tone-kept}
+use Rattle.rules.specs.Smoothing.{kept-range, rate-range}
 
 -- ---- The wanted note
 
@@ -274,25 +272,6 @@ raw-nearest p w h =
     let high = div-lt-iff-lt-mul some-w .0 next in
     omega (arith, low, high, mul-comm (2 * w) r, mul-comm (2 * w) (r + 1))
 
--- ---- Smoothing
-
-pub smooth-range : {decay lo hi rate raw : ℕ} → decay ≤ 256 → lo ≤ rate → rate ≤ hi → lo ≤ raw → raw ≤ hi →
-    (lo ≤ smooth decay rate raw) × (smooth decay rate raw ≤ hi)
-unfolding smooth
-smooth-range {decay} {lo} {hi} {rate} {raw} d a b e f =
-    omega (
-      arith,
-      parts lo,
-      parts hi,
-      mul-le-mul-left decay a,
-      mul-le-mul-left decay b,
-      mul-le-mul-left (256 - decay) e,
-      mul-le-mul-left (256 - decay) f,
-    )
-  where
-    parts : (x : ℕ) → decay * x + (256 - decay) * x ≡ 256 * x
-    parts x = rw (← add-mul, add-sub-of-le d)
-
 -- ---- The goal of a tracking step, and the tone that it leaves: what stands above knows their ranges alone
 
 -- a goal in its ranges
@@ -397,8 +376,9 @@ note-of-keyboard f p n = rw (ne-eqb (f .settings .mode) scaleMode n)
 
 pub tuned-in : {f : InForce} → ForceIn f → {t : Tone} → ToneIn t → (p : ℕ) → leastPeriod ≤ p → p ≤ greatestPeriod → ToneIn (tuned f t p)
 unfolding tuned
-tuned-in {f} r i p lo hi =
+tuned-in {f} r {t} i p lo hi =
     let g = goal-in r p in
     let h = tone-rate i in
-    let k = smooth-range {decay = f .settings .decay} (omega (arith, ranges (f .settings) (r .settings) .decay .1)) (h .0) (h .1) (g .from) (g .upto) in
-    pitched lo hi (g .note) (k .0) (k .1)
+    let decay = f .settings .decay in
+    let k = rate-range {decay = decay} (omega (arith, ranges (f .settings) (r .settings) .decay .1)) (tone-kept i) (h .0) (h .1) (g .from) (g .upto) in
+    pitched lo hi (g .note) (k .0) (k .1) (omega (arith, kept-range decay (t .rate) (t .kept) (goal f p .raw)))

@@ -151,23 +151,28 @@ pub record Paced (rate p : ℕ) : Type 0 where
 
 -- a tone in its ranges paces the position, and so does any other rate up to 65536 + 256 x period beside a period
 pub tone-paced : {t : Tone} → ToneIn t → Paced (t .rate) (t .period)
-tone-paced (pitched a b n c d) = record { slow = omega arith; fast = omega arith; upto = b }
-tone-paced (unpitched z r) = record { slow = omega arith; fast = omega arith; upto = omega arith }
+tone-paced (pitched a b n c d k) = record { slow = omega arith; fast = omega arith; upto = b }
+tone-paced (unpitched z r k) = record { slow = omega arith; fast = omega arith; upto = omega arith }
 
 -- its rate is between a half and two
 pub tone-rate : {t : Tone} → ToneIn t → (leastRate ≤ t .rate) × (t .rate ≤ greatestRate)
-tone-rate (pitched a b n c d) = (c, d)
-tone-rate (unpitched z r) = omega arith
+tone-rate (pitched a b n c d k) = (c, d)
+tone-rate (unpitched z r k) = omega arith
+
+-- and what is kept is less than one of its units
+pub tone-kept : {t : Tone} → ToneIn t → t .kept ≤ 255
+tone-kept (pitched a b n c d k) = k
+tone-kept (unpitched z r k) = k
 
 -- by its period
 module _ {t : Tone} where
   pub rate-without : t .period ≡ 0 → ToneIn t → t .rate ≡ 65536
-  rate-without z (pitched a b c d e) = absurd (omega arith)
-  rate-without z (unpitched p r) = r
+  rate-without z (pitched a b c d e k) = absurd (omega arith)
+  rate-without z (unpitched p r k) = r
 
   pub ranges-with : (t .period ≡ 0 → ⊥) → ToneIn t → ((leastPeriod ≤ t .period) × (t .period ≤ greatestPeriod)) × (t .note ≤ noNote) × ((leastRate ≤ t .rate) × (t .rate ≤ greatestRate))
-  ranges-with z (pitched a b c d e) = ((a, b), c, (d, e))
-  ranges-with z (unpitched p r) = absurd (z p)
+  ranges-with z (pitched a b c d e k) = ((a, b), c, (d, e))
+  ranges-with z (unpitched p r k) = absurd (z p)
 
 -- what a growth that keeps the bounds after sample n leaves
 record Kept (n : ℕ) (g : Growth) : Type 0 where

@@ -267,9 +267,17 @@ greatestRate = 131072
 unfoldable pub rawToward : ℕ → ℕ → ℕ
 rawToward p w = cond (ltb 0 w && within leastRate greatestRate (rawRate p w)) (rawRate p w) freshRate
 
--- (decay x rate + (256 - decay) x raw) / 256, rounded down
-unfoldable pub smooth : ℕ → ℕ → ℕ → ℕ
-smooth decay rate raw = (decay * rate + (256 - decay) * raw) / 256
+-- decay x rate + (256 - decay) x raw + what was kept
+unfoldable pub smoothTotal : ℕ → ℕ → ℕ → ℕ → ℕ
+smoothTotal decay rate kept raw = decay * rate + (256 - decay) * raw + kept
+
+-- the rate after a smoothing: a 256th of it, rounded down
+unfoldable pub smoothRate : ℕ → ℕ → ℕ → ℕ → ℕ
+smoothRate decay rate kept raw = smoothTotal decay rate kept raw / 256
+
+-- what is kept after it: what rounding cut off
+unfoldable pub smoothKept : ℕ → ℕ → ℕ → ℕ → ℕ
+smoothKept decay rate kept raw = smoothTotal decay rate kept raw % 256
 
 -- ---- Searching or tracking
 
@@ -283,9 +291,9 @@ pub record Pitch : Type 0 where
   pub mode : Mode
   pub tone : Tone
 
--- no period, no wanted note, and the rate 65536: fresh, locking, and lost
+-- no period, no wanted note, the rate 65536 and nothing kept: fresh, locking, and lost
 unfoldable pub noTone : Tone
-noTone = record { period = 0; note = noNote; rate = freshRate }
+noTone = record { period = 0; note = noNote; rate = freshRate; kept = 0 }
 
 abbrev pub noPeriod : Mode → Pitch
 noPeriod m = record { mode = m; tone = noTone }
@@ -303,11 +311,12 @@ goalOf p n = record { note = n; raw = rawToward p (wantedPeriod n) }
 unfoldable pub goal : InForce → ℕ → Goal
 goal f p = goalOf p (wantedNote f p)
 
--- what a successful tracking step makes of a tone: the new period, its wanted note, and the rate moved toward the raw rate
+-- what a successful tracking step makes of a tone: the new period, its wanted note, the rate moved toward the raw rate, and what rounding cut off it
 unfoldable pub tuned : InForce → Tone → ℕ → Tone
 tuned f t p =
     let g = goal f p in
-    record { period = p; note = g .note; rate = smooth (f .settings .decay) (t .rate) (g .raw) }
+    let decay = f .settings .decay in
+    record { period = p; note = g .note; rate = smoothRate decay (t .rate) (t .kept) (g .raw); kept = smoothKept decay (t .rate) (t .kept) (g .raw) }
 
 -- a tracking step
 unfoldable pub tracked : InForce → Sound → Tone → ℕ → ℕ → Pitch

@@ -28,7 +28,7 @@ pub record Sane (t : Take) : Type 0 where
 
 without-period-in : (m : Mode) → ModeIn m → PitchIn (noPeriod m)
 unfolding noTone
-without-period-in m h = record { tone = unpitched refl refl; lags = h; whileSearching = λ e. refl }
+without-period-in m h = record { tone = unpitched refl refl (omega arith); lags = h; whileSearching = λ e. refl }
 
 module _ (s : Settings) (x y : Sound) where
   searched-in : {p : Pitch} → PitchIn p → (o : Option ℕ) → found s x y ≡ o → PitchIn (searched p o)

@@ -7,26 +7,10 @@ use native.Mathlib.Omega.{arith}
 use borrow.Author.Tests.{leb-true, leb-false}
 use lib.Dec.{leb}
 use Rattle.whole.specs.Tests.{by}
-use Rattle.rules.specs.Rules.{smooth, leastRate, greatestRate}
+use Rattle.rules.specs.declared.Smoothed.{Smoothed}
+use Rattle.rules.specs.Rules.{smoothTotal, smoothRate, smoothKept, leastRate, greatestRate}
 
--- ---- Definitions
-
--- decay x rate + (256 - decay) x raw, and what was kept
-unfoldable pub smoothTotal : ℕ → ℕ → ℕ → ℕ → ℕ
-smoothTotal decay rate kept raw = decay * rate + (256 - decay) * raw + kept
-
--- the rate after a smoothing: a 256th of it, rounded down
-unfoldable pub smoothRate : ℕ → ℕ → ℕ → ℕ → ℕ
-smoothRate decay rate kept raw = smoothTotal decay rate kept raw / 256
-
--- what is kept after it: what rounding cut off
-unfoldable pub smoothKept : ℕ → ℕ → ℕ → ℕ → ℕ
-smoothKept decay rate kept raw = smoothTotal decay rate kept raw % 256
-
--- a rate, and what is kept beside it
-pub record Smoothed : Type 0 where
-  pub rate : ℕ
-  pub kept : ℕ
+-- ---- Many smoothings: definitions
 
 -- one smoothing of both
 unfoldable pub smoothed : ℕ → ℕ → Smoothed → Smoothed
@@ -212,14 +196,9 @@ pub longest-way-is-long : afterSteps (longestWay - 1) 255 leastRate (record { ra
 unfolding afterSteps smoothed smoothRate smoothKept smoothTotal
 longest-way-is-long = refl
 
--- the rule that keeps nothing is this one with nothing kept
-pub keeping-nothing : (decay rate raw : ℕ) → smooth decay rate raw ≡ smoothRate decay rate 0 raw
-unfolding smooth smoothRate smoothTotal
-keeping-nothing decay rate raw = omega arith
-
--- and with it a rate 255 below its goal halts there
-pub keeping-nothing-halts : smooth 255 65281 65536 ≡ 65281
-unfolding smooth
+-- the rule of document 01 kept nothing: with it a rate 255 below its goal halts there
+pub keeping-nothing-halts : smoothRate 255 65281 0 65536 ≡ 65281
+unfolding smoothRate smoothTotal
 keeping-nothing-halts = refl
 
 -- which otherwise arrives from the same place at step 1,564

@@ -6,7 +6,7 @@ use mathlib.Core.Option.{Option, none, some}
 use Prim.Native.Nat.{ℕ, _+_, _*_, _/_}
 use lib.IntN.{ℤ, pos, negsuc, negℤ, _+ℤ_}
 use Rattle.whole.specs.Numbers.{fold}
-use Rattle.rules.specs.Rules.{Sound, silence, heard, heardAll, E, H, D, eighthSample, eighthDue, meetsEps, meetsFloor, offset, table, notePeriod, ofScale, nearer, wantedOf, wanted, scaleMode, noNote, wantedPeriod, rawRate, rawToward, goalOf, smooth, between, inputAt, cycleRepeated, cycleDropped, cycles, growth, Take, freshTake, Given, noTone, listened, listenedIn, sampleAt, wholeOf, fractionOf, reading, eighthsAfter, stepped, gives, samplesOut}
+use Rattle.rules.specs.Rules.{Sound, silence, heard, heardAll, E, H, D, eighthSample, eighthDue, meetsEps, meetsFloor, offset, table, notePeriod, ofScale, nearer, wantedOf, wanted, scaleMode, noNote, wantedPeriod, rawRate, rawToward, goalOf, smoothTotal, smoothRate, smoothKept, between, inputAt, cycleRepeated, cycleDropped, cycles, growth, Take, freshTake, Given, noTone, listened, listenedIn, sampleAt, wholeOf, fractionOf, reading, eighthsAfter, stepped, gives, samplesOut}
 
 -- the sound of some samples alone, the oldest first, as document 01 prints them
 abbrev soundOf : List ℤ → Sound
@@ -22,7 +22,8 @@ pub data Worked : Type 0 where
   note : (n p : ℕ) → Worked
   wants : (scale p n : ℕ) → Worked
   raw : (p n r : ℕ) → Worked
-  smooths : (decay rate goal new : ℕ) → Worked
+  -- the new rate, and what is then kept
+  smooths : (decay rate kept goal new left : ℕ) → Worked
   -- the raw rate of the period p while the key n is wanted
   wantsKey : (p n r : ℕ) → Worked
   reads : (a b : ℤ) (f : ℕ) (out : ℤ) → Worked
@@ -38,7 +39,7 @@ Holds (vertex d1 d2 d3 off) = offset d1 d2 d3 ≡ off
 Holds (note n p) = notePeriod n ≡ p
 Holds (wants scale p n) = wanted scale p ≡ some n
 Holds (raw p n r) = rawRate p (notePeriod n) ≡ r
-Holds (smooths decay rate goal new) = smooth decay rate goal ≡ new
+Holds (smooths decay rate kept goal new left) = (smoothRate decay rate kept goal ≡ new) × (smoothKept decay rate kept goal ≡ left)
 Holds (wantsKey p n r) = goalOf p n ≡ record { note = n; raw = r }
 Holds (reads a b f out) = between a b f ≡ out
 Holds (turns n p grown at) = growth n 0 p grown .position ≡ at
@@ -84,8 +85,10 @@ numbers =
     ∷ wants onlyA 26000 69
     ∷ raw 26000 69 66410
     ∷ wants onlyA 38487 69
-    -- 10
-    ∷ smooths 128 65536 66410 65973
+    -- 10; and what rounding cut off, added at the next smoothing
+    ∷ smooths 128 65536 0 66410 65973 0
+    ∷ smooths 255 65281 0 65536 65281 255
+    ∷ smooths 255 65281 255 65536 65282 254
     -- 11
     ∷ reads (pos 10) (pos 13) 32768 (pos 11)
     ∷ reads (minus 10) (minus 13) 32768 (minus 12)
@@ -104,9 +107,9 @@ numbers =
     ∷ []
 
 pub numbers-hold : AllHold numbers
-unfolding numbers AllHold Holds silence heard heardAll fold E H D eighthSample meetsEps meetsFloor offset notePeriod table wanted wantedOf ofScale nearer rawRate rawToward wantedPeriod goalOf smooth between growth cycleRepeated cycleDropped cycles inputAt
+unfolding numbers AllHold Holds silence heard heardAll fold E H D eighthSample meetsEps meetsFloor offset notePeriod table wanted wantedOf ofScale nearer rawRate rawToward wantedPeriod goalOf smoothTotal smoothRate smoothKept between growth cycleRepeated cycleDropped cycles inputAt
 numbers-hold =
-    ((refl, refl, refl), ((refl, refl, refl), ((refl, refl, refl), (refl, (refl, (refl, (refl, (refl, (refl, (refl, (refl, (refl, (refl, (refl, (refl, (refl, (refl, (refl, (refl, (refl, (refl, (refl, (refl, (refl, (refl, (refl, (refl, (refl, (refl, tt)))))))))))))))))))))))))))))
+    ((refl, refl, refl), ((refl, refl, refl), ((refl, refl, refl), (refl, (refl, (refl, (refl, (refl, (refl, (refl, (refl, (refl, (refl, (refl, (refl, (refl, ((refl, refl), ((refl, refl), ((refl, refl), (refl, (refl, (refl, (refl, (refl, (refl, (refl, (refl, (refl, (refl, (refl, (refl, tt)))))))))))))))))))))))))))))))
 
 -- the whole case of document 01: until a period is tracked, output is the input four samples late
 pub whole-case : samplesOut (gives (record { settings = record { scale = 4095; eps = 200; decay = 0; floor = 100; mode = scaleMode; channel = 0 }; key = noNote }) freshTake (pos 1000 ∷ minus 1000 ∷ pos 500 ∷ pos 8 ∷ pos 9 ∷ pos 10 ∷ []))

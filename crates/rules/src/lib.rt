@@ -87,10 +87,18 @@ pub struct Goal {
     pub raw: u32,
 }
 
-// What a sound was found to be: its period in 1/256 sample, 0 where there is none; the wanted note, 128 where there is none; the rate in 1/65536.
+// A rate in 1/65536, and what rounding cut off it, in 1/256 of that: 0 to 255.
+pub struct Smoothed {
+    pub rate: u32,
+    pub kept: u32,
+}
+
+// What a sound was found to be: its period in 1/256 sample, 0 where there is none; the wanted note, 128 where there is none; the rate in 1/65536, and
+// what rounding cut off it.
 #[repr(C)]
 pub struct Tone {
     pub period: u32,
     pub note: u32,
     pub rate: u32,
+    pub kept: u32,
 }

@@ -1,30 +1,35 @@
--- `notes::smooth` meets its contract. Each product is at most 256 times the greatest rate, so that their sum fits 32 bits.
+-- `notes::smooth` meets its contract. Each product is at most 256 times the greatest rate, so that their sum and what was kept fit 32 bits.
 -- Assumes nothing.
 use Prim.Native.Nat.{_-_, _≤_}
 use native.Mathlib.Nat.{mul-le-mul}
 use native.Mathlib.Omega.{arith}
 use borrow.Author.Needs.{needs}
-use Rattle.rules.specs.Rules.{smooth}
+use Rattle.rules.specs.Rules.{smoothTotal, smoothRate, smoothKept}
 use Rattle.notes.proofs.smooth.Statement.{statement}
 use Rattle.notes.proofs.smooth.Tie as tie
 
-mul-result : tie.Need-mul-result
-mul-result c = omega (arith, mul-le-mul (c .pre .0) (c .pre .1))
+mul-total : tie.Need-mul-total
+mul-total c = omega (arith, mul-le-mul (c .pre .0) (c .pre .1))
 
-sub-result : tie.Need-sub-result
-sub-result c = search needs
+sub-total : tie.Need-sub-total
+sub-total c = search needs
 
-mul-result-2 : tie.Need-mul-result-2
-mul-result-2 c = let d : 256 - c .args .decay ≤ 256 = omega arith in omega (arith, mul-le-mul d (c .pre .2))
+mul-total-2 : tie.Need-mul-total-2
+mul-total-2 c = let d : 256 - c .args .decay ≤ 256 = omega arith in omega (arith, mul-le-mul d (c .pre .3))
 
-add-result : tie.Need-add-result
-add-result c =
+add-total : tie.Need-add-total
+add-total c =
     let d : 256 - c .args .decay ≤ 256 = omega arith in
-    omega (arith, mul-le-mul (c .pre .0) (c .pre .1), mul-le-mul d (c .pre .2))
+    omega (arith, mul-le-mul (c .pre .0) (c .pre .1), mul-le-mul d (c .pre .3))
+
+add-total-2 : tie.Need-add-total-2
+add-total-2 c =
+    let d : 256 - c .args .decay ≤ 256 = omega arith in
+    omega (arith, mul-le-mul (c .pre .0) (c .pre .1), mul-le-mul d (c .pre .3))
 
 returns : tie.Need-returns
-unfolding smooth
+unfolding smoothTotal smoothRate smoothKept
 returns c = search needs
 
 pub smooth-spec : {M : Type 1} → statement M
-smooth-spec = tie.close (tie.spec mul-result sub-result mul-result-2 add-result returns)
+smooth-spec = tie.close (tie.spec mul-total sub-total mul-total-2 add-total add-total-2 returns)
