@@ -111,7 +111,7 @@ module _ {x : Sound} {low last : ℕ} {t : Tracker} (k : Tracks x low last t) (l
 pub became-locked : {x : Sound} {t : Tracker} (lag : ℕ) {o : Tone} → 24 ≤ lag → lag ≤ 872 → Tracks x (lag - 3) lag t → o ≡ noTone
     → Became x (noPeriod (tracking (lag - 3) lag)) (record { tracker = t; tone = o; tracking = 1 })
 unfolding noTone
-became-locked lag lo hi k e = rw e (tracks-became k (record { from = omega arith; upto = omega arith; lastFrom = omega arith; lastUpto = omega arith }) (unpitched refl refl))
+became-locked lag lo hi k e = rw e (tracks-became k (record { from = omega arith; upto = omega arith; lastFrom = omega arith; lastUpto = omega arith }) (unpitched refl refl (omega arith)))
 
 -- ---- one more sample for the eight lags
 pub became-followed : {x z : Sound} {v : KeptPitch} {t : Tracker} → v .tracking ≡ 1 → PitchRight z v → Tracks x (v .tracker .low) (v .tracker .last) t
@@ -135,7 +135,7 @@ module _ (f : InForce) {x : Sound} (v : KeptPitch) {r : Tracked} (s : Stepped (f
   unfolding noTone
   became-lost e q =
       rw (q, tracked-lost f x (v .tone) (v .tracker .low) (v .tracker .last) (not-false _ (sym (s .kept) ∙ e)))
-      (record { pitch = refl; right = record { flag = omega arith; pitch = record { tone = unpitched refl refl; lags = tt; whileSearching = λ z. refl }; sums = λ z. absurd (omega arith) } })
+      (record { pitch = refl; right = record { flag = omega arith; pitch = record { tone = unpitched refl refl (omega arith); lags = tt; whileSearching = λ z. refl }; sums = λ z. absurd (omega arith) } })
 
   pub became-tuned : ForceIn f → ToneIn (v .tone) → {o : Tone} → r .kept ≡ true → o ≡ tuned f (v .tone) (r .period)
       → Became x (tracked f x (v .tone) (v .tracker .low) (v .tracker .last)) (record { tracker = r .tracker; tone = o; tracking = 1 })

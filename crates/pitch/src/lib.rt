@@ -19,10 +19,10 @@ ghost use Rattle.pitch.specs.Listening.{Eighth, Became, Searched, Listen
 pub struct Pitch {
     pub tracker: Tracker,
     pub tone: Tone,
-    pub tracking: u32,
+    pub tracking: u64,
 }
 
-// No period, no wanted note, and the rate 65536.
+// No period, no wanted note, the rate 65536 and nothing kept.
 pub fn no_tone() -> Tone
     ensures { λ r. ⌜ r ≡ noTone ⌝ }
 {
@@ -30,6 +30,7 @@ pub fn no_tone() -> Tone
         period: 0,
         note: rules::NO_NOTE,
         rate: rules::FRESH_RATE,
+        kept: 0,
     }
 }
 

@@ -196,10 +196,13 @@ fn heard_right(h: Heard) -> bool
     sums::all_right(&e, &c, 2, &y, KEPT_EIGHTHS)
 }
 
-// Either a period, a wanted note or none, and a rate in their ranges, or no period and the rate 65536.
+// Either a period, a wanted note or none, and a rate in their ranges, or no period and the rate 65536; and what is kept, 0 to 255.
 fn tone_right(t: Tone) -> bool
     ensures { λ r. ⌜ Decides r (ToneIn t) ⌝ }
 {
+    if t.kept > 255 {
+        return false;
+    }
     if t.period == 0 {
         return t.rate == rules::FRESH_RATE;
     }
