@@ -84,7 +84,7 @@ good-fresh s e =
             eighthsBefore = λ i h. getD-replicate 224 i (pos 0) (pos 0) (omega arith);
             sums = silent-right 2 109 (still-silent 224 silence (λ k. refl));
           };
-      pitch = record { flag = omega arith; pitch = record { tone = unpitched refl refl; lags = tt; whileSearching = λ z. refl }; sums = λ z. absurd (omega arith) };
+      pitch = record { flag = omega arith; pitch = record { tone = unpitched refl refl (omega arith); lags = tt; whileSearching = λ z. refl }; sums = λ z. absurd (omega arith) };
       head = record { behind = omega arith };
       last = record { length = omega arith; within = omega arith };
     }

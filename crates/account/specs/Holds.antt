@@ -23,6 +23,7 @@ use Rattle.rules.specs.Position.{in-bounds-behind}
 use Rattle.rules.specs.Blocks.{after-count, after-sound, gives-length, samplesOut-append, gathered-append}
 use Rattle.rules.specs.Sane.{after-sane}
 use Rattle.rules.specs.Accounts.{InRanges, account, pieces-count, pieces-sound, afterPieces-more, givesPieces-more, pieces-sane, pieces-in-bounds}
+use Rattle.rules.specs.Held.{Cleared, pieces-cleared}
 use Rattle.rules.specs.Local.{reach, reachEighths, SameNewest, Agree, after-agree}
 use Rattle.tuner.specs.declared.Tuner.{Tuner}
 use Rattle.answers.specs.declared.Answer.{Answer}
@@ -276,3 +277,8 @@ again-holds cs t u w w′ k xs ys zs ys₂ zs₂ a b h p z m room q = let kept =
 -- no tuner reached from a start by calls is ever answered 9
 pub never-nine : {cs : List Call} {t : Tuner} → Series cs t → NeverNine t
 never-nine h = good-never-nine (series-keeps h .good)
+
+-- nor is anything kept of rounding where one has no period: searching, and locking
+pub nothing-kept : {cs : List Call} {t : Tuner} → Series cs t → t .pitch .tone .period ≡ 0 → t .pitch .tone .kept ≡ 0
+unfolding takeOf
+nothing-kept {cs} {t} h = let k = series-keeps h in subst Cleared (k .agree .pitch) (pieces-cleared (received cs .pieces) (k .ranges))

@@ -93,7 +93,7 @@ withPitch t v = record { settings = t .settings; keyboard = t .keyboard; heard =
 unfoldable pub ahead : Tuner
 ahead =
     withPitch (freshTuner defaults)
-    (record { tracker = record { low = 16; last = 16; e = replicate 8 0; h = replicate 8 (pos 0) }; tone = record { period = 4096; note = 69; rate = 131072 }; tracking = 1 })
+    (record { tracker = record { low = 16; last = 16; e = replicate 8 0; h = replicate 8 (pos 0) }; tone = record { period = 4096; note = 69; rate = 131072; kept = 0 }; tracking = 1 })
 
 -- the program keeps the promise on three calls: the whole case's first block, its second, and the first block to the record `ahead`
 pub record Tried (q : Program) : Type 0 where
@@ -181,7 +181,7 @@ good-ahead =
             flag = omega arith;
             pitch =
                 record {
-                  tone = pitched (omega arith) (omega arith) (omega arith) (omega arith) (omega arith);
+                  tone = pitched (omega arith) (omega arith) (omega arith) (omega arith) (omega arith) (omega arith);
                   lags = record { from = omega arith; upto = omega arith; lastFrom = omega arith; lastUpto = omega arith };
                   whileSearching = λ e. absurd (tracking-is-not-searching e);
                 };

@@ -18,7 +18,7 @@ use Rattle.host.specs.declared.Shown.{Shown}
 
 -- the number of this layout: no other layout has it
 abbrev pub layoutNumber : ℕ
-layoutNumber = 20004
+layoutNumber = 20005
 
 -- the record of a tuner
 abbrev pub recordOf : Tuner → Record
