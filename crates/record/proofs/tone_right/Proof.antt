@@ -15,7 +15,7 @@ returns-2 : tie.Need-returns-2
 returns-2 c =
     let z = c .before .if2 .taken in
     let k = c .before .before .before .if1 .left in
-    decides-as (decides-eq _ _) (λ r. unpitched z r k) (λ q. rate-without z q)
+    decides-as (decides-eq _ _) (λ r. unpitched z r (omega arith)) (λ q. rate-without z q)
 
 within-requires : tie.Need-within-requires
 within-requires c κs = search needs
@@ -34,9 +34,10 @@ returns-5 c =
     let c4 = c .before in
     let c3 = c4 .before .before in
     let c2 = c3 .before .before in
+    let k = c2 .before .before .if1 .left in
     let p = passed (c3 .before .within .ensures) (c3 .if3 .left) in
     decides-as (c .within2 .ensures)
-    (λ r. pitched (p .0) (p .1) (c4 .if4 .left) (r .0) (r .1) (c2 .before .before .if1 .left))
+    (λ r. pitched (p .0) (p .1) (c4 .if4 .left) (r .0) (omega (arith, r)) (omega (arith, k)))
     (λ q. ranges-with (c2 .if2 .left) q .2)
 
 pub tone-right-spec : {M : Type 1} → statement M
