@@ -1,9 +1,9 @@
 -- A held note reaches its goal: tracking steps toward one raw rate are smoothings of the tone's rate, with what is kept beside it.
 -- Without a period nothing is kept: a sample that takes the period away leaves no tone, and one that finds a period leaves more than 0.
-use mathlib.Core.Path.{_≡_, refl, ap, _∙_}
+use mathlib.Core.Path.{_≡_, refl, sym, ap, _∙_}
 use mathlib.Core.List.{List, [], _∷_}
 use mathlib.Core.Option.{Option, none, some}
-use Prim.Native.Nat.{ℕ, _+_, _-_, _≤_}
+use Prim.Native.Nat.{ℕ, _+_, _-_, _≤_, _<_}
 use native.Mathlib.Omega.{arith}
 use lib.IntN.{ℤ}
 use lib.ListN.{length}
@@ -11,13 +11,13 @@ use Rattle.whole.specs.Tests.{cond-case}
 use Rattle.rules.specs.declared.InForce.{InForce}
 use Rattle.rules.specs.declared.Tone.{Tone}
 use Rattle.rules.specs.declared.Smoothed.{Smoothed}
-use Rattle.rules.specs.Rules.{Sound, Mode, searching, tracking, Pitch, noTone, noPeriod, found, searched, goal, tuned, best, period, moved, isLost, tracked, eighthDue, stepDue, listenedIn, listened, Take, freshTake, stepped, after}
+use Rattle.rules.specs.Rules.{leastRate, greatestRate, Sound, Mode, searching, tracking, Pitch, noTone, noPeriod, found, searched, goal, tuned, best, period, moved, isLost, tracked, eighthDue, stepDue, listenedIn, listened, Take, freshTake, stepped, after}
 use Rattle.rules.specs.Facts.{ForceIn, ToneIn, LagsIn, ModeIn}
 use Rattle.rules.specs.Ranges.{ranges}
 use Rattle.rules.specs.Periods.{period-range}
 use Rattle.rules.specs.Position.{tone-rate, tone-kept}
 use Rattle.rules.specs.Notes.{goal-in}
-use Rattle.rules.specs.Smoothing.{smoothed, afterSteps, longestWay, reaches}
+use Rattle.rules.specs.Smoothing.{smoothed, afterSteps, longestWay, steps-rise, steps-fall, reaches}
 use Rattle.rules.specs.Sane.{Sane, fresh-sane, stepped-sane, after-sane}
 use Rattle.rules.specs.History.{Piece, afterPieces}
 use Rattle.rules.specs.Accounts.{InRanges}
@@ -54,14 +54,33 @@ module _ (f : InForce) where
       ∙ ap (afterSteps (length ps) (f .settings .decay) raw)
       (tuned-smooths t p ∙ ap (λ (r : ℕ). smoothed (f .settings .decay) r (smoothedOf t)) (h .0))
 
-  -- the rate is at the raw rate after the longest way, whatever it was
-  pub held-note-reaches : ForceIn f → {t : Tone} → ToneIn t → (p : ℕ) (ps : List ℕ) → AllToward f (goal f p .raw) ps → longestWay ≤ length ps →
-      tunedOver f t ps .rate ≡ goal f p .raw
-  held-note-reaches r {t} i p ps h l =
-      let g = goal-in r p in
-      let k = tone-rate i in
-      ap (λ (s : Smoothed). s .rate) (tuned-over-smooths t (goal f p .raw) ps h)
-      ∙ reaches (smoothedOf t) (ranges (f .settings) (r .settings) .decay .1) (tone-kept i) (k .0) (k .1) (g .from) (g .upto) (length ps) l
+  -- the raw rate of a period lies from a half to two
+  raw-within : ForceIn f → (raw : ℕ) (ps : List ℕ) → AllToward f raw ps → 0 < length ps → (leastRate ≤ raw) × (raw ≤ greatestRate)
+  unfolding AllToward
+  raw-within r raw [] h l = absurd (omega arith)
+  raw-within r raw (p ∷ ps) h l = let g = goal-in r p in omega (arith, h .0, g .from, g .upto)
+
+  module _ (r : ForceIn f) {t : Tone} (i : ToneIn t) (raw : ℕ) (ps : List ℕ) (h : AllToward f raw ps) where
+    decay-range : f .settings .decay ≤ 255
+    decay-range = ranges (f .settings) (r .settings) .decay .1
+
+    rate-is : afterSteps (length ps) (f .settings .decay) raw (smoothedOf t) .rate ≡ tunedOver f t ps .rate
+    rate-is = sym (ap (λ (s : Smoothed). s .rate) (tuned-over-smooths t raw ps h))
+
+    -- from below the rate only rises, and never past the raw rate
+    pub held-note-rises : t .rate ≤ raw → (t .rate ≤ tunedOver f t ps .rate) × (tunedOver f t ps .rate ≤ raw)
+    held-note-rises l = rw (← rate-is) (steps-rise (f .settings .decay) raw decay-range (length ps) (smoothedOf t) (tone-kept i) l)
+
+    -- from above it only falls, and never past it
+    pub held-note-falls : raw ≤ t .rate → (raw ≤ tunedOver f t ps .rate) × (tunedOver f t ps .rate ≤ t .rate)
+    held-note-falls l = rw (← rate-is) (steps-fall (f .settings .decay) raw decay-range (length ps) (smoothedOf t) (tone-kept i) l)
+
+    -- and after the longest way it is there
+    pub held-note-reaches : longestWay ≤ length ps → tunedOver f t ps .rate ≡ raw
+    held-note-reaches l =
+        let k = tone-rate i in
+        let g = raw-within r raw ps h (omega arith) in
+        sym rate-is ∙ reaches (smoothedOf t) decay-range (tone-kept i) (k .0) (k .1) (g .0) (g .1) (length ps) l
 
 -- ---- Without a period nothing is kept
 

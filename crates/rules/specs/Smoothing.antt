@@ -2,7 +2,7 @@
 -- What moves is 256 x rate + kept: at least one of 256 parts is the raw rate, so that of the way left each step takes a 256th, rounded down, or more.
 use mathlib.Core.Path.{_≡_, refl, sym, ap, _∙_, subst}
 use Prim.Native.Nat.{ℕ, zero, suc, _+_, _-_, _*_, _/_, _%_, _≤_}
-use native.Mathlib.Nat.{le-refl, add-mul, add-sub-of-le, suc-mul, suc-add, zero-add, mul-le-mul-left}
+use native.Mathlib.Nat.{le-refl, le-trans, add-mul, add-sub-of-le, suc-mul, suc-add, zero-add, mul-le-mul-left}
 use native.Mathlib.Omega.{arith}
 use borrow.Author.Tests.{leb-true, leb-false}
 use lib.Dec.{leb}
@@ -154,6 +154,25 @@ module _ (decay raw : ℕ) where
   steps-and-more (suc m) n s = rw suc-add (steps-and-more m n (smoothed decay raw s))
 
   module _ (d : decay ≤ 255) where
+    -- from below they only rise, from above they only fall, and never past the goal
+    pub steps-rise : (n : ℕ) (s : Smoothed) → s .kept ≤ 255 → s .rate ≤ raw →
+        (s .rate ≤ afterSteps n decay raw s .rate) × (afterSteps n decay raw s .rate ≤ raw)
+    unfolding afterSteps smoothed
+    steps-rise zero s k h = (le-refl (s .rate), h)
+    steps-rise (suc n) s k h =
+        let one = rate-rises {decay = decay} (omega arith) k h in
+        let more = steps-rise n (smoothed decay raw s) (kept-range decay (s .rate) (s .kept) raw) (one .1) in
+        (le-trans (one .0) (more .0), more .1)
+
+    pub steps-fall : (n : ℕ) (s : Smoothed) → s .kept ≤ 255 → raw ≤ s .rate →
+        (raw ≤ afterSteps n decay raw s .rate) × (afterSteps n decay raw s .rate ≤ s .rate)
+    unfolding afterSteps smoothed
+    steps-fall zero s k h = (h, le-refl (s .rate))
+    steps-fall (suc n) s k h =
+        let one = rate-falls {decay = decay} (omega arith) k h in
+        let more = steps-fall n (smoothed decay raw s) (kept-range decay (s .rate) (s .kept) raw) (one .0) in
+        (more .0, le-trans (more .1) (one .1))
+
     -- at the goal nothing changes
     pub smoothed-stays : (s : Smoothed) → s .kept ≤ 255 → s .rate ≡ raw → smoothed decay raw s ≡ s
     unfolding smoothed
