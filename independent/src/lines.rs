@@ -176,6 +176,7 @@ impl Program {
     fn start(&mut self, settings: Settings) -> Answer {
         let (answer, tuner) = Tuner::start(settings);
         if answer == Answer::Taken {
+            self.statistics.start(&self.tuner.standing());
             self.tuner = tuner;
         }
         answer
@@ -183,14 +184,14 @@ impl Program {
 
     /// Changes the settings to what is made of those in force.
     fn change(&mut self, to: impl Fn(Settings) -> Settings) -> usize {
-        let before = self.tuner.keyboard;
+        let before = self.tuner.standing();
         let answer = self.tuner.change(to(self.tuner.settings));
-        self.statistics.change(&before, &self.tuner.keyboard);
+        self.statistics.change(&before, &self.tuner.standing());
         answer.number()
     }
 
     fn reset(&mut self) -> Answer {
-        self.statistics.reset(&self.tuner.keyboard);
+        self.statistics.reset(&self.tuner.standing());
         self.tuner.reset()
     }
 

@@ -15,9 +15,9 @@ pub const STORED: usize = 1_764;
 pub const EIGHTHS: usize = 224;
 pub const LAGS: usize = 109;
 /// The bytes of a record.
-pub const SIZE: usize = 6_960;
+pub const SIZE: usize = 6_968;
 /// The number that stands first in a record of this layout.
-pub const LAYOUT: u64 = 20_004;
+pub const LAYOUT: u64 = 20_005;
 /// Where a key, a note or a data byte would stand: there is none.
 pub const NONE: u8 = 128;
 
@@ -44,7 +44,8 @@ pub struct Record {
     pub period: u32,
     pub note: u32,
     pub rate: u32,
-    pub tracking: u32,
+    pub kept: u32,
+    pub tracking: u64,
     // The read head.
     pub behind: u64,
     // The last block.
@@ -119,6 +120,7 @@ macro_rules! in_order {
         $number!($record.period);
         $number!($record.note);
         $number!($record.rate);
+        $number!($record.kept);
         $number!($record.tracking);
         $number!($record.behind);
         $number!($record.number);
@@ -185,6 +187,7 @@ impl Record {
             period: 0,
             note: u32::from(NONE),
             rate: LEVEL_RATE as u32,
+            kept: 0,
             tracking: 0,
             behind: 0,
             number: 0,
@@ -232,6 +235,7 @@ impl Record {
             && before(&self.store, self.count)
             && before(&self.eighths, self.count / 8)
             && self.behind <= FARTHEST_BEHIND as u64
+            && i64::from(self.kept) <= MOST_KEPT
             && pitch_right
             && right(&eighths, 2, &self.energies, &self.correlations)
             && lags_right
@@ -316,6 +320,7 @@ impl Record {
                 }),
             },
             rate: i64::from(self.rate),
+            kept: i64::from(self.kept),
             position: input_position(count) - self.behind as i64,
             last: (length > 0).then(|| LastBlock {
                 number: self.number,
@@ -337,6 +342,7 @@ impl Record {
         record.count = self.count + last.samples.len() as u64;
         record.behind = (input_position(tuner.take.count()) - tuner.position) as u64;
         record.rate = tuner.rate as u32;
+        record.kept = tuner.kept as u32;
         // Without a period there is no wanted note; a record may hold some number there, and it stays until a lag is found or lost.
         let found = seen.finds_by_long_low + seen.finds_by_first_low + seen.finds_by_second_low;
         let lost = seen.losses_by_eps + seen.losses_by_floor + seen.losses_by_jump;

@@ -343,10 +343,15 @@ pub fn raw_rate(period: i64, wanted_period: i64) -> i64 {
     nearest(period * LEVEL_RATE, wanted_period)
 }
 
-/// (decay x rate + (256 - decay) x raw) / 256, rounded down.
-pub fn smoothed_rate(decay: u32, rate: i64, raw: i64) -> i64 {
+/// The most that rounding cuts off, in 1/256 of a rate's unit.
+pub const MOST_KEPT: i64 = 255;
+
+/// (decay x rate + (256 - decay) x raw + kept) / 256, rounded down; and what
+/// rounding cut off, which is kept for the next smoothing.
+pub fn smoothed_rate(decay: u32, rate: i64, raw: i64, kept: i64) -> (i64, i64) {
     let decay = i64::from(decay);
-    (decay * rate + (256 - decay) * raw).div_euclid(256)
+    let total = decay * rate + (256 - decay) * raw + kept;
+    (total.div_euclid(256), total.rem_euclid(256))
 }
 
 /// Where the input stands after n samples.

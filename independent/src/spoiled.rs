@@ -69,6 +69,12 @@ fn spoiled_records_are_refused_first() {
         altered(|tuner| tuner.position = 1_400 * POSITION_UNIT - 1),
         altered(|tuner| tuner.rate = 32_767),
         altered(|tuner| tuner.rate = 131_073),
+        altered(|tuner| tuner.kept = -1),
+        altered(|tuner| tuner.kept = 256),
+        altered(|tuner| {
+            tuner.mode = Mode::Searching;
+            (tuner.rate, tuner.kept) = (65_536, 256);
+        }),
         altered(|tuner| {
             tuner.mode = Mode::Searching;
             tuner.rate = 65_537;
@@ -110,10 +116,15 @@ fn records_at_the_edge_are_good() {
         altered(|tuner| tuner.position = 1_400 * POSITION_UNIT),
         altered(|tuner| tuner.rate = 32_768),
         altered(|tuner| tuner.rate = 131_072),
+        altered(|tuner| tuner.kept = 255),
         altered(|tuner| tuner.last = None),
         altered(|tuner| {
             tuner.mode = Mode::Searching;
             tuner.rate = 65_536;
+        }),
+        altered(|tuner| {
+            tuner.mode = Mode::Searching;
+            (tuner.rate, tuner.kept) = (65_536, 255);
         }),
         tracking(|tracking| (tracking.lowest, tracking.last_best) = (16, 16)),
         tracking(|tracking| (tracking.lowest, tracking.last_best) = (873, 880)),

@@ -4,6 +4,7 @@
 use crate::keyboard::{Event, Keyboard, Message};
 use crate::rules::*;
 use crate::table::{HIGHEST_NOTE, LOWEST_NOTE};
+use crate::tuner::Standing;
 use std::fmt;
 
 /// Numbers of answers, 10 for a line that cannot be read among them.
@@ -92,6 +93,28 @@ counters! {
     raw_rates_rounded_to_32768,
     raw_rates_of_131072,
     raw_rates_of_131073,
+    /// Something was kept and is added; and the rate is one higher for it.
+    remainders_added,
+    rates_raised_by_remainder,
+    /// Something was kept, and decay is 0: it stays.
+    remainders_past_decay_0,
+    /// At a decay above 0, the rate comes to the raw rate, or stays there
+    /// with something kept.
+    goals_reached_from_below,
+    goals_reached_from_above,
+    goals_held_over_remainder,
+    /// Something was kept, and another note is wanted than at the last step.
+    notes_changed_over_remainder,
+    /// Something was kept, and is cleared.
+    remainders_cleared_by_loss,
+    remainders_cleared_by_reset,
+    remainders_cleared_by_start,
+    /// Something is kept, and stays so.
+    decays_changed_over_remainder,
+    modes_changed_over_remainder,
+    channels_changed_over_remainder,
+    keys_struck_over_remainder,
+    keys_released_over_remainder,
     /// The read position just level with the input, while there is a period.
     positions_level,
     /// The read position just 1,000 samples behind, likewise.
@@ -143,12 +166,14 @@ impl Statistics {
         } += 1;
     }
 
-    pub fn loss(&mut self, loss: Loss) {
+    /// A loss, with what was kept.
+    pub fn loss(&mut self, loss: Loss, kept: i64) {
         *match loss {
             Loss::Eps => &mut self.losses_by_eps,
             Loss::Floor => &mut self.losses_by_floor,
             Loss::Jump => &mut self.losses_by_jump,
         } += 1;
+        self.remainders_cleared_by_loss += u64::from(kept > 0);
     }
 
     pub fn step(&mut self, step: &Step) {
@@ -207,6 +232,29 @@ impl Statistics {
         self.raw_rates_of_131073 += u64::from(raw == 131_073);
     }
 
+    /// A smoothing: the rate and what was kept, before it and after; and
+    /// whether the wanted note is new.
+    pub fn smoothing(
+        &mut self,
+        decay: u32,
+        raw: i64,
+        (rate, kept): (i64, i64),
+        after: (i64, i64),
+        new_note: bool,
+    ) {
+        let (without, _) = smoothed_rate(decay, rate, raw, 0);
+        self.remainders_added += u64::from(kept > 0);
+        self.rates_raised_by_remainder += u64::from(after.0 > without);
+        self.notes_changed_over_remainder += u64::from(kept > 0 && new_note);
+        if decay == 0 {
+            self.remainders_past_decay_0 += u64::from(kept > 0);
+        } else if after.0 == raw {
+            self.goals_reached_from_below += u64::from(rate < raw);
+            self.goals_reached_from_above += u64::from(rate > raw);
+            self.goals_held_over_remainder += u64::from(rate == raw && kept > 0);
+        }
+    }
+
     /// A byte of the keyboard, with what stood before it.
     pub fn keyboard_byte(&mut self, before: &Keyboard, byte: u8, event: Event) {
         let half = u64::from(before.half.is_some());
@@ -244,17 +292,36 @@ impl Statistics {
         }
     }
 
-    /// A reset that was taken.
-    pub fn reset(&mut self, before: &Keyboard) {
-        self.keys_forgotten_by_reset += u64::from(before.key.is_some());
-        self.halves_forgotten_by_reset += u64::from(before.half.is_some());
+    /// A start that was taken.
+    pub fn start(&mut self, before: &Standing) {
+        self.remainders_cleared_by_start += u64::from(before.kept > 0);
     }
 
-    /// A change of settings that was taken, with what the keyboard then held.
-    pub fn change(&mut self, before: &Keyboard, after: &Keyboard) {
-        let forgotten = u64::from(before != after);
-        self.keys_forgotten_by_channel += forgotten * u64::from(before.key.is_some());
-        self.halves_forgotten_by_channel += forgotten * u64::from(before.half.is_some());
+    /// A reset that was taken.
+    pub fn reset(&mut self, before: &Standing) {
+        self.keys_forgotten_by_reset += u64::from(before.keyboard.key.is_some());
+        self.halves_forgotten_by_reset += u64::from(before.keyboard.half.is_some());
+        self.remainders_cleared_by_reset += u64::from(before.kept > 0);
+    }
+
+    /// A change of settings; of a refused one nothing differs.
+    pub fn change(&mut self, before: &Standing, after: &Standing) {
+        let forgotten = u64::from(before.keyboard != after.keyboard);
+        self.keys_forgotten_by_channel += forgotten * u64::from(before.keyboard.key.is_some());
+        self.halves_forgotten_by_channel += forgotten * u64::from(before.keyboard.half.is_some());
+        let kept = u64::from(after.kept > 0);
+        let (old, new) = (&before.settings, &after.settings);
+        self.decays_changed_over_remainder += kept * u64::from(old.decay != new.decay);
+        self.modes_changed_over_remainder += kept * u64::from(old.mode != new.mode);
+        self.channels_changed_over_remainder += kept * u64::from(old.channel != new.channel);
+    }
+
+    /// Bytes of the keyboard, all of a call.
+    pub fn midi(&mut self, before: &Standing, after: &Standing) {
+        let kept = u64::from(after.kept > 0);
+        let (old, new) = (before.keyboard.key, after.keyboard.key);
+        self.keys_struck_over_remainder += kept * u64::from(new.is_some() && new != old);
+        self.keys_released_over_remainder += kept * u64::from(old.is_some() && new.is_none());
     }
 
     pub fn reading(&mut self, cycle: Cycle, position: i64, input: i64, period: Option<i64>) {
@@ -277,8 +344,8 @@ impl Statistics {
 impl fmt::Display for Statistics {
     fn fmt(&self, to: &mut fmt::Formatter) -> fmt::Result {
         for (name, count) in self.counters() {
-            writeln!(to, "{name:<28}\t{count}")?;
+            writeln!(to, "{name:<31}\t{count}")?;
         }
-        writeln!(to, "{:<28}\t{}", "largest_behind", self.largest_behind)
+        writeln!(to, "{:<31}\t{}", "largest_behind", self.largest_behind)
     }
 }

@@ -94,6 +94,15 @@ pub struct Figures {
     pub rate: f32,
 }
 
+/// What stands between blocks, for who looks on.
+#[derive(Clone, Copy, Debug, PartialEq, Eq)]
+pub struct Standing {
+    pub settings: Settings,
+    pub keyboard: Keyboard,
+    /// What rounding cut off the rate.
+    pub kept: i64,
+}
+
 #[derive(Clone, Debug, PartialEq, Eq)]
 pub struct Tuner {
     pub(crate) settings: Settings,
@@ -103,6 +112,8 @@ pub struct Tuner {
     pub(crate) eighths: History,
     pub(crate) mode: Mode,
     pub(crate) rate: i64,
+    /// What rounding cut off the rate, in 1/256 of its unit.
+    pub(crate) kept: i64,
     pub(crate) position: i64,
     pub(crate) last: Option<LastBlock>,
 }
@@ -138,6 +149,7 @@ impl Tuner {
             eighths: History::fresh(),
             mode: Mode::Searching,
             rate: LEVEL_RATE,
+            kept: 0,
             position: 0,
             last: None,
         }
@@ -173,8 +185,18 @@ impl Tuner {
         if !self.is_good() {
             return Answer::RecordOutOfRange;
         }
+        let before = self.standing();
         self.keyboard.take(bytes, &self.settings, seen);
+        seen.midi(&before, &self.standing());
         Answer::Taken
+    }
+
+    pub fn standing(&self) -> Standing {
+        Standing {
+            settings: self.settings,
+            keyboard: self.keyboard,
+            kept: self.kept,
+        }
     }
 
     /// Takes a block. Samples past its length in the output are not touched.
@@ -295,6 +317,9 @@ impl Tuner {
                 last_best: found,
                 pitch: None,
             });
+            // Of a tuner reached by calls nothing is kept while it searches;
+            // of a record that a host hands in something may be.
+            self.kept = 0;
         }
     }
 
@@ -304,16 +329,16 @@ impl Tuner {
         } = tracking;
         match track(&self.take, lowest, last_best, &self.settings) {
             Err(loss) => {
-                seen.loss(loss);
+                seen.loss(loss, self.kept);
                 self.mode = Mode::Searching;
-                self.rate = LEVEL_RATE;
+                (self.rate, self.kept) = (LEVEL_RATE, 0);
             }
             Ok(step) => {
                 seen.step(&step);
                 let period = step.period();
                 let wanted_note = self.wanted_note(period, seen);
                 let raw = raw_rate_in_bounds(period, wanted_period(wanted_note));
-                self.rate = smoothed_rate(self.settings.decay, self.rate, raw);
+                self.smooth(raw, tracking.pitch, wanted_note, seen);
                 self.mode = Mode::Tracking(Tracking {
                     lowest: step.next_lowest(),
                     last_best: step.best,
@@ -324,6 +349,21 @@ impl Tuner {
                 });
             }
         }
+    }
+
+    /// The rate moves toward the raw rate, with what was kept.
+    fn smooth(
+        &mut self,
+        raw: i64,
+        last: Option<Pitch>,
+        wanted_note: Option<usize>,
+        seen: &mut Statistics,
+    ) {
+        let decay = self.settings.decay;
+        let before = (self.rate, self.kept);
+        (self.rate, self.kept) = smoothed_rate(decay, self.rate, raw, self.kept);
+        let new_note = last.is_some_and(|last| last.wanted_note != wanted_note);
+        seen.smoothing(decay, raw, before, (self.rate, self.kept), new_note);
     }
 
     /// In keyboard mode the key as it now stands, else the scale's nearest.
@@ -415,6 +455,7 @@ impl Tuner {
             && last_good
             && lags_good
             && (0..=FARTHEST_BEHIND).contains(&behind)
+            && (0..=MOST_KEPT).contains(&self.kept)
             && pitch_good
     }
 }

@@ -47,5 +47,5 @@ fn it_is_answered_to_its_last_line() {
     assert!(answers.ends_with(b"\n0\n0\t3\t0\t0\t0\t0\t0\n"));
     let lines = |bytes: &[u8]| bytes.iter().filter(|&&byte| byte == b'\n').count();
     assert_eq!(lines(&answers), lines(&night) + 1);
-    assert!(night.len() + answers.len() < 4_000_000);
+    assert!(night.len() + answers.len() < 4_500_000);
 }

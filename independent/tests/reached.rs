@@ -6,6 +6,7 @@ use independent::generator::night::{write_night, NIGHT};
 use independent::generator::script::script;
 use independent::lines::{answers_to, Program, Record};
 use independent::statistics::Statistics;
+use independent::tuner::Meter;
 use std::collections::{HashMap, HashSet};
 
 /// Samples in each script.
@@ -50,6 +51,21 @@ const REACHED: &[(&str, &str, u64)] = &[
     ("raw_rates_rounded_to_32768", "octaves", 1),
     ("raw_rates_of_131072", "octaves", 1),
     ("raw_rates_of_131073", "octaves", 1),
+    ("remainders_added", "goals", 1),
+    ("rates_raised_by_remainder", "goals", 1),
+    ("remainders_past_decay_0", "decays", 1),
+    ("goals_reached_from_below", "goals", 1),
+    ("goals_reached_from_above", "goals", 1),
+    ("goals_held_over_remainder", "goals", 1),
+    ("notes_changed_over_remainder", "keys", 1),
+    ("remainders_cleared_by_loss", "decays", 1),
+    ("remainders_cleared_by_reset", "decays", 1),
+    ("remainders_cleared_by_start", "decays", 1),
+    ("decays_changed_over_remainder", "decays", 1),
+    ("modes_changed_over_remainder", "keys", 1),
+    ("channels_changed_over_remainder", "keys", 1),
+    ("keys_struck_over_remainder", "keys", 1),
+    ("keys_released_over_remainder", "keys", 1),
     ("positions_level", "level", 1),
     ("positions_1000_behind", "brink", 1),
     ("cycles_repeated", "shifted", 1),
@@ -201,18 +217,24 @@ fn block_numbers_wrap() {
     assert_eq!(seen.answers[5], 0);
 }
 
-/// No tuner reached from a start by calls is ever answered 9.
+/// No tuner reached from a start by calls is ever answered 9, and without a
+/// period nothing is kept.
 #[test]
 fn reached_tuners_are_good() {
     let kinds = ["mixed", "rough", "glides", "settings"];
     let played = ["played", "octaves", "pieces", "bytes"];
-    for (kind, seed) in kinds.into_iter().chain(played).map(|kind| (kind, 3)) {
+    let held = ["goals", "decays", "keys"];
+    let kinds = kinds.into_iter().chain(played).chain(held);
+    for (kind, seed) in kinds.map(|kind| (kind, 3)) {
         let script = script(kind_named(kind).unwrap(), seed, 50_000);
         let mut program = Program::default();
         let mut answers = Vec::new();
         for line in script.split_inclusive(|&byte| byte == b'\n') {
             program.read(line, &mut answers);
-            assert!(program.tuner().is_good());
+            let tuner = program.tuner();
+            assert!(tuner.is_good());
+            let pitched = matches!(tuner.meter(), Meter::Pitched(_));
+            assert!(pitched || tuner.standing().kept == 0);
         }
     }
 }

@@ -1,6 +1,7 @@
 //! A take played over a record's bytes is the take played by the tuner, and a
 //! record out of range is refused by every call that reads it.
 
+use independent::generator::cases::Cases;
 use independent::generator::edges::{
     bytes_of, calls_over, choices, edges, fresh_of_version_2, BEGINNING_OF_OLD,
 };
@@ -8,7 +9,7 @@ use independent::record::{made, Call, Record};
 use independent::settings::Settings;
 use independent::statistics::Statistics;
 use independent::tuner::{Meter, Tuner};
-use std::collections::BTreeSet;
+use std::collections::{BTreeMap, BTreeSet};
 
 #[test]
 fn a_take_over_a_record_is_the_tuner_s() {
@@ -94,4 +95,45 @@ fn records_of_older_versions_are_refused() {
     let left = made(&bytes, &Call::StartDefault);
     assert_eq!(left.number, 0);
     assert_eq!(left.record, Record::fresh(Settings::DEFAULT).bytes());
+}
+
+/// No line shows that a loss, a reset or a start cleared what was kept, since a
+/// find does too: records show it. So calls over them meet something kept before
+/// each of these, and before a find, a step, and one that leaves it, as at decay 0.
+#[test]
+fn calls_over_records_meet_something_kept() {
+    let mut source = Cases::seeded(20_261_115);
+    let mut met: BTreeMap<&str, usize> = BTreeMap::new();
+    for _ in 0..30_000 {
+        let (bytes, call) = source.case();
+        let record = Record::of_bytes(&bytes);
+        if record.kept == 0 || !record.is_good() {
+            continue;
+        }
+        let left = made(&bytes, &call);
+        let after = Record::of_bytes(&bytes_of(left.record));
+        let moved = (after.rate, after.kept) != (record.rate, record.kept);
+        let what = match (&call, left.number) {
+            (Call::Start(_) | Call::StartDefault, 0) => "start",
+            (Call::Reset, 0) => "reset",
+            (Call::Change(to), 0) if to.decay != record.settings.decay => "change of decay",
+            (Call::Midi(_), 0) if after.key != record.key => "key",
+            (Call::Block { .. }, 0) => match (record.tracking, after.tracking) {
+                (1, 0) => "loss",
+                (0, 1) if after.period == 0 => "find",
+                // One that is lost and found again within the block is left out.
+                (1, 1) if after.period == 0 || !moved => continue,
+                (1, 1) if after.kept == record.kept => "step that leaves it",
+                (1, 1) => "step",
+                _ => continue,
+            },
+            _ => continue,
+        };
+        let stays = ["change of decay", "key"].contains(&what);
+        assert!(!stays || after.kept == record.kept, "{what}");
+        let cleared = ["start", "reset", "loss", "find"].contains(&what);
+        assert!(!cleared || after.kept == 0, "{what}");
+        *met.entry(what).or_default() += 1;
+    }
+    assert_eq!(met.len(), 8, "{met:?}");
 }

@@ -84,7 +84,8 @@ fn number_9() {
 
 #[test]
 fn number_10() {
-    assert_eq!(smoothed_rate(128, 65_536, 66_410), 65_973);
+    assert_eq!(smoothed_rate(128, 65_536, 66_410, 0), (65_973, 0));
+    assert_eq!(smoothed_rate(128, 65_536, 66_410, 255), (65_973, 255));
 }
 
 #[test]

@@ -245,13 +245,14 @@ fn alter(random: &mut Random, record: &mut Record) {
     let few = random.whole(0, 2) as i64 - 1;
     // Past 32 bits, the rest as it was or 0: what lost high bits would make right.
     let high = random.next() << 32;
-    match random.whole(0, 31) {
+    match random.whole(0, 34) {
         0 => record.settings = settings(random),
         1 => record.count = random.one_of(&[0, 1, 7, 8, 1_763, 1_764, 1_765, 1_791, 1_792]),
         2 => record.count = random.one_of(&[999_999_999, 1_000_000_000, 1_000_000_001, u64::MAX]),
         3 => record.behind = random.one_of(&[0, 1, 65_535_999, 65_536_000, 65_536_001, u64::MAX]),
         4 => record.behind = random.whole(0, 70_000_000) as u64,
-        5 | 6 => record.tracking = random.one_of(&[0, 1, 2, 3, 255, 256, 1 << 31, u32::MAX]),
+        5 => record.tracking = random.one_of(&[0, 1, 2, 3, 255, 256, 1 << 31, 0xFFFF_FFFF]),
+        6 => record.tracking = random.one_of(&[0, 1, high, record.tracking | high, u64::MAX]),
         7 => record.period = random.one_of(&[0, 1, 4_095, 4_096, 225_280, 225_281, u32::MAX]),
         8 => record.period = random.whole(4_096, 225_280) as u32,
         9 => record.note = random.one_of(&[0, 31, 32, 69, 100, 101, 127, 128, 129, u32::MAX]),
@@ -285,6 +286,13 @@ fn alter(random: &mut Random, record: &mut Record) {
         28 => record.status = random.one_of(&[0, 1, 127, 128, 144, 145, 191, 192, 223, 224]),
         29 => record.status = random.one_of(&[239, 240, 255, 256, 400, u16::MAX]),
         30 => record.half = random.one_of(&[0, 60, 127, 128, 129, 255, 256, u16::MAX]),
+        31 => record.kept = random.one_of(&[0, 1, 254, 255, 256, 257, 511, 65_536, u32::MAX]),
+        32 => record.kept = random.whole(0, 255) as u32,
+        // Without a period, and with something kept: a find or the first step may follow.
+        33 => {
+            (record.period, record.rate) = (0, 65_536);
+            (record.tracking, record.kept) = (random.one_of(&[0, 1]), random.whole(1, 255) as u32);
+        }
         _ => {
             let place = random.whole(0, 108);
             record.energies[place] = record.energies[place].wrapping_add_signed(few);

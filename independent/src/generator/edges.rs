@@ -49,12 +49,40 @@ const GOOD: &[Alter] = &[
     |record| record.note = 128,
     |record| record.rate = 32_768,
     |record| record.rate = 131_072,
-    // Locking, and searching with any lags: a note without a period is not looked at.
+    |record| record.kept = 1,
+    |record| record.kept = 255,
+    // Locking, and searching with any lags: a note without a period is not looked at, and something may be kept.
     |record| (record.period, record.note, record.rate) = (0, u32::MAX, 65_536),
+    |record| (record.period, record.rate, record.kept) = (0, 65_536, 255),
     |record| {
         searching(record);
         (record.low, record.last, record.note) = (u32::MAX, 0, u32::MAX);
         (record.e[0], record.h[7]) = (u64::MAX, i64::MIN);
+    },
+    |record| {
+        searching(record);
+        record.kept = 255;
+    },
+    |record| alone(record, |fresh| fresh.kept = 255),
+    // With something kept comes a step, which adds it, at decay 0 too; one that loses; one that is the first; and a find.
+    |record| stepping(record, (0, 255), 65_536),
+    |record| stepping(record, (255, 0), 32_768),
+    |record| stepping(record, (255, 255), 131_072),
+    |record| stepping(record, (255, 128), 66_504),
+    |record| stepping(record, (255, 255), 66_505),
+    |record| stepping(record, (200, 254), 66_506),
+    |record| stepping(record, (1, 1), 65_536),
+    |record| {
+        stepping(record, (255, 255), 65_536);
+        record.settings.eps = 0;
+    },
+    |record| {
+        stepping(record, (255, 255), 65_536);
+        record.period = 0;
+    },
+    |record| {
+        searching(record);
+        (record.note, record.kept, record.count) = (60, 255, 2_405);
     },
     |record| record.behind = 0,
     |record| record.behind = 65_536_000,
@@ -116,6 +144,18 @@ const BAD: &[Alter] = &[
     |record| record.note = u32::MAX,
     |record| record.rate = 32_767,
     |record| record.rate = 131_073,
+    |record| record.kept = 256,
+    |record| record.kept = 511,
+    |record| record.kept = 65_536,
+    |record| record.kept = u32::MAX,
+    |record| (record.kept, record.settings.decay) = (256, 255),
+    |record| (record.period, record.rate, record.kept) = (0, 65_536, 256),
+    |record| {
+        searching(record);
+        record.kept = 256;
+    },
+    |record| alone(record, |fresh| fresh.kept = 256),
+    |record| alone(record, |fresh| fresh.kept = u32::MAX),
     |record| (record.period, record.rate) = (0, 65_535),
     |record| (record.period, record.rate) = (0, 65_537),
     |record| {
@@ -125,11 +165,20 @@ const BAD: &[Alter] = &[
     |record| record.tracking = 0,
     |record| record.tracking = 2,
     |record| record.tracking = 257,
-    |record| record.tracking = u32::MAX,
+    |record| record.tracking = 0xFFFF_FFFF,
+    // What a number of 32 bits would lose.
+    |record| record.tracking = PAST_32_BITS,
+    |record| record.tracking |= PAST_32_BITS,
+    |record| record.tracking = u64::MAX,
     |record| {
         searching(record);
         record.tracking = 2;
     },
+    |record| {
+        searching(record);
+        record.tracking = PAST_32_BITS;
+    },
+    |record| alone(record, |fresh| fresh.tracking = PAST_32_BITS),
     |record| record.behind = 65_536_001,
     |record| record.behind += PAST_32_BITS,
     |record| record.behind = PAST_32_BITS,
@@ -168,6 +217,12 @@ fn keyboard(record: &mut Record, (key, status, half): (u32, u16, u16)) {
 
 fn searching(record: &mut Record) {
     (record.tracking, record.period, record.rate) = (0, 0, 65_536);
+}
+
+/// The samples of the next block hold a tracking step; with this decay, what is kept, and the rate.
+fn stepping(record: &mut Record, (decay, kept): (u32, u32), rate: u32) {
+    (record.settings.decay, record.kept) = (decay, kept);
+    (record.rate, record.count) = (rate, 2_402);
 }
 
 /// A fresh record in the place of this one, so that nothing else is altered.

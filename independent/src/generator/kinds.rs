@@ -1,6 +1,7 @@
 //! The kinds of script: what is sung, and how it is sent.
 
 use super::choices::choice_line;
+use super::holding;
 use super::hostile::{endless_line, hostile_line};
 use super::player;
 use super::random::Random;
@@ -181,6 +182,28 @@ pub const KINDS: &[Kind] = &[
         resets: 5,
         following: Some(player::any_bytes),
         ..played("bytes", "any keyboard bytes, modes and channels", vibrato)
+    },
+    Kind {
+        settings: Some("4095\t409\t255\t1"),
+        changes: 0,
+        following: Some(holding::seldom),
+        ..kind("goals", "notes held until they are in tune", sustained)
+    },
+    Kind {
+        settings: Some("4095\t409\t255\t1"),
+        lengths: (1, 100),
+        changes: 0,
+        resets: 5,
+        trouble: 5,
+        following: Some(holding::often),
+        ..kind("decays", "held notes, other decays, losses", broken)
+    },
+    Kind {
+        settings: Some("4095\t409\t255\t1"),
+        lengths: (1, 100),
+        resets: 2,
+        following: Some(holding::keys),
+        ..played("keys", "keys struck under held notes", sustained)
     },
     Kind {
         settings: Some("4095\t409\t0\t1"),
@@ -418,10 +441,42 @@ fn halves(random: &mut Random, _: usize) -> Passage {
     tossed(random, cycle, 256)
 }
 
-/// A little flat: at decay 255 the rate stays at 65536, rounded down.
+/// A little flat: at decay 255 the rate stays at 65536 until what rounding cut
+/// off makes a unit.
 fn level(random: &mut Random, _: usize) -> Passage {
     let cycle = random.one_of(&[451, 478, 507, 537, 568, 602, 638, 676, 716, 758, 803, 851]);
     tossed(random, cycle, 300)
+}
+
+/// A note that is held, flat or sharp, softly: as long as the rate needs to its
+/// goal under the highest decay. Two of three have cycles that come again
+/// exactly, so that the raw rate is one and the same.
+fn sustained(random: &mut Random, _: usize) -> Passage {
+    let length = random.whole(12_000, 20_000);
+    let passage = match random.whole(0, 2) {
+        0 => {
+            let period = period_of_note(random.whole(45, 70), random.real(-50.0, 50.0));
+            Passage::of(voice(random, 1.0), period, length)
+        }
+        _ => {
+            let cycle = 8 * random.whole(55, 109);
+            let mut passage = tossed(random, cycle, 300);
+            // Nothing is heard of it, but a player takes the key from it.
+            (passage.from, passage.to) = (cycle as f64, cycle as f64);
+            passage
+        }
+    };
+    passage.lasting(length).loud(90.0)
+}
+
+/// Such notes, most of them left early, with silence between them.
+fn broken(random: &mut Random, place: usize) -> Passage {
+    let passage = sustained(random, place);
+    let length = random.one_of(&[1_500, 3_000, 3_000, 6_000, passage.length]);
+    match place % 4 {
+        3 => passage.lasting(random.whole(100, 1_500)).loud(0.0),
+        _ => passage.lasting(length),
+    }
 }
 
 /// Drawn to note 34, it falls 12,800 units behind each sample, 1,000 samples

@@ -6,6 +6,7 @@
 pub mod cases;
 mod choices;
 pub mod edges;
+mod holding;
 mod hostile;
 pub mod kinds;
 pub mod night;

@@ -39,6 +39,9 @@ pub const NIGHT: &[(&str, u64, usize)] = &[
     ("trill", 36, 2_000),
     ("pieces", 6, 7_000),
     ("bytes", 36, 5_000),
+    ("goals", 19, 24_000),
+    ("decays", 164, 8_000),
+    ("keys", 48, 10_000),
     ("hostile", 29, 8_600),
 ];
 

@@ -5,22 +5,22 @@ use super::random::Random;
 use super::script::Moment;
 use crate::rules::{wanted_note, PERIOD_UNIT};
 
-const NOTE_OFF: u8 = 128;
-const NOTE_ON: u8 = 144;
+pub const NOTE_OFF: u8 = 128;
+pub const NOTE_ON: u8 = 144;
 
 /// The line with these bytes.
-fn midi(bytes: &[u8]) -> Vec<u8> {
+pub fn midi(bytes: &[u8]) -> Vec<u8> {
     let fields = bytes.iter().map(|byte| format!("\t{byte}"));
     format!("midi{}", fields.collect::<String>()).into_bytes()
 }
 
 /// The key nearest to what is sung.
-fn sung_key(moment: &Moment) -> u8 {
+pub fn sung_key(moment: &Moment) -> u8 {
     wanted_note(4_095, (PERIOD_UNIT as f64 * moment.period) as i64) as u8
 }
 
 /// A velocity of a note on.
-fn velocity(random: &mut Random) -> u8 {
+pub fn velocity(random: &mut Random) -> u8 {
     random.one_of(&[1, 64, 100, 127])
 }
 

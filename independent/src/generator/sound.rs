@@ -44,6 +44,11 @@ impl Passage {
         }
     }
 
+    pub fn lasting(mut self, samples: usize) -> Passage {
+        self.length = samples;
+        self
+    }
+
     pub fn loud(self, loudness: f64) -> Passage {
         self.fading(loudness, loudness)
     }
