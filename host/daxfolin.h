@@ -10,7 +10,7 @@
  * or host/build program.c OUT for both, also where the processor is another one (docs/HOST.md).
  *
  * What the proof takes for granted of the caller, as C cannot say it:
- * - a record is lent at an address that is a multiple of 8, all its 6960 bytes readable and, but for daxfolin_meter, writable;
+ * - a record is lent at an address that is a multiple of 8, all its 6968 bytes readable and, but for daxfolin_meter, writable;
  *   daxfolin_start and daxfolin_start_default write them all and read none, so there it may be fresh memory;
  * - `samples` and `out` stand at even addresses, with as many samples behind them as the length beside them says, and `bytes` anywhere,
  *   likewise; of a length of 0 nothing is read or written;
@@ -25,8 +25,8 @@
 extern "C" {
 #endif
 
-#define DAXFOLIN_VERSION 5u                /* of these calls: what daxfolin_version() answers */
-#define DAXFOLIN_LAYOUT 20004u             /* of the record: what stands first in it */
+#define DAXFOLIN_VERSION 6u                /* of these calls: what daxfolin_version() answers */
+#define DAXFOLIN_LAYOUT 20005u             /* of the record: what stands first in it */
 #define DAXFOLIN_LONGEST_BLOCK 512u        /* samples of a block */
 #define DAXFOLIN_LONGEST_TAKE 1000000000u  /* samples of a take */
 
@@ -94,12 +94,13 @@ typedef struct daxfolin_tone {
     uint32_t period; /* in 1/256 sample; 0: no period */
     uint32_t note;   /* the wanted note, 0 to 127, chosen at the last tracking step; 128: none */
     uint32_t rate;   /* in 1/65536 */
+    uint32_t kept;   /* what rounding cut off the rate, 0 to 255, in 1/256 of its unit: the next smoothing adds it */
 } daxfolin_tone;
 
 typedef struct daxfolin_pitch {
     daxfolin_tracker tracker;
     daxfolin_tone tone;
-    uint32_t tracking; /* 0 searching, 1 tracking; a record with any other number here is answered 9 */
+    uint64_t tracking; /* 0 searching, 1 tracking; a record with any other number here is answered 9 */
 } daxfolin_pitch;
 
 /* The read head. */
@@ -164,17 +165,17 @@ DAXFOLIN_SAME(sizeof(daxfolin_settings), 6 * 4);
 DAXFOLIN_SAME(sizeof(daxfolin_keyboard), 4 + 2 * 2);
 DAXFOLIN_SAME(sizeof(daxfolin_heard), 8 + 109 * 8 + 109 * 8 + 1764 * 2 + 224 * 2);
 DAXFOLIN_SAME(sizeof(daxfolin_tracker), 4 + 4 + 8 * 8 + 8 * 8);
-DAXFOLIN_SAME(sizeof(daxfolin_tone), 3 * 4);
-DAXFOLIN_SAME(sizeof(daxfolin_pitch), 136 + 12 + 4);
+DAXFOLIN_SAME(sizeof(daxfolin_tone), 4 * 4);
+DAXFOLIN_SAME(sizeof(daxfolin_pitch), 136 + 16 + 8);
 DAXFOLIN_SAME(sizeof(daxfolin_head), 8);
 DAXFOLIN_SAME(sizeof(daxfolin_last), 4 * 2 + 512 * 2);
 DAXFOLIN_SAME(offsetof(daxfolin_record, settings), 8);
 DAXFOLIN_SAME(offsetof(daxfolin_record, keyboard), 32);
 DAXFOLIN_SAME(offsetof(daxfolin_record, heard), 40);
 DAXFOLIN_SAME(offsetof(daxfolin_record, pitch), 5768);
-DAXFOLIN_SAME(offsetof(daxfolin_record, head), 5920);
-DAXFOLIN_SAME(offsetof(daxfolin_record, last), 5928);
-DAXFOLIN_SAME(sizeof(daxfolin_record), 6960);
+DAXFOLIN_SAME(offsetof(daxfolin_record, head), 5928);
+DAXFOLIN_SAME(offsetof(daxfolin_record, last), 5936);
+DAXFOLIN_SAME(sizeof(daxfolin_record), 6968);
 DAXFOLIN_SAME(sizeof(daxfolin_answer), 12);
 DAXFOLIN_SAME(sizeof(daxfolin_shown), 20);
 DAXFOLIN_SAME(sizeof(size_t), 8);

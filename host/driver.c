@@ -54,17 +54,25 @@ static void answer(struct said *said, daxfolin_answer a) {
     said->number = a.number, said->written = a.written, said->repeated = a.repeated, said->dropped = a.dropped;
 }
 
-/* The header's names stand where the library writes: a tuner after a key and its first block. */
+/* The header's names stand where the library writes: a tuner after a key and its first block. What is 0 there is put out of its range,
+ * and the meter refuses it. */
 static int misnamed(void) {
     static daxfolin_record t;
     daxfolin_settings settings = {1, 2, 3, 4, 1, 6};
     uint8_t bytes[4] = {150, 60, 100, 62};
     int16_t block[3] = {1000, -1000, 500}, room[3];
     if (daxfolin_start(&t, settings) || daxfolin_midi(&t, bytes, 4) || daxfolin_block(&t, 0, block, 3, room, 3).number) return 1;
-    return t.layout != DAXFOLIN_LAYOUT || memcmp(&t.settings, &settings, sizeof settings) || t.keyboard.key != 60 ||
-           t.keyboard.status != 150 || t.keyboard.half != 62 || t.heard.count != 3 ||
-           memcmp(t.heard.store + 1761, block, sizeof block) || t.pitch.tone.note != 128 || t.pitch.tone.rate != 65536 ||
-           t.pitch.tracking || t.head.behind || t.last.length != 3 || memcmp(t.last.out, room, sizeof room);
+    if (t.layout != DAXFOLIN_LAYOUT || memcmp(&t.settings, &settings, sizeof settings) || t.keyboard.key != 60 ||
+        t.keyboard.status != 150 || t.keyboard.half != 62 || t.heard.count != 3 ||
+        memcmp(t.heard.store + 1761, block, sizeof block) || t.pitch.tone.note != 128 || t.pitch.tone.rate != 65536 ||
+        t.pitch.tone.kept || t.pitch.tracking || t.head.behind || t.last.length != 3 || memcmp(t.last.out, room, sizeof room))
+        return 1;
+    t.pitch.tone.kept = 255;
+    if (daxfolin_meter(&t).state != DAXFOLIN_SEARCHING) return 1;
+    t.pitch.tone.kept = 256;
+    if (daxfolin_meter(&t).state != DAXFOLIN_REFUSED) return 1;
+    t.pitch.tone.kept = 0, t.pitch.tracking = (uint64_t)1 << 32;
+    return daxfolin_meter(&t).state != DAXFOLIN_REFUSED;
 }
 
 int main(void) {

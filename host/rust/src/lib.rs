@@ -21,9 +21,9 @@
 use std::fmt;
 
 /// The version of the calls.
-pub const VERSION: u32 = 5;
+pub const VERSION: u32 = 6;
 /// The number of the record's layout, which stands first in it.
-pub const LAYOUT: u64 = 20_004;
+pub const LAYOUT: u64 = 20_005;
 /// The most samples of a block.
 pub const LONGEST_BLOCK: usize = 512;
 /// The most samples of a take.
@@ -175,7 +175,7 @@ mod archive {
 }
 
 const _: () = {
-    assert!(size_of::<Record>() == 6960 && align_of::<Record>() == 8);
+    assert!(size_of::<Record>() == 6968 && align_of::<Record>() == 8);
     assert!(size_of::<Settings>() == 24 && size_of::<Answer>() == 12);
     assert!(size_of::<archive::Shown>() == 20 && size_of::<archive::Stretch>() == 16);
 };
@@ -195,7 +195,7 @@ pub fn cut(recording: &[i16], k: usize) -> &[i16] {
 
 impl Record {
     /// The bytes of a record.
-    pub const SIZE: usize = 6960;
+    pub const SIZE: usize = 6968;
 
     fn blank() -> Record {
         assert_eq!(

@@ -205,6 +205,44 @@ fn bytes_of_a_keyboard() {
     assert_eq!(at_once, fresh(KEYBOARD_MODE, 0));
 }
 
+/// A held note that is flat: at the highest decay too the rate comes all the way up, and stays there.
+#[test]
+fn a_held_note_reaches_its_goal() {
+    // Up and down by chance, 608 samples over and over; a cycle of the nearest note has 153775 / 256.
+    let mut state = 1u64;
+    let mut toss = || {
+        state = state.wrapping_mul(6_364_136_223_846_793_005);
+        state = state.wrapping_add(1_442_695_040_888_963_407);
+        if state >> 63 == 1 {
+            900
+        } else {
+            -900
+        }
+    };
+    let cycle: Vec<i16> = (0..608).map(|_| toss()).collect();
+    let goal = ((608.0 * 256.0 * 65_536.0 / 153_775.0f64).round() / 65_536.0) as f32;
+    let (number, mut record) = Record::start(Settings {
+        eps: 409,
+        decay: 255,
+        floor: 1,
+        ..Settings::default()
+    });
+    assert_eq!(number, TAKEN);
+    let mut rates = Vec::new();
+    for block in 0..150 {
+        let samples: Vec<i16> = (0..100)
+            .map(|at| cycle[(100 * usize::from(block) + at) % 608])
+            .collect();
+        assert_eq!(record.block(block, &samples, &mut [0; 100]).number, TAKEN);
+        if let Meter::Pitched { rate, .. } = record.meter() {
+            rates.push(rate);
+        }
+    }
+    assert!(rates.windows(2).all(|pair| pair[0] <= pair[1]));
+    assert!(rates[..50].iter().all(|&rate| rate < goal));
+    assert_eq!(rates[rates.len() - 10..], [goal; 10]);
+}
+
 #[test]
 fn a_recording_is_cut_into_its_stretches() {
     for length in [0, 1, 511, 512, 513, 1_024, 5_000] {
