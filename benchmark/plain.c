@@ -79,6 +79,7 @@ static bool good(const plain_tuner *t)
     if (behind < 0 || behind > FARTHEST) return false;
     if (!silent_before(full(t)) || !silent_before(eighth(t))) return false;
     if (!right(t->sums, LAGS, eighth(t), 2)) return false;
+    if (t->kept > 255) return false;
     if (t->period) {
         if (!t->tracking || !within(t->period, 4096, 225280)) return false;
         if (!within(t->note, FIRST_NOTE, LAST_NOTE) || !within(t->rate, 32768, 131072)) return false;
@@ -162,7 +163,7 @@ static void track(plain_tuner *t)
     uint32_t best = t->low + at, last = t->last_best;
     if (!passes(t, t->eight[at], best) || best > last + 3 || last > best + 3) {
         t->tracking = false;
-        t->period = t->note = 0;
+        t->period = t->note = t->kept = 0;
         t->rate = LEVEL;
         return;
     }
@@ -175,7 +176,9 @@ static void track(plain_tuner *t)
     t->note = wanted_note(t->scale, t->period);
     uint64_t p = periods[t->note - FIRST_NOTE];
     uint32_t raw = (uint32_t)((2 * (uint64_t)t->period * LEVEL + p) / (2 * p));
-    t->rate = (t->decay * t->rate + (256 - t->decay) * raw) / 256;
+    uint32_t total = t->decay * t->rate + (256 - t->decay) * raw + t->kept;
+    t->rate = total / 256;
+    t->kept = total % 256;
     if (at < 3 && t->low > LEAST_LAG) track_from(t, t->low - 1);
     if (at > 4 && t->low < MOST_LAG + 1 - TRACKED) track_from(t, t->low + 1);
 }

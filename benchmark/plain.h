@@ -24,6 +24,7 @@ typedef struct {
     plain_sums eight[TRACKED]; /* while tracking, of the lags from low on */
     uint32_t period;           /* in 1/256 sample; 0: none */
     uint32_t note, rate;
+    uint32_t kept;    /* what rounding cut off the rate, 0 to 255 */
     int64_t position; /* in 1/65536 sample */
     uint16_t number, length, repeated, dropped;
     int16_t out[LONGEST_BLOCK];
