@@ -42,26 +42,57 @@ pub fn grow(behind: u32, rate: u32, period: u32) -> Growth
     }
 }
 
-// Between neighbours a and b with fraction f, rounded down.
-fn between(a: i16, b: i16, f: u32) -> i16
-    requires { ⌜ f ≤ 65536 ⌝ }
-    ensures { λ r. ⌜ r ≡ rules.between a b f ⌝ }
+// Twice the value through neighbours p, a, b and q with u of 4096, in 1/4096^3: three products, from the cube down.
+fn curve(p: i16, a: i16, b: i16, q: i16, u: u32) -> i64
+    requires { ⌜ u ≤ 4096 ⌝ }
+    ensures { λ r. ⌜ r ≡ rules.curve p a b q u ⌝ }
 {
-    let p = a as i64;
-    let q = b as i64;
-    let g = 65536 - f;
-    ((p * (g as i64) + q * (f as i64)) >> 16) as i16
+    let left = p as i64;
+    let here = a as i64;
+    let next = b as i64;
+    let right = q as i64;
+    let v = u as i64;
+    let rise = next - here;
+    let cube = right - left - 3 * rise;
+    let square = left - here + rise - cube;
+    ((cube * v + 4096 * square) * v + 16777216 * (next - left)) * v + 137438953472 * here
+}
+
+// Held within 16 bits.
+fn held(z: i64) -> i16
+    ensures { λ r. ⌜ r ≡ rules.held z ⌝ }
+{
+    if z < -32768 {
+        return -32768;
+    }
+    if 32767 < z {
+        return 32767;
+    }
+    z as i16
+}
+
+// Through neighbours p, a, b and q with u of 4096: halved and rounded down once, then held.
+fn through(p: i16, a: i16, b: i16, q: i16, u: u32) -> i16
+    requires { ⌜ u ≤ 4096 ⌝ }
+    ensures { λ r. ⌜ r ≡ rules.through p a b q u ⌝ }
+{
+    held(curve(p, a, b, q, u) >> 37)
 }
 
 // The output, read 5 samples before a position that lies so far behind the newest of the first m samples.
 pub fn read(s: &[i16], m: usize, behind: u32) -> i16
-    requires { ⌜ (m ≤ length (now s)) × (1005 ≤ m) × (behind ≤ rules.farthest) ⌝ }
+    requires { ⌜ (m ≤ length (now s)) × (1006 ≤ m) × (behind ≤ rules.farthest) ⌝ }
     ensures { λ r. ⌜ ((n : ℕ) → r ≡ rules.reading (ago (now (s .entry)) m) n (rules.inputAt n -ℤ pos behind)) ⌝ }
 {
-    let q = (behind + 65535) / 65536;
-    let f = q * 65536 - behind;
-    let k = q as usize + 5;
+    let whole = (behind + 65535) / 65536;
+    let u = (whole * 65536 - behind) / 16;
+    let k = whole as usize + 5;
     let a = ages::back(s, m, k - 1);
+    if u == 0 {
+        return a;
+    }
+    let p = ages::back(s, m, k);
     let b = ages::back(s, m, k - 2);
-    between(a, b, f)
+    let q = ages::back(s, m, k - 3);
+    through(p, a, b, q, u)
 }

@@ -10,6 +10,7 @@ pub mod Every
 pub mod Table
 pub mod Notes
 pub mod Smoothing
+pub mod Through
 pub mod Position
 pub mod Blocks
 pub mod Sane

@@ -1,10 +1,10 @@
 -- One sample's step looks at the newest 1,764 samples and the newest 224 eighth-rate samples, and no further: takes that agree there step alike.
--- Tracking looks at lags up to 880, so at twice as many samples; finding at eighth-rate lags up to 110; the reading at ages up to 1,004.
+-- Tracking looks at lags up to 880, so at twice as many samples; finding at eighth-rate lags up to 110; the reading at ages up to 1,005.
 use mathlib.Core.Path.{_≡_, refl, sym, ap, _∙_, subst}
 use mathlib.Core.Bool.{Bool, true, false, cond, _&&_}
 use mathlib.Core.List.{List, [], _∷_}
 use mathlib.Core.Option.{Option, none, some}
-use Prim.Native.Nat.{ℕ, zero, suc, _+_, _-_, _*_, _≤_, _<_}
+use Prim.Native.Nat.{ℕ, zero, suc, _+_, _-_, _*_, _/_, _≤_, _<_}
 use native.Mathlib.Omega.{arith}
 use borrow.Author.Tests.{ltb-true}
 use lib.Dec.{leb, ltb}
@@ -16,7 +16,7 @@ use Rattle.rules.specs.Facts.{ForceIn, ModeIn, InBounds}
 use Rattle.rules.specs.declared.Settings.{Settings}
 use Rattle.rules.specs.declared.InForce.{InForce}
 use Rattle.rules.specs.declared.Tone.{Tone}
-use Rattle.rules.specs.Rules.{Sound, heard, D, eighthSample, eighthDue, passes, isLow, leastFrom, lowAbove, choice, foundBy, found, best, isLost, period, tracked, Mode, searching, tracking, Pitch, listenedIn, listened, inputAt, reading, between, growth, Take, eighthsAfter, stepped, after, gives}
+use Rattle.rules.specs.Rules.{Sound, heard, D, eighthSample, eighthDue, passes, isLow, leastFrom, lowAbove, choice, foundBy, found, best, isLost, period, tracked, Mode, searching, tracking, Pitch, listenedIn, listened, inputAt, reading, through, growth, Take, eighthsAfter, stepped, after, gives}
 use Rattle.rules.specs.Energies.{E-same}
 use Rattle.rules.specs.Distance.{D-same}
 use Rattle.rules.specs.Choosing.{low-above, best-first, place-of-same}
@@ -129,7 +129,8 @@ reading-alike {x} {x'} same n at h =
     let behind = in-bounds-behind h in
     let near = whole-within b (behind .near) in
     reading-behind x n b (behind .is)
-    ∙ (λ i. between (same (wholeBehind b + 4) (omega arith) i) (same (wholeBehind b + 3) (omega arith) i) (fractionBehind b))
+    ∙ (λ i.
+    through (same (wholeBehind b + 5) (omega arith) i) (same (wholeBehind b + 4) (omega arith) i) (same (wholeBehind b + 3) (omega arith) i) (same (wholeBehind b + 2) (omega arith) i) (fractionBehind b / 16))
     ∙ sym (reading-behind x' n b (behind .is))
 
 -- ---- one sample

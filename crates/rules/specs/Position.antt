@@ -2,24 +2,20 @@
 -- A cycle is longer than what a rate can run ahead, and shorter than 1,000 samples, so one of them mends either bound and never breaks the other.
 use mathlib.Core.Path.{_≡_, refl, sym, ap, _∙_, subst}
 use mathlib.Core.List.{List, [], _∷_}
-use Prim.Native.Nat.{ℕ, suc, _+_, _*_, _-_, _/_, _%_, _≤_, _<_}
-use native.Mathlib.Nat.{div-add-mod', mod-lt, mul-le-mul-right, suc-mul}
+use Prim.Native.Nat.{ℕ, suc, _+_, _*_, _-_, _/_, _≤_, _<_}
 use native.Mathlib.Omega.{arith}
 use borrow.Author.Tests.{ltb-true, ltb-false, lt-ltb, le-ltb}
 use lib.Dec.{ltb, lit<}
 use lib.ListN.{length}
-use lib.IntN.{ℤ, pos, negsuc, natAbs, _+ℤ_, _-ℤ_, _*ℤ_, +ℤ-idr}
-use lib.Signed.{mag, clashℤ, _≤ℤ_}
-use mir.Syntax.{w16}
-use mir.Val.{SFits}
-use Rattle.whole.specs.Tests.{by, cond-case, cond-yes, cond-no, true-T}
-use Rattle.whole.specs.Bounds.{minus-down, pos-minus-pos, subℕ-lt}
+use lib.IntN.{ℤ, pos, natAbs, _+ℤ_, _-ℤ_, _*ℤ_, +ℤ-idr}
+use lib.Signed.{clashℤ, _≤ℤ_}
+use Rattle.whole.specs.Tests.{by, cond-yes, cond-no, true-T}
+use Rattle.whole.specs.Bounds.{minus-down}
 use Rattle.whole.specs.Order.{not-less, minus-less, minus-not-above, below-is}
 use Rattle.whole.specs.Floor.{floor-is, floor-one}
-use Rattle.whole.specs.Numbers.{floorDiv}
 use Rattle.whole.specs.Ring.{var, con, _⊕_, _⊖_, _⊗_, solve}
 use Rattle.rules.specs.declared.Tone.{Tone}
-use Rattle.rules.specs.Rules.{Sound, Growth, noNote, leastRate, greatestRate, leastPeriod, greatestPeriod, inputAt, cycleRepeated, cycleDropped, cycles, growth, sampleAt, between, wholeOf, fractionOf, reading}
+use Rattle.rules.specs.Rules.{Sound, Growth, noNote, leastRate, greatestRate, leastPeriod, greatestPeriod, inputAt, cycleRepeated, cycleDropped, cycles, growth, sampleAt, through, wholeOf, fractionOf, reading}
 use Rattle.rules.specs.Facts.{ToneIn, pitched, unpitched, InBounds}
 
 -- ---- the bounds
@@ -214,8 +210,8 @@ fractionBehind b = wholeBehind b * 65536 - b
 pub fraction-below : (b : ℕ) → fractionBehind b < 65536
 fraction-below b = omega arith
 
--- in its bounds nothing older than 1,004 samples is read
-pub whole-within : (b : ℕ) → b ≤ 65536000 → wholeBehind b + 4 ≤ 1004
+-- in its bounds nothing older than 1,005 samples is read
+pub whole-within : (b : ℕ) → b ≤ 65536000 → wholeBehind b + 5 ≤ 1005
 whole-within b h = omega arith
 
 module _ (x : Sound) (n b : ℕ) where
@@ -244,7 +240,9 @@ module _ (x : Sound) (n b : ℕ) where
   unfolding sampleAt
   age-is k i e = rw e
 
-  pub reading-behind : {at : ℤ} → at ≡ inputAt n -ℤ pos b → reading x n at ≡ between (x (wholeBehind b + 4)) (x (wholeBehind b + 3)) (fractionBehind b)
+  -- ages 2 and more are read, so nothing that is still to come
+  pub reading-behind : {at : ℤ} → at ≡ inputAt n -ℤ pos b
+      → reading x n at ≡ through (x (wholeBehind b + 5)) (x (wholeBehind b + 4)) (x (wholeBehind b + 3)) (x (wholeBehind b + 2)) (fractionBehind b / 16)
   unfolding reading
   reading-behind e =
       let q = wholeBehind b in
@@ -253,41 +251,8 @@ module _ (x : Sound) (n b : ℕ) where
         e,
         whole-is,
         fraction-is,
+        age-is (q + 5) (i -ℤ pos 5 -ℤ pos 1) (solve (pos n ∷ pos q ∷ []) (var 0 ⊖ con (pos 1) ⊖ (var 0 ⊖ var 1 ⊖ con (pos 5) ⊖ con (pos 1))) (var 1 ⊕ con (pos 5)) refl),
         age-is (q + 4) (i -ℤ pos 5) (solve (pos n ∷ pos q ∷ []) (var 0 ⊖ con (pos 1) ⊖ (var 0 ⊖ var 1 ⊖ con (pos 5))) (var 1 ⊕ con (pos 4)) refl),
         age-is (q + 3) (i -ℤ pos 5 +ℤ pos 1) (solve (pos n ∷ pos q ∷ []) (var 0 ⊖ con (pos 1) ⊖ (var 0 ⊖ var 1 ⊖ con (pos 5) ⊕ con (pos 1))) (var 1 ⊕ con (pos 3)) refl),
+        age-is (q + 2) (i -ℤ pos 5 +ℤ pos 2) (solve (pos n ∷ pos q ∷ []) (var 0 ⊖ con (pos 1) ⊖ (var 0 ⊖ var 1 ⊖ con (pos 5) ⊕ con (pos 2))) (var 1 ⊕ con (pos 2)) refl),
       )
-
--- ---- a value between two samples is a sample
-
--- a sample is a number below 65536, less 32768
-from-zero : (a : ℤ) → mag a < 32768 → (u : ℕ) × (a ≡ pos u -ℤ pos 32768) × (u < 65536)
-from-zero (pos k) h = (k + 32768, sym (minus-down (k + 32768) 32768 (omega arith) ∙ ap pos (omega arith)), omega arith)
-from-zero (negsuc k) h =
-    (32767 - k, sym (pos-minus-pos (32767 - k) 32768 ∙ subℕ-lt (32767 - k) 32768 (omega arith) ∙ ap negsuc (omega arith)), omega arith)
-
-to-sample : (u : ℕ) → u < 65536 → mag (pos u -ℤ pos 32768) < 32768
-to-sample u h =
-    rw (pos-minus-pos u 32768)
-    (cond-case (ltb u 32768) (negsuc (32768 - suc u)) (pos (u - 32768)) (λ z. mag z < 32768) (λ t. omega arith) (λ t. omega arith))
-
--- so a mean of two by weights is the mean of those numbers, less 32768
-mean-is : (u v g f : ℕ) → g + f ≡ 65536 → let s : ℕ = u * g + v * f in
-    (pos u -ℤ pos 32768) *ℤ pos g +ℤ (pos v -ℤ pos 32768) *ℤ pos f ≡ (pos (s / 65536) -ℤ pos 32768) *ℤ pos 65536 +ℤ pos (s % 65536)
-mean-is u v g f e =
-    let s : ℕ = u * g + v * f in
-    solve (pos u ∷ pos v ∷ pos g ∷ pos f ∷ []) ((var 0 ⊖ con (pos 32768)) ⊗ var 2 ⊕ (var 1 ⊖ con (pos 32768)) ⊗ var 3) (var 0 ⊗ var 2 ⊕ var 1 ⊗ var 3 ⊖ con (pos 32768) ⊗ (var 2 ⊕ var 3)) refl
-    ∙ (λ i. pos (sym (div-add-mod' s 65536) i) -ℤ pos 32768 *ℤ pos (e i))
-    ∙ solve (pos (s / 65536) ∷ pos (s % 65536) ∷ []) (var 0 ⊗ con (pos 65536) ⊕ var 1 ⊖ con (pos 32768) ⊗ con (pos 65536)) ((var 0 ⊖ con (pos 32768)) ⊗ con (pos 65536) ⊕ var 1) refl
-
-pub between-fits : {a b : ℤ} (f : ℕ) → f ≤ 65536 → SFits w16 a → SFits w16 b → SFits w16 (between a b f)
-unfolding between
-between-fits {a} {b} f h p q =
-    let (u, d, k) = from-zero a (p .sfits) in
-    let (v, e, l) = from-zero b (q .sfits) in
-    let g = 65536 - f in
-    let s : ℕ = u * g + v * f in
-    let small : s / 65536 < 65536 = omega (arith, mul-le-mul-right g k, mul-le-mul-right f l, suc-mul u g, suc-mul v f) in
-    let is : floorDiv (a *ℤ pos g +ℤ b *ℤ pos f) 65536 ≡ pos (s / 65536) -ℤ pos 32768 =
-    floor-one (floor-is (a *ℤ pos g +ℤ b *ℤ pos f) 65536 (lit< tt))
-    (record { rest = s % 65536; small = mod-lt s (lit< tt); whole = (λ i. d i *ℤ pos g +ℤ e i *ℤ pos f) ∙ mean-is u v g f (omega arith) }) in
-    record { sfits = rw is (to-sample (s / 65536) small) }

@@ -5,7 +5,7 @@ use mathlib.Core.List.{List, [], _∷_, _++_}
 use mathlib.Core.Option.{Option, none, some}
 use Prim.Native.Nat.{ℕ, zero, suc, _+_, _-_, _*_, _/_, _%_, _^_, min, max}
 use lib.Dec.{leb, ltb, eqb}
-use lib.IntN.{ℤ, pos, natAbs, _+ℤ_, _-ℤ_, _*ℤ_}
+use lib.IntN.{ℤ, pos, negℤ, natAbs, _+ℤ_, _-ℤ_, _*ℤ_}
 use lib.ListN.{getD}
 use lib.Signed.{ltZ}
 use Rattle.rules.specs.declared.Settings.{Settings}
@@ -379,9 +379,21 @@ growth n rate p at =
 unfoldable pub sampleAt : Sound → ℕ → ℤ → ℤ
 sampleAt x n i = x (natAbs (pos n -ℤ pos 1 -ℤ i))
 
--- between neighbours a and b with fraction f: (a(65536 - f) + b f) / 65536, rounded down
-unfoldable pub between : ℤ → ℤ → ℕ → ℤ
-between a b f = floorDiv (a *ℤ pos (65536 - f) +ℤ b *ℤ pos f) 65536
+-- 2a + (b - p)v + (2p - 5a + 4b - q)v^2 + (3a - p - 3b + q)v^3 with v = u/4096, in 1/4096^3: a whole number
+unfoldable pub curve : ℤ → ℤ → ℤ → ℤ → ℕ → ℤ
+curve p a b q u =
+    pos 2 *ℤ a *ℤ pos (4096 ^ 3)
+    +ℤ (b -ℤ p) *ℤ pos u *ℤ pos (4096 ^ 2)
+    +ℤ (pos 2 *ℤ p -ℤ pos 5 *ℤ a +ℤ pos 4 *ℤ b -ℤ q) *ℤ pos u *ℤ pos u *ℤ pos 4096
+    +ℤ (pos 3 *ℤ a -ℤ p -ℤ pos 3 *ℤ b +ℤ q) *ℤ pos u *ℤ pos u *ℤ pos u
+
+-- held within -32768 to 32767
+unfoldable pub held : ℤ → ℤ
+held z = cond (ltZ z (negℤ (pos 32768))) (negℤ (pos 32768)) (cond (ltZ (pos 32767) z) (pos 32767) z)
+
+-- through neighbours p, a, b and q with u of 4096: half of that, rounded down once and then held
+unfoldable pub through : ℤ → ℤ → ℤ → ℤ → ℕ → ℤ
+through p a b q u = held (floorDiv (curve p a b q u) (2 * 4096 ^ 3))
 
 -- the whole samples of a position, and its fraction
 unfoldable pub wholeOf : ℤ → ℤ
@@ -390,11 +402,11 @@ wholeOf at = floorDiv at 65536
 unfoldable pub fractionOf : ℤ → ℕ
 fractionOf at = natAbs (at -ℤ wholeOf at *ℤ pos 65536)
 
--- the output is read 5 samples before the position
+-- the output is read 5 samples before the position, through the samples there and beside it, with the upper 12 bits of the fraction
 unfoldable pub reading : Sound → ℕ → ℤ → ℤ
 reading x n at =
     let i = wholeOf at -ℤ pos 5 in
-    between (sampleAt x n i) (sampleAt x n (i +ℤ pos 1)) (fractionOf at)
+    through (sampleAt x n (i -ℤ pos 1)) (sampleAt x n i) (sampleAt x n (i +ℤ pos 1)) (sampleAt x n (i +ℤ pos 2)) (fractionOf at / 16)
 
 -- ---- One sample
 

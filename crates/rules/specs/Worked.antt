@@ -1,4 +1,4 @@
--- Document 01's worked numbers: one table, and one statement over it, about the definitions.
+-- Document 01's worked numbers, number 11 as document 02's K12 has it: one table, and one statement over it, about the definitions.
 use mathlib.Core.Path.{_≡_, refl}
 use mathlib.Core.Bool.{Bool, true, false}
 use mathlib.Core.List.{List, [], _∷_}
@@ -6,7 +6,7 @@ use mathlib.Core.Option.{Option, none, some}
 use Prim.Native.Nat.{ℕ, _+_, _*_, _/_}
 use lib.IntN.{ℤ, pos, negsuc, negℤ, _+ℤ_}
 use Rattle.whole.specs.Numbers.{fold}
-use Rattle.rules.specs.Rules.{Sound, silence, heard, heardAll, E, H, D, eighthSample, eighthDue, meetsEps, meetsFloor, offset, table, notePeriod, ofScale, nearer, wantedOf, wanted, scaleMode, noNote, wantedPeriod, rawRate, rawToward, goalOf, smoothTotal, smoothRate, smoothKept, between, inputAt, cycleRepeated, cycleDropped, cycles, growth, Take, freshTake, Given, noTone, listened, listenedIn, sampleAt, wholeOf, fractionOf, reading, eighthsAfter, stepped, gives, samplesOut}
+use Rattle.rules.specs.Rules.{Sound, silence, heard, heardAll, E, H, D, eighthSample, eighthDue, meetsEps, meetsFloor, offset, table, notePeriod, ofScale, nearer, wantedOf, wanted, scaleMode, noNote, wantedPeriod, rawRate, rawToward, goalOf, smoothTotal, smoothRate, smoothKept, curve, held, through, inputAt, cycleRepeated, cycleDropped, cycles, growth, Take, freshTake, Given, noTone, listened, listenedIn, sampleAt, wholeOf, fractionOf, reading, eighthsAfter, stepped, gives, samplesOut}
 
 -- the sound of some samples alone, the oldest first, as document 01 prints them
 abbrev soundOf : List ℤ → Sound
@@ -26,7 +26,7 @@ pub data Worked : Type 0 where
   smooths : (decay rate kept goal new left : ℕ) → Worked
   -- the raw rate of the period p while the key n is wanted
   wantsKey : (p n r : ℕ) → Worked
-  reads : (a b : ℤ) (f : ℕ) (out : ℤ) → Worked
+  reads : (p a b q : ℤ) (f : ℕ) (out : ℤ) → Worked
   -- after sample n, with the position grown to `grown` and a period, the position is `at`
   turns : (n p : ℕ) (grown at : ℤ) → Worked
 
@@ -41,7 +41,7 @@ Holds (wants scale p n) = wanted scale p ≡ some n
 Holds (raw p n r) = rawRate p (notePeriod n) ≡ r
 Holds (smooths decay rate kept goal new left) = (smoothRate decay rate kept goal ≡ new) × (smoothKept decay rate kept goal ≡ left)
 Holds (wantsKey p n r) = goalOf p n ≡ record { note = n; raw = r }
-Holds (reads a b f out) = between a b f ≡ out
+Holds (reads p a b q f out) = through p a b q (f / 16) ≡ out
 Holds (turns n p grown at) = growth n 0 p grown .position ≡ at
 
 unfoldable pub AllHold : List Worked → Type 0
@@ -90,8 +90,8 @@ numbers =
     ∷ smooths 255 65281 0 65536 65281 255
     ∷ smooths 255 65281 255 65536 65282 254
     -- 11
-    ∷ reads (pos 10) (pos 13) 32768 (pos 11)
-    ∷ reads (minus 10) (minus 13) 32768 (minus 12)
+    ∷ reads (pos 10) (pos 10) (pos 13) (pos 13) 32768 (pos 11)
+    ∷ reads (minus 10) (minus 10) (minus 13) (minus 13) 32768 (minus 12)
     -- 12: position 1000.5 samples, period 100; and position 1000
     ∷ turns 1000 (256 * 100) (samples 1000 +ℤ pos 32768) (samples 900 +ℤ pos 32768)
     ∷ turns 1000 (256 * 100) (samples 1000) (samples 1000)
@@ -107,12 +107,12 @@ numbers =
     ∷ []
 
 pub numbers-hold : AllHold numbers
-unfolding numbers AllHold Holds silence heard heardAll fold E H D eighthSample meetsEps meetsFloor offset notePeriod table wanted wantedOf ofScale nearer rawRate rawToward wantedPeriod goalOf smoothTotal smoothRate smoothKept between growth cycleRepeated cycleDropped cycles inputAt
+unfolding numbers AllHold Holds silence heard heardAll fold E H D eighthSample meetsEps meetsFloor offset notePeriod table wanted wantedOf ofScale nearer rawRate rawToward wantedPeriod goalOf smoothTotal smoothRate smoothKept curve held through growth cycleRepeated cycleDropped cycles inputAt
 numbers-hold =
     ((refl, refl, refl), ((refl, refl, refl), ((refl, refl, refl), (refl, (refl, (refl, (refl, (refl, (refl, (refl, (refl, (refl, (refl, (refl, (refl, (refl, ((refl, refl), ((refl, refl), ((refl, refl), (refl, (refl, (refl, (refl, (refl, (refl, (refl, (refl, (refl, (refl, (refl, (refl, tt)))))))))))))))))))))))))))))))
 
 -- the whole case of document 01: until a period is tracked, output is the input four samples late
 pub whole-case : samplesOut (gives (record { settings = record { scale = 4095; eps = 200; decay = 0; floor = 100; mode = scaleMode; channel = 0 }; key = noNote }) freshTake (pos 1000 ∷ minus 1000 ∷ pos 500 ∷ pos 8 ∷ pos 9 ∷ pos 10 ∷ []))
     ≡ pos 0 ∷ pos 0 ∷ pos 0 ∷ pos 0 ∷ pos 1000 ∷ minus 1000 ∷ []
-unfolding freshTake silence heard gives samplesOut stepped eighthDue eighthsAfter noTone listened listenedIn growth cycleRepeated cycleDropped cycles inputAt reading between sampleAt wholeOf fractionOf
+unfolding freshTake silence heard gives samplesOut stepped eighthDue eighthsAfter noTone listened listenedIn growth cycleRepeated cycleDropped cycles inputAt reading curve held through sampleAt wholeOf fractionOf
 whole-case = refl
