@@ -7,7 +7,7 @@ use Prim.Native.Nat.{ℕ, _≤_, _<_}
 use native.Mathlib.Omega.{arith}
 use lib.IntN.{ℤ, pos, negℤ, natAbs}
 use lib.ListN.{length, take, drop, replicate}
-use Rattle.rules.specs.Rules.{noNote, silence, heard, defaults, stepDue, listened, listenedIn, noTone, inputAt, cycleRepeated, cycleDropped, cycles, growth, sampleAt, between, wholeOf, fractionOf, reading, freshTake, eighthDue, eighthsAfter, stepped, after, gives, samplesOut, gathered}
+use Rattle.rules.specs.Rules.{noNote, silence, heard, defaults, stepDue, listened, listenedIn, noTone, inputAt, cycleRepeated, cycleDropped, cycles, growth, sampleAt, curve, held, through, wholeOf, fractionOf, reading, freshTake, eighthDue, eighthsAfter, stepped, after, gives, samplesOut, gathered}
 use Rattle.rules.specs.Ranges.{defaults-in-range}
 use Rattle.rules.specs.Sane.{tracking-is-not-searching}
 use Rattle.rules.specs.History.{Piece, overPieces, givesPieces}
@@ -161,7 +161,7 @@ piece xs = record { inForce = record { settings = defaults; key = noNote }; samp
 
 case-out : (samplesOut (givesPieces freshTake (piece firstBlock ∷ [])) ≡ pos 0 ∷ pos 0 ∷ pos 0 ∷ [])
     × (samplesOut (givesPieces freshTake (piece firstBlock ∷ piece secondBlock ∷ [])) ≡ pos 0 ∷ pos 0 ∷ pos 0 ∷ pos 0 ∷ pos 1000 ∷ negℤ (pos 1000) ∷ [])
-unfolding freshTake silence heard overPieces gives after samplesOut stepped eighthDue eighthsAfter noTone listened listenedIn growth cycleRepeated cycleDropped cycles inputAt reading between sampleAt wholeOf fractionOf
+unfolding freshTake silence heard overPieces gives after samplesOut stepped eighthDue eighthsAfter noTone listened listenedIn growth cycleRepeated cycleDropped cycles inputAt reading curve held through sampleAt wholeOf fractionOf
 case-out = (refl, refl)
 
 -- one cycle is repeated in the first block to `ahead`, and none in the first block to a fresh tuner
