@@ -1,6 +1,6 @@
 #include "plain.h"
 
-enum { LEAST_LAG = 16, MOST_LAG = 880, FIRST_NOTE = 32, LAST_NOTE = 100, LIMIT = 1000000000, LEVEL = 65536, FARTHEST = 65536000 };
+enum { LEAST_LAG = 16, MOST_LAG = 880, FIRST_NOTE = 32, LAST_NOTE = 100, LIMIT = 1000000000, LEVEL = 65536, FARTHEST = 65536000, READS = 4096 };
 
 /* The periods of the notes 32 to 100, in 1/256 sample. */
 static const uint32_t periods[69] = {217471, 205265, 193745, 182871, 172607, 162919, 153775, 145145, 136998, 129309, 122052, 115201, 108736,
@@ -189,9 +189,13 @@ static int16_t read(const plain_tuner *t)
 {
     int64_t behind = (int64_t)t->count * LEVEL - t->position;
     uint32_t whole = (uint32_t)((behind + LEVEL - 1) / LEVEL);
-    int64_t fraction = (int64_t)whole * LEVEL - behind;
+    int64_t u = ((int64_t)whole * LEVEL - behind) / 16;
     sound x = full(t);
-    return (int16_t)floor_div(ago(x, whole + 4) * (LEVEL - fraction) + ago(x, whole + 3) * fraction, LEVEL);
+    int64_t p = ago(x, whole + 5), a = ago(x, whole + 4), b = ago(x, whole + 3), q = ago(x, whole + 2);
+    int64_t slope = b - p, square = 2 * p - 5 * a + 4 * b - q, cube = 3 * a - p - 3 * b + q;
+    int64_t one = READS, curve = ((cube * u + square * one) * u + slope * one * one) * u + 2 * a * one * one * one;
+    int64_t value = floor_div(curve, 2 * one * one * one);
+    return (int16_t)(value < -32768 ? -32768 : value > 32767 ? 32767 : value);
 }
 
 static int16_t take(plain_tuner *t, int16_t sample)

@@ -4,7 +4,8 @@
 //! Whole numbers are i64. The greatest are 256 x a difference: an energy is at
 //! most 1760 x 2^30 < 2^41, a difference at most 880 x 2^32 < 2^42, so 2^50
 //! in the vertex and 2^52 in the test of eps. Positions stay below
-//! 10^9 x 2^16 < 2^46.
+//! 10^9 x 2^16 < 2^46. The four terms of a reading, with factors of at most
+//! 12 x 2^15, stay below 24 x 2^15 x 2^36 < 2^56.
 
 use crate::history::{History, SILENCE_BEFORE};
 use crate::settings::Settings;
@@ -22,6 +23,8 @@ const _: () = assert!(2 * HIGHEST_LAG <= SILENCE_BEFORE);
 /// Period units (1/256 sample) and position units (1/65536) in a sample.
 pub const PERIOD_UNIT: i64 = 256;
 pub const POSITION_UNIT: i64 = 65_536;
+/// Steps in a sample at which it is read.
+pub const READ_UNIT: i64 = 4_096;
 /// The rate of a fresh tuner, and while there is no period.
 pub const LEVEL_RATE: i64 = 65_536;
 
@@ -394,17 +397,40 @@ pub fn read_index(position: i64) -> i64 {
     position.div_euclid(POSITION_UNIT) - 5
 }
 
-/// The output read at this position.
-pub fn read(take: &History, position: i64) -> i16 {
-    let index = read_index(position);
-    let fraction = position.rem_euclid(POSITION_UNIT);
-    between(take.at(index), take.at(index + 1), fraction)
+/// How far the place read lies beyond that sample, in steps of 1/4096: the
+/// upper 12 bits of the fraction.
+pub fn read_steps(position: i64) -> i64 {
+    position.rem_euclid(POSITION_UNIT) / (POSITION_UNIT / READ_UNIT)
 }
 
-/// (a(65536 - f) + b f) / 65536, rounded down. It lies from a to b.
-pub fn between(a: i16, b: i16, fraction: i64) -> i16 {
-    let weighed = i64::from(a) * (POSITION_UNIT - fraction) + i64::from(b) * fraction;
-    weighed.div_euclid(POSITION_UNIT) as i16
+/// The value read at this position, not yet held.
+pub fn read(take: &History, position: i64) -> i64 {
+    let index = read_index(position);
+    let neighbours = [-1, 0, 1, 2].map(|place| take.at(index + place));
+    through(neighbours, read_steps(position))
+}
+
+/// Through the neighbours p, a, b and q: half of 2a + (b - p)v
+/// + (2p - 5a + 4b - q)v^2 + (3a - p - 3b + q)v^3 with v = u/4096, rounded
+/// down.
+pub fn through(neighbours: [i16; 4], u: i64) -> i64 {
+    let [p, a, b, q] = neighbours.map(i64::from);
+    let by_power = [
+        2 * a,
+        b - p,
+        2 * p - 5 * a + 4 * b - q,
+        3 * a - p - 3 * b + q,
+    ];
+    let over_4096_cubed: i64 = (0..)
+        .zip(by_power)
+        .map(|(power, factor)| factor * u.pow(power) * READ_UNIT.pow(3 - power))
+        .sum();
+    over_4096_cubed.div_euclid(2 * READ_UNIT.pow(3))
+}
+
+/// Held within -32768 to 32767.
+pub fn held(value: i64) -> i16 {
+    value.clamp(i16::MIN.into(), i16::MAX.into()) as i16
 }
 
 // Rounding

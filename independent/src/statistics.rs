@@ -121,8 +121,13 @@ counters! {
     positions_1000_behind,
     cycles_repeated,
     cycles_dropped,
-    /// Reads whose earlier neighbour stands before the take.
+    /// Reads whose second neighbour stands before the take.
     reads_before_take,
+    /// Reads beyond their second neighbour.
+    reads_between,
+    /// Values that are held, above 32767 and below -32768.
+    values_held_above,
+    values_held_below,
     /// Bytes of the keyboard, in both modes.
     bytes_of_real_time,
     /// Between the two data bytes of a message.
@@ -336,7 +341,13 @@ impl Statistics {
             Cycle::Dropped => self.cycles_dropped += 1,
         }
         self.reads_before_take += u64::from(read_index(position) < 0);
+        self.reads_between += u64::from(read_steps(position) > 0);
         self.largest_behind = self.largest_behind.max(behind);
+    }
+
+    pub fn value(&mut self, value: i64) {
+        self.values_held_above += u64::from(value > i64::from(held(value)));
+        self.values_held_below += u64::from(value < i64::from(held(value)));
     }
 }
 

@@ -304,7 +304,9 @@ impl Tuner {
         let (position, cycle) = turn(grown, input, period);
         self.position = position;
         seen.reading(cycle, position, input, period);
-        (read(&self.take, position), cycle)
+        let value = read(&self.take, position);
+        seen.value(value);
+        (held(value), cycle)
     }
 
     fn search(&mut self, seen: &mut Statistics) {

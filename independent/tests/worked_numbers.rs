@@ -1,4 +1,5 @@
-//! Document 01's twelve worked numbers, and what it says of D.
+//! Document 01's twelve worked numbers, number 11 as document 02's K12 has
+//! it, and what it says of D.
 
 use independent::history::History;
 use independent::rules::*;
@@ -90,8 +91,9 @@ fn number_10() {
 
 #[test]
 fn number_11() {
-    assert_eq!(between(10, 13, 32_768), 11);
-    assert_eq!(between(-10, -13, 32_768), -12);
+    assert_eq!(through([10, 10, 13, 13], 2_048), 11);
+    assert_eq!(through([-10, -10, -13, -13], 2_048), -12);
+    assert_eq!(read_steps(3 * POSITION_UNIT + 32_768), 2_048);
 }
 
 #[test]
