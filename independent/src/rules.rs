@@ -410,9 +410,8 @@ pub fn read(take: &History, position: i64) -> i64 {
     through(neighbours, read_steps(position))
 }
 
-/// Through the neighbours p, a, b and q: half of 2a + (b - p)v
-/// + (2p - 5a + 4b - q)v^2 + (3a - p - 3b + q)v^3 with v = u/4096, rounded
-/// down.
+/// Half of 2a + (b - p)v + (2p - 5a + 4b - q)v^2 + (3a - p - 3b + q)v^3, where
+/// p, a, b, q are the neighbours and v = u/4096, rounded down.
 pub fn through(neighbours: [i16; 4], u: i64) -> i64 {
     let [p, a, b, q] = neighbours.map(i64::from);
     let by_power = [

@@ -1,1 +1,2 @@
+pub mod Bends
 pub mod Grown

@@ -6,6 +6,7 @@ ghost use lib.ListN.{length};
 ghost use Rattle.rules.specs.Rules as rules;
 ghost use Rattle.rules.specs.Position.{Paced};
 ghost use Rattle.ages.specs.Ages.{ago};
+ghost use Rattle.reading.specs.Bends.{bend};
 ghost use Rattle.reading.specs.Grown.{Grown};
 
 pub struct Growth {
@@ -42,10 +43,10 @@ pub fn grow(behind: u32, rate: u32, period: u32) -> Growth
     }
 }
 
-// Twice the value through neighbours p, a, b and q with u of 4096, in 1/4096^3: three products, from the cube down.
-fn curve(p: i16, a: i16, b: i16, q: i16, u: u32) -> i64
+// What square and cube add to the slope of the curve.
+fn bend(p: i16, a: i16, b: i16, q: i16, u: u32) -> i64
     requires { ⌜ u ≤ 4096 ⌝ }
-    ensures { λ r. ⌜ r ≡ rules.curve p a b q u ⌝ }
+    ensures { λ r. ⌜ r ≡ bend p a b q u ⌝ }
 {
     let left = p as i64;
     let here = a as i64;
@@ -55,7 +56,20 @@ fn curve(p: i16, a: i16, b: i16, q: i16, u: u32) -> i64
     let rise = next - here;
     let cube = right - left - 3 * rise;
     let square = left - here + rise - cube;
-    ((cube * v + 4096 * square) * v + 16777216 * (next - left)) * v + 137438953472 * here
+    (cube * v + 4096 * square) * v
+}
+
+// Twice the value through neighbours p, a, b and q with u of 4096, in 1/4096^3.
+fn curve(p: i16, a: i16, b: i16, q: i16, u: u32) -> i64
+    requires { ⌜ u ≤ 4096 ⌝ }
+    ensures { λ r. ⌜ r ≡ rules.curve p a b q u ⌝ }
+{
+    let bent = bend(p, a, b, q, u);
+    let left = p as i64;
+    let here = a as i64;
+    let next = b as i64;
+    let v = u as i64;
+    (bent + 16777216 * (next - left)) * v + 137438953472 * here
 }
 
 // Held within 16 bits.

@@ -16,8 +16,19 @@ use Rattle.whole.specs.Bounds.{Within, w-add, w-sub, w-mul, minus-down, pos-min
 use Rattle.whole.specs.Words.{fit, held as size}
 use Rattle.whole.specs.Floor.{floor-is, floor-one}
 use Rattle.whole.specs.Numbers.{floorDiv}
-use Rattle.whole.specs.Ring.{var, con, _⊕_, _⊖_, _⊗_, solve}
+use Rattle.whole.specs.Ring.{Expr, var, con, _⊕_, _⊖_, _⊗_, solve}
 use Rattle.rules.specs.Rules.{curve, held, through}
+
+-- ---- the curve as an expression, with the factors of its square and its cube
+abbrev pub squareX : Expr → Expr → Expr → Expr → Expr
+squareX p a b q = con (pos 2) ⊗ p ⊖ con (pos 5) ⊗ a ⊕ con (pos 4) ⊗ b ⊖ q
+
+abbrev pub cubeX : Expr → Expr → Expr → Expr → Expr
+cubeX p a b q = con (pos 3) ⊗ a ⊖ p ⊖ con (pos 3) ⊗ b ⊕ q
+
+abbrev pub curveX : Expr → Expr → Expr → Expr → Expr → Expr
+curveX p a b q u =
+    con (pos 2) ⊗ a ⊗ con (pos (4096 ^ 3)) ⊕ (b ⊖ p) ⊗ u ⊗ con (pos (4096 ^ 2)) ⊕ squareX p a b q ⊗ u ⊗ u ⊗ con (pos 4096) ⊕ cubeX p a b q ⊗ u ⊗ u ⊗ u
 
 -- ---- what is held
 
@@ -51,11 +62,7 @@ pub through-none : (p a b q : ℤ) → SFits w16 a → through p a b q 0 ≡ a
 unfolding curve
 through-none p a b q f =
     through-is p a b q 0 a 0
-    (solve (p ∷ a ∷ b ∷ q ∷ [])
-    (con (pos 2) ⊗ var 1 ⊗ con (pos (4096 ^ 3)) ⊕ (var 2 ⊖ var 0) ⊗ con (pos 0) ⊗ con (pos (4096 ^ 2))
-    ⊕ (con (pos 2) ⊗ var 0 ⊖ con (pos 5) ⊗ var 1 ⊕ con (pos 4) ⊗ var 2 ⊖ var 3) ⊗ con (pos 0) ⊗ con (pos 0) ⊗ con (pos 4096)
-    ⊕ (con (pos 3) ⊗ var 1 ⊖ var 0 ⊖ con (pos 3) ⊗ var 2 ⊕ var 3) ⊗ con (pos 0) ⊗ con (pos 0) ⊗ con (pos 0))
-    (var 1 ⊗ con (pos (2 * 4096 ^ 3)) ⊕ con (pos 0)) refl)
+    (solve (p ∷ a ∷ b ∷ q ∷ []) (curveX (var 0) (var 1) (var 2) (var 3) (con (pos 0))) (var 1 ⊗ con (pos (2 * 4096 ^ 3)) ⊕ con (pos 0)) refl)
     (lit< tt)
     f
 
@@ -100,9 +107,7 @@ module _ (a d : ℤ) (u : ℕ) where
   unfolding curve
   curve-line =
       solve (a ∷ d ∷ pos u ∷ [])
-      (con (pos 2) ⊗ var 0 ⊗ con (pos (4096 ^ 3)) ⊕ (var 0 ⊕ var 1 ⊖ (var 0 ⊖ var 1)) ⊗ var 2 ⊗ con (pos (4096 ^ 2))
-      ⊕ (con (pos 2) ⊗ (var 0 ⊖ var 1) ⊖ con (pos 5) ⊗ var 0 ⊕ con (pos 4) ⊗ (var 0 ⊕ var 1) ⊖ (var 0 ⊕ var 1 ⊕ var 1)) ⊗ var 2 ⊗ var 2 ⊗ con (pos 4096)
-      ⊕ (con (pos 3) ⊗ var 0 ⊖ (var 0 ⊖ var 1) ⊖ con (pos 3) ⊗ (var 0 ⊕ var 1) ⊕ (var 0 ⊕ var 1 ⊕ var 1)) ⊗ var 2 ⊗ var 2 ⊗ var 2)
+      (curveX (var 0 ⊖ var 1) (var 0) (var 0 ⊕ var 1) (var 0 ⊕ var 1 ⊕ var 1) (var 2))
       ((var 0 ⊗ con (pos 4096) ⊕ var 1 ⊗ var 2) ⊗ con (pos (2 * 4096 ^ 2))) refl
 
   line-fits : u ≤ 4096 → SFits w16 a → SFits w16 (a +ℤ d) → SFits w16 (floorDiv (a *ℤ pos 4096 +ℤ d *ℤ pos u) 4096)
@@ -125,7 +130,7 @@ module _ (a d : ℤ) (u : ℕ) where
 
 -- ---- its whole number is small: less than 2^63 to either side
 
-natural : (n : ℕ) → Within n (pos n)
+pub natural : (n : ℕ) → Within n (pos n)
 natural n = record { within = le-refl n }
 
 pub curve-fits : {p a b q : ℤ} (u : ℕ) → u ≤ 4096 → SFits w16 p → SFits w16 a → SFits w16 b → SFits w16 q → SFits w64 (curve p a b q u)

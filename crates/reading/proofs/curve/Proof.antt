@@ -1,215 +1,110 @@
--- `reading::curve` meets its contract: from the cube down it is the rule's sum, and each step's size is below 2^63.
+-- `reading::curve` meets its contract: slope and bend, taken u times, are the rule's curve beside the sample (`curve-is`), and each step's size is below 2^63.
 -- Assumes nothing.
-use mathlib.Core.Path.{refl, _∙_}
-use mathlib.Core.List.{[], _∷_}
-use Prim.Native.Nat.{ℕ, _+_, _^_}
-use native.Mathlib.Nat.{le-trans}
-use lib.Dec.{T, leb, leb→le}
-use borrow.Author.Needs.{needs}
-use lib.IntN.{ℤ, pos, _+ℤ_, _-ℤ_, _*ℤ_}
+use mathlib.Core.Path.{sym, _∙_, subst}
+use Prim.Native.Nat.{ℕ, _+_, _^_, _≤_}
+use borrow.Author.Needs.{needs, sfits-of}
+use lib.IntN.{ℤ, pos, natAbs, _+ℤ_, _-ℤ_, _*ℤ_}
 use mir.Syntax.{w16, w64}
 use mir.Val.{SFits, toZ, ofZ}
-use Rattle.whole.specs.Words.{Bits, arg, num, lit, cast, cast-ok, add, add-ok, sub, sub-ok, mul, mul-ok}
-use Rattle.whole.specs.Ring.{Expr, var, con, _⊕_, _⊖_, _⊗_, solve}
-use Rattle.rules.specs.Rules.{curve}
+use mir.Facts.{toZ-ofZ}
+use Rattle.whole.specs.Words.{Bits, arg, arg≤, num, lit, is, cast, cast-ok, add, add-ok, sub, sub-ok, mul, mul-ok}
+use Rattle.reading.specs.Bends.{bend, bend-within, curve-is}
 use Rattle.reading.proofs.curve.Statement.{statement}
 use Rattle.reading.proofs.curve.Tie as tie
 
--- a sample in 64 bits, and what a step makes of two numbers
 abbrev word : ℤ → ℕ
 word z = ofZ w64 (toZ w16 (ofZ w16 z))
-
-abbrev plus : ℕ → ℕ → ℕ
-plus m n = ofZ w64 (toZ w64 m +ℤ toZ w64 n)
-
-abbrev minus : ℕ → ℕ → ℕ
-minus m n = ofZ w64 (toZ w64 m -ℤ toZ w64 n)
-
-abbrev times : ℕ → ℕ → ℕ
-times m n = ofZ w64 (toZ w64 m *ℤ toZ w64 n)
-
--- a bound that is rounder
-wide : {m n b : ℕ} {z : ℤ} → Bits w64 m b z → T (leb m n) → Bits w64 n b z
-wide {m} {n} k t = record { reads = k .reads; size = record { within = le-trans (k .size .within) (leb→le m n t) } }
 
 long : {z : ℤ} → SFits w16 z → Bits w64 (2 ^ 15) (word z) z
 long f = cast (arg f) tt
 
 -- the steps as the code makes them, each with the number that it holds
-module _ (c : tie.Start) where
+module _ (c : tie.After-bend) where
   abbrev p : ℤ
-  p = c .args .p
+  p = c .before .args .p
 
   abbrev a : ℤ
-  a = c .args .a
+  a = c .before .args .a
 
   abbrev b : ℤ
-  b = c .args .b
+  b = c .before .args .b
 
   abbrev q : ℤ
-  q = c .args .q
+  q = c .before .args .q
 
   abbrev u : ℕ
-  u = c .args .u
+  u = c .before .args .u
 
   share : Bits w64 4096 u (pos u)
-  share = num {z = pos u} (c .pre) tt
+  share = num {z = pos u} (c .before .pre) tt
 
-  abbrev riseBits : ℕ
-  riseBits = minus (word b) (word a)
+  bent : Bits w64 (2 ^ 44) (ofZ w64 (c .bend .result)) (bend p a b q u)
+  bent =
+      let f = c .before .fits in
+      let e = c .bend .ensures ∙ (λ i. bend (toZ-ofZ (f .p) i) (toZ-ofZ (f .a) i) (toZ-ofZ (f .b) i) (toZ-ofZ (f .q) i) u) in
+      is e (arg≤ (subst (λ (z : ℤ). natAbs z ≤ 2 ^ 44) (sym e) (bend-within u (c .before .pre) (f .p) (f .a) (f .b) (f .q))) (sfits-of (c .bend .ok)))
 
-  rise : Bits w64 (2 ^ 16) riseBits (b -ℤ a)
-  rise = sub (long (c .fits .b)) (long (c .fits .a)) tt
+  abbrev slopeBits : ℕ
+  slopeBits = ofZ w64 (toZ w64 16777216 *ℤ toZ w64 (ofZ w64 (toZ w64 (word b) -ℤ toZ w64 (word p))))
 
-  abbrev cubeBits : ℕ
-  cubeBits = minus (minus (word q) (word p)) (times 3 riseBits)
+  slope : Bits w64 (2 ^ 40) slopeBits (pos 16777216 *ℤ (b -ℤ p))
+  slope = mul (lit w64 16777216) (sub (long (c .before .fits .b)) (long (c .before .fits .p)) tt) tt
 
-  abbrev cubeOf : ℤ
-  cubeOf = q -ℤ p -ℤ pos 3 *ℤ (b -ℤ a)
+  turn : Bits w64 (2 ^ 44 + 2 ^ 40) (ofZ w64 (toZ w64 (ofZ w64 (c .bend .result)) +ℤ toZ w64 slopeBits)) (bend p a b q u +ℤ pos 16777216 *ℤ (b -ℤ p))
+  turn = add bent slope tt
 
-  spread : Bits w64 (2 ^ 16) (minus (word q) (word p)) (q -ℤ p)
-  spread = sub (long (c .fits .q)) (long (c .fits .p)) tt
+  start : Bits w64 (2 ^ 52) (ofZ w64 (toZ w64 137438953472 *ℤ toZ w64 (word a))) (pos 137438953472 *ℤ a)
+  start = mul (lit w64 137438953472) (long (c .before .fits .a)) tt
 
-  cube : Bits w64 (2 ^ 18) cubeBits cubeOf
-  cube = sub spread (mul (lit w64 3) rise tt) tt
-
-  abbrev squareBits : ℕ
-  squareBits = minus (plus (minus (word p) (word a)) riseBits) cubeBits
-
-  abbrev squareOf : ℤ
-  squareOf = p -ℤ a +ℤ (b -ℤ a) -ℤ cubeOf
-
-  fall : Bits w64 (2 ^ 16) (minus (word p) (word a)) (p -ℤ a)
-  fall = sub (long (c .fits .p)) (long (c .fits .a)) tt
-
-  square : Bits w64 (2 ^ 17 + 2 ^ 18) squareBits squareOf
-  square = sub (add fall rise tt) cube tt
-
-  abbrev bendBits : ℕ
-  bendBits = plus (times cubeBits u) (times 4096 squareBits)
-
-  abbrev bendOf : ℤ
-  bendOf = cubeOf *ℤ pos u +ℤ pos 4096 *ℤ squareOf
-
-  bend : Bits w64 (2 ^ 32) bendBits bendOf
-  bend = wide (add (mul cube share tt) (mul (lit w64 4096) square tt) tt) tt
-
-  slope : Bits w64 (2 ^ 40) (times 16777216 (minus (word b) (word p))) (pos 16777216 *ℤ (b -ℤ p))
-  slope = mul (lit w64 16777216) (sub (long (c .fits .b)) (long (c .fits .p)) tt) tt
-
-  abbrev turnBits : ℕ
-  turnBits = plus (times bendBits u) (times 16777216 (minus (word b) (word p)))
-
-  turn : Bits w64 (2 ^ 45) turnBits (bendOf *ℤ pos u +ℤ pos 16777216 *ℤ (b -ℤ p))
-  turn = wide (add (mul bend share tt) slope tt) tt
+bend-requires : tie.Need-bend-requires
+bend-requires c κs = search needs
 
 cast-left : tie.Need-cast-left
-cast-left c = cast-ok (arg (c .fits .p)) tt
+cast-left c = cast-ok (arg (c .before .fits .p)) tt
 
 cast-here : tie.Need-cast-here
-cast-here c = cast-ok (arg (c .fits .a)) tt
+cast-here c = cast-ok (arg (c .before .fits .a)) tt
 
 cast-next : tie.Need-cast-next
-cast-next c = cast-ok (arg (c .fits .b)) tt
-
-cast-right : tie.Need-cast-right
-cast-right c = cast-ok (arg (c .fits .q)) tt
+cast-next c = cast-ok (arg (c .before .fits .b)) tt
 
 cast-v : tie.Need-cast-v
 cast-v c = search needs
 
-sub-rise : tie.Need-sub-rise
-sub-rise c = sub-ok (long (c .fits .b)) (long (c .fits .a)) tt
-
-sub-cube : tie.Need-sub-cube
-sub-cube c = sub-ok (long (c .fits .q)) (long (c .fits .p)) tt
-
-mul-cube : tie.Need-mul-cube
-mul-cube c = mul-ok (lit w64 3) (rise c) tt
-
-sub-cube-2 : tie.Need-sub-cube-2
-sub-cube-2 c = sub-ok (spread c) (mul (lit w64 3) (rise c) tt) tt
-
-sub-square : tie.Need-sub-square
-sub-square c = sub-ok (long (c .fits .p)) (long (c .fits .a)) tt
-
-add-square : tie.Need-add-square
-add-square c = add-ok (fall c) (rise c) tt
-
-sub-square-2 : tie.Need-sub-square-2
-sub-square-2 c = sub-ok (add (fall c) (rise c) tt) (cube c) tt
+sub-result : tie.Need-sub-result
+sub-result c = sub-ok (long (c .before .fits .b)) (long (c .before .fits .p)) tt
 
 mul-result : tie.Need-mul-result
-mul-result c = mul-ok (cube c) (share c) tt
-
-mul-result-2 : tie.Need-mul-result-2
-mul-result-2 c = mul-ok (lit w64 4096) (square c) tt
+mul-result c = mul-ok (lit w64 16777216) (sub (long (c .before .fits .b)) (long (c .before .fits .p)) tt) tt
 
 add-result : tie.Need-add-result
-add-result c = add-ok (mul (cube c) (share c) tt) (mul (lit w64 4096) (square c) tt) tt
+add-result c = add-ok (bent c) (slope c) tt
+
+mul-result-2 : tie.Need-mul-result-2
+mul-result-2 c = mul-ok (turn c) (share c) tt
 
 mul-result-3 : tie.Need-mul-result-3
-mul-result-3 c = mul-ok (bend c) (share c) tt
-
-sub-result : tie.Need-sub-result
-sub-result c = sub-ok (long (c .fits .b)) (long (c .fits .p)) tt
-
-mul-result-4 : tie.Need-mul-result-4
-mul-result-4 c = mul-ok (lit w64 16777216) (sub (long (c .fits .b)) (long (c .fits .p)) tt) tt
+mul-result-3 c = mul-ok (lit w64 137438953472) (long (c .before .fits .a)) tt
 
 add-result-2 : tie.Need-add-result-2
-add-result-2 c = add-ok (mul (bend c) (share c) tt) (slope c) tt
-
-mul-result-5 : tie.Need-mul-result-5
-mul-result-5 c = mul-ok (turn c) (share c) tt
-
-mul-result-6 : tie.Need-mul-result-6
-mul-result-6 c = mul-ok (lit w64 137438953472) (long (c .fits .a)) tt
-
-add-result-3 : tie.Need-add-result-3
-add-result-3 c = add-ok (mul (turn c) (share c) tt) (mul (lit w64 137438953472) (long (c .fits .a)) tt) tt
-
--- the same as expressions of p, a, b, q and u
-abbrev cubeX : Expr
-cubeX = var 3 ⊖ var 0 ⊖ con (pos 3) ⊗ (var 2 ⊖ var 1)
-
-abbrev bendX : Expr
-bendX = cubeX ⊗ var 4 ⊕ con (pos 4096) ⊗ (var 0 ⊖ var 1 ⊕ (var 2 ⊖ var 1) ⊖ cubeX)
+add-result-2 c = add-ok (mul (turn c) (share c) tt) (start c) tt
 
 returns : tie.Need-returns
-unfolding curve
-returns c =
-    add (mul (turn c) (share c) tt) (mul (lit w64 137438953472) (long (c .fits .a)) tt) tt .reads
-    ∙ solve (p c ∷ a c ∷ b c ∷ q c ∷ pos (u c) ∷ [])
-    (((bendX ⊗ var 4 ⊕ con (pos 16777216) ⊗ (var 2 ⊖ var 0)) ⊗ var 4) ⊕ con (pos 137438953472) ⊗ var 1)
-    (con (pos 2) ⊗ var 1 ⊗ con (pos (4096 ^ 3)) ⊕ (var 2 ⊖ var 0) ⊗ var 4 ⊗ con (pos (4096 ^ 2))
-    ⊕ (con (pos 2) ⊗ var 0 ⊖ con (pos 5) ⊗ var 1 ⊕ con (pos 4) ⊗ var 2 ⊖ var 3) ⊗ var 4 ⊗ var 4 ⊗ con (pos 4096)
-    ⊕ (con (pos 3) ⊗ var 1 ⊖ var 0 ⊖ con (pos 3) ⊗ var 2 ⊕ var 3) ⊗ var 4 ⊗ var 4 ⊗ var 4) refl
+returns c = add (mul (turn c) (share c) tt) (start c) tt .reads ∙ curve-is (p c) (a c) (b c) (q c) (u c)
 
 pub curve-spec : {M : Type 1} → statement M
 curve-spec =
     tie.close
     (tie.spec
+    bend-requires
     cast-left
     cast-here
     cast-next
-    cast-right
     cast-v
-    sub-rise
-    sub-cube
-    mul-cube
-    sub-cube-2
-    sub-square
-    add-square
-    sub-square-2
-    mul-result
-    mul-result-2
-    add-result
-    mul-result-3
     sub-result
-    mul-result-4
+    mul-result
+    add-result
+    mul-result-2
+    mul-result-3
     add-result-2
-    mul-result-5
-    mul-result-6
-    add-result-3
     returns)

@@ -1,6 +1,6 @@
 -- `reading::held` meets its contract: its two tests are the rule's, and what passes both is a sample.
 -- Assumes nothing.
-use mathlib.Core.Path.{_≡_, sym, ap, _∙_, subst}
+use mathlib.Core.Path.{_≡_, sym, _∙_, subst}
 use mathlib.Core.Bool.{true, false}
 use lib.IntN.{ℤ, pos, negℤ}
 use lib.Signed.{ltZ}
