@@ -2,7 +2,7 @@
 
 use std::process::{Command, Output, Stdio};
 
-const COMMANDS: [(&str, &str); 7] = [
+const COMMANDS: [(&str, &str); 8] = [
     ("compare", env!("CARGO_BIN_EXE_compare")),
     ("generate", env!("CARGO_BIN_EXE_generate")),
     ("lines", env!("CARGO_BIN_EXE_lines")),
@@ -10,6 +10,7 @@ const COMMANDS: [(&str, &str); 7] = [
     ("play", env!("CARGO_BIN_EXE_play")),
     ("raw", env!("CARGO_BIN_EXE_raw")),
     ("records", env!("CARGO_BIN_EXE_records")),
+    ("smoothness", env!("CARGO_BIN_EXE_smoothness")),
 ];
 
 fn run(program: &str, words: &[&str]) -> Output {
