@@ -25,7 +25,7 @@
 extern "C" {
 #endif
 
-#define DAXFOLIN_VERSION 6u                /* of these calls: what daxfolin_version() answers */
+#define DAXFOLIN_VERSION 7u                /* of these calls: what daxfolin_version() answers */
 #define DAXFOLIN_LAYOUT 20005u             /* of the record: what stands first in it */
 #define DAXFOLIN_LONGEST_BLOCK 512u        /* samples of a block */
 #define DAXFOLIN_LONGEST_TAKE 1000000000u  /* samples of a take */

@@ -21,7 +21,7 @@
 use std::fmt;
 
 /// The version of the calls.
-pub const VERSION: u32 = 6;
+pub const VERSION: u32 = 7;
 /// The number of the record's layout, which stands first in it.
 pub const LAYOUT: u64 = 20_005;
 /// The most samples of a block.
