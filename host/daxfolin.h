@@ -118,8 +118,8 @@ typedef struct daxfolin_last {
 } daxfolin_last;
 
 /* A tuner, as numbers alone: any bytes are a record, and one that is not good is answered 9. It may be copied, stored and sent as
- * bytes (little-endian, no padding); one that was stored by another version of these calls has another number first, and is answered
- * 9. A host has no need to look into it. */
+ * bytes (little-endian, no padding); one that was stored by a version of these calls with another layout has another number first,
+ * and is answered 9. A host has no need to look into it. */
 typedef struct daxfolin_record {
     uint64_t layout; /* DAXFOLIN_LAYOUT */
     daxfolin_settings settings;

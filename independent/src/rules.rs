@@ -403,7 +403,7 @@ pub fn read_steps(position: i64) -> i64 {
     position.rem_euclid(POSITION_UNIT) / (POSITION_UNIT / READ_UNIT)
 }
 
-/// The value read at this position, not yet held.
+/// The value read at this position, before it is held within 16 bits.
 pub fn read(take: &History, position: i64) -> i64 {
     let index = read_index(position);
     let neighbours = [-1, 0, 1, 2].map(|place| take.at(index + place));

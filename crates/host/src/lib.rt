@@ -16,7 +16,7 @@ ghost use Rattle.host.specs.Hosts.{layoutNumber, recordOf, bare, shownAs
 // 4095, and so is never taken for one of this layout.
 const LAYOUT: u64 = 20005;
 
-// A tuner with the number of its layout before it: a record that another version left is answered 9, and never misread.
+// A tuner with the number of its layout before it: a record of another layout is answered 9, and never misread.
 // 6968 bytes, none of them padding.
 #[repr(C)]
 pub struct Record {

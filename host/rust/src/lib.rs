@@ -127,8 +127,8 @@ pub enum Meter {
     Refused,
 }
 
-/// A tuner, as numbers alone: any bytes are a record, and one that is not good is answered 9. So is one that another version of the
-/// calls left: it has another layout.
+/// A tuner, as numbers alone: any bytes are a record, and one that is not good is answered 9. So is one that a version of the calls
+/// with another layout left.
 #[repr(C)]
 #[derive(Clone, PartialEq, Eq)]
 pub struct Record {
@@ -275,8 +275,8 @@ impl Record {
         }
     }
 
-    /// The number of the record's layout: where it is not [`LAYOUT`], another version left the record (or it is damaged), and every
-    /// call but a start answers 9.
+    /// The number of the record's layout: where it is not [`LAYOUT`], a version with another layout left the record (or it is
+    /// damaged), and every call but a start answers 9.
     pub fn layout(&self) -> u64 {
         self.words[0]
     }
