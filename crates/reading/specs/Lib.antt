@@ -1,2 +1,2 @@
 pub mod Bends
-pub mod Grown
+pub mod Gliding

@@ -1,45 +1,48 @@
-// The read position's growth, and the sample read.
+// The read position's growth, and the samples read: a block's, one after the other.
+use rules::LONGEST_BLOCK;
 ghost use mathlib.Core.Path.{_≡_};
-ghost use Prim.Native.Nat.{ℕ, _≤_};
+ghost use Prim.Native.Nat.{ℕ, _+_, _≤_, _<_};
 ghost use lib.IntN.{pos, _-ℤ_};
-ghost use lib.ListN.{length};
+ghost use lib.ListN.{length, set};
 ghost use Rattle.rules.specs.Rules as rules;
+ghost use Rattle.rules.specs.Rules.{longestBlock};
 ghost use Rattle.rules.specs.Position.{Paced};
 ghost use Rattle.ages.specs.Ages.{ago};
 ghost use Rattle.reading.specs.Bends.{bend};
-ghost use Rattle.reading.specs.Grown.{Grown};
+ghost use Rattle.reading.specs.Gliding.{Grown, amongFour, PacedAll, Glided};
 
+// The read head within a block: how far it lies behind the input, and the cycles repeated and dropped so far.
 pub struct Growth {
     pub behind: u32,
     pub repeated: u32,
     pub dropped: u32,
 }
 
-// How far the position lies behind the input after one sample more; a cycle is repeated or dropped.
-pub fn grow(behind: u32, rate: u32, period: u32) -> Growth
-    requires { ⌜ (behind ≤ rules.farthest) × Paced rate period ⌝ }
-    ensures { λ r. ⌜ Grown behind rate period r ⌝ }
+// The head after one sample more; a cycle is repeated or dropped.
+fn grow(g: Growth, rate: u32, period: u32) -> Growth
+    requires { ⌜ (g .behind ≤ rules.farthest) × (g .repeated < longestBlock) × (g .dropped < longestBlock) × Paced rate period ⌝ }
+    ensures { λ r. ⌜ Grown g rate period r ⌝ }
 {
-    let b = behind + 65536;
+    let b = g.behind + 65536;
     if b < rate {
         return Growth {
             behind: b + 256 * period - rate,
-            repeated: 1,
-            dropped: 0,
+            repeated: g.repeated + 1,
+            dropped: g.dropped,
         };
     }
     let k = b - rate;
     if rules::FARTHEST < k {
         return Growth {
             behind: k - 256 * period,
-            repeated: 0,
-            dropped: 1,
+            repeated: g.repeated,
+            dropped: g.dropped + 1,
         };
     }
     Growth {
         behind: k,
-        repeated: 0,
-        dropped: 0,
+        repeated: g.repeated,
+        dropped: g.dropped,
     }
 }
 
@@ -93,20 +96,73 @@ fn through(p: i16, a: i16, b: i16, q: i16, u: u32) -> i16
     held(curve(p, a, b, q, u) >> 37)
 }
 
+// Through the four samples from a place on, with u of 4096; with 0 it is a copy of the second.
+fn among(s: &[i16], at: usize, u: u32) -> i16
+    requires { ⌜ (at + 4 ≤ length (now s)) × (u ≤ 4096) ⌝ }
+    ensures { λ r. ⌜ r ≡ amongFour (now (s .entry)) at u ⌝ }
+{
+    let a = s[at + 1];
+    if u == 0 {
+        return a;
+    }
+    let p = s[at];
+    let b = s[at + 2];
+    let q = s[at + 3];
+    through(p, a, b, q, u)
+}
+
 // The output, read 5 samples before a position that lies so far behind the newest of the first m samples.
-pub fn read(s: &[i16], m: usize, behind: u32) -> i16
+fn read(s: &[i16], m: usize, behind: u32) -> i16
     requires { ⌜ (m ≤ length (now s)) × (1006 ≤ m) × (behind ≤ rules.farthest) ⌝ }
     ensures { λ r. ⌜ ((n : ℕ) → r ≡ rules.reading (ago (now (s .entry)) m) n (rules.inputAt n -ℤ pos behind)) ⌝ }
 {
     let whole = (behind + 65535) / 65536;
     let u = (whole * 65536 - behind) / 16;
-    let k = whole as usize + 5;
-    let a = ages::back(s, m, k - 1);
-    if u == 0 {
-        return a;
+    let at = m - 6 - whole as usize;
+    among(s, at, u)
+}
+
+// One sample, the newest of the first m, at this rate with this period: the output goes to place i.
+fn turn(
+    g: Growth,
+    rate: u32,
+    period: u32,
+    s: &[i16],
+    m: usize,
+    out: &mut [i16; LONGEST_BLOCK],
+    i: usize,
+) -> Growth
+    requires { ⌜ (g .behind ≤ rules.farthest) × (g .repeated < longestBlock) × (g .dropped < longestBlock) × Paced rate period × (m ≤ length (now s)) × (1006 ≤ m) × (i < longestBlock) ⌝ }
+    ensures { λ r. ⌜ Grown g rate period r × ((n : ℕ) → now (out .exit) ≡ set (now (out .entry)) i (rules.reading (ago (now (s .entry)) m) n (rules.inputAt n -ℤ pos (r .behind)))) ⌝ }
+{
+    let r = grow(g, rate, period);
+    let o = read(s, m, r.behind);
+    out[i] = o;
+    r
+}
+
+// The samples of the store after the first m, b of them, read at these rates: the outputs, and where it leaves a head that lay so far behind.
+pub fn glide(
+    behind: u32,
+    rates: &[u32; LONGEST_BLOCK],
+    periods: &[u32; LONGEST_BLOCK],
+    s: &[i16],
+    m: usize,
+    b: usize,
+    out: &mut [i16; LONGEST_BLOCK],
+) -> Growth
+    requires { ⌜ (behind ≤ rules.farthest) × PacedAll b (now rates) (now periods) × (m + b ≤ length (now s)) × (1005 ≤ m) × (b ≤ longestBlock) × (length (now out) ≡ longestBlock) ⌝ }
+    ensures { λ r. ⌜ Glided behind (now (rates .entry)) (now (periods .entry)) (now (s .entry)) m b (now (out .entry)) (now (out .exit)) r ⌝ }
+{
+    let mut g = Growth {
+        behind: behind,
+        repeated: 0,
+        dropped: 0,
+    };
+    let mut i: usize = 0;
+    while i < b {
+        g = turn(g, rates[i], periods[i], s, m + i + 1, out, i);
+        i += 1;
     }
-    let p = ages::back(s, m, k);
-    let b = ages::back(s, m, k - 2);
-    let q = ages::back(s, m, k - 3);
-    through(p, a, b, q, u)
+    g
 }

@@ -5,45 +5,39 @@ use Prim.Native.Nat.{ℕ, zero, suc, _+_, _-_, _/_, _%_, _≤_, _<_}
 use native.Mathlib.Omega.{arith}
 use native.Mathlib.Numerals.{add-one}
 use lib.IntN.{ℤ, pos, _-ℤ_}
-use lib.ListN.{length, getD, take, drop, set, replicate, length-replicate}
+use lib.ListN.{length, drop, set}
 use Rattle.rules.specs.declared.InForce.{InForce}
 use Rattle.rules.specs.declared.Tone.{Tone}
-use Rattle.rules.specs.Rules.{Sound, Take, Given, Step, Pitch, Growth, inputAt, heard, eighthsAfter, listened, growth, reading, after, gives, stepped, samplesOut, allRepeated, allDropped, takeLimit, longestBlock, keptEighths}
+use Rattle.rules.specs.Rules.{Sound, Take, Given, Step, Pitch, farthest, inputAt, heard, eighthsAfter, listened, growth, reading, after, gives, stepped, samplesOut, allRepeated, allDropped, takeLimit, longestBlock, keptEighths}
 use Rattle.ages.specs.Ages.{ago, ago-next, ago-fits}
 use Rattle.rules.specs.Facts.{valueAt}
+use Rattle.rules.specs.Position.{Paced, tone-paced}
 use Rattle.pitch.specs.Pitches.{pitchOf, PitchRight}
 use Rattle.passing.specs.Distances.{Long}
-use Rattle.reading.specs.Grown.{Grown}
-use Rattle.reading.specs.declared.Growth.{Growth as Moved}
 use Rattle.steps.specs.declared.Progress.{Progress}
 use Rattle.pitch.specs.declared.Pitch.{Pitch as KeptPitch}
 use Rattle.steps.specs.Eighths.{Eighths, Heard}
 use Rattle.pitch.specs.Listening.{Eighth, Listened}
 
--- the take after the first m samples of the store s, with the eighth-rate samples stored in y
+-- the take after the first m samples of the store s, with the eighth-rate samples stored in y and the read position at z
+abbrev pub takeAt : List ℤ → ℕ → List ℤ → Progress → ℤ → Take
+takeAt s m y p z = record { count = p .count; sound = ago s m; eighths = ago y (p .places); pitch = pitchOf (p .pitch); position = z }
+
+-- the same, the position by how far it lies behind
 abbrev pub takeSoFar : List ℤ → ℕ → List ℤ → Progress → Take
-takeSoFar s m y p =
-    record {
-      count = p .count;
-      sound = ago s m;
-      eighths = ago y (p .places);
-      pitch = pitchOf (p .pitch);
-      position = inputAt (p .count) -ℤ pos (p .behind);
-    }
+takeSoFar s m y p = takeAt s m y p (inputAt (p .count) -ℤ pos (p .behind))
 
 -- between two samples: the first m of the store s are heard
 pub record Ready (s : List ℤ) (m : ℕ) (y : List ℤ) (e : List ℕ) (h : List ℤ) (p : Progress) : Type 0 where
   pub right : PitchRight (ago s m) (p .pitch)
   pub eighths : Eighths y (p .places) e h
-  pub near : p .behind ≤ 65536000
+  pub near : p .behind ≤ farthest
   pub placed : keptEighths ≤ p .places
 
 -- there is room for one sample more
 pub record Room (p : Progress) : Type 0 where
   pub places : (p .count + 1) % 8 ≡ 0 → p .places < 288
   pub count : p .count < takeLimit
-  pub repeated : p .repeated ≤ longestBlock
-  pub dropped : p .dropped ≤ longestBlock
 
 -- the tones after samples, number by number
 pub record Tones : Type 0 where
@@ -71,14 +65,12 @@ pub record Long512 (ts : Tones) : Type 0 where
   pub notes : length (ts .notes) ≡ longestBlock
   pub rates : length (ts .rates) ≡ longestBlock
 
--- one sample: from p to r, the output and the tone at place i
-pub record Did (f : InForce) (t : Take) (new : ℤ) (t′ : Take) (outs : List ℤ) (i : ℕ) (outs′ : List ℤ) (ts ts′ : Tones) (p r : Progress) : Type 0 where
-  pub take : t′ ≡ stepped f t new .next
-  pub out : outs′ ≡ set outs i (stepped f t new .given .out)
-  pub tone : ts′ ≡ toneAt ts i (stepped f t new .given .tone)
-  pub repeated : r .repeated ≡ p .repeated + length (stepped f t new .given .repeats)
-  pub dropped : r .dropped ≡ p .dropped + length (stepped f t new .given .drops)
-  pub few : (r .repeated ≤ p .repeated + 1) × (r .dropped ≤ p .dropped + 1)
+-- one sample, whatever the read position: from p to r, the tone at place i
+pub record Did (f : InForce) (s : List ℤ) (m : ℕ) (y : List ℤ) (p : Progress) (y′ : List ℤ) (r : Progress) (ts : Tones) (i : ℕ) (ts′ : Tones) : Type 0 where
+  pub take : (z : ℤ) → takeAt s (m + 1) y′ r (stepped f (takeAt s m y p z) (valueAt s m) .next .position) ≡ stepped f (takeAt s m y p z) (valueAt s m) .next
+  pub given : (z : ℤ) → r .pitch .tone ≡ stepped f (takeAt s m y p z) (valueAt s m) .given .tone
+  pub tone : ts′ ≡ toneAt ts i (r .pitch .tone)
+  pub paced : Paced (r .pitch .tone .rate) (r .pitch .tone .period)
   pub count : r .count ≡ p .count + 1
   pub phase : (f : ℕ) → p .places + f ≡ keptEighths + p .count / 8 → r .places + f ≡ keptEighths + r .count / 8
 
@@ -106,65 +98,49 @@ pub record Ended (b : ℕ) (p r : Progress) : Type 0 where
 
 -- ---- one sample, from its parts
 
--- what is left of the sample's parts
-abbrev pub nextOf : Progress → ℕ → KeptPitch → Moved → Progress
-nextOf p q v r =
-    record { count = p .count + 1; places = q; behind = r .behind; repeated = p .repeated + r .repeated; dropped = p .dropped + r .dropped; pitch = v }
-
-stepped-is : (f : InForce) (t : Take) (new : ℤ) (x y : Sound) (v : Pitch) (b : Growth) → x ≡ heard new (t .sound)
-    → y ≡ eighthsAfter (suc (t .count)) x (t .eighths) → v ≡ listened f (suc (t .count)) x y (t .pitch)
-    → b ≡ growth (suc (t .count)) (v .tone .rate) (v .tone .period) (t .position)
-    → stepped f t new ≡ record {
-      next = record { count = suc (t .count); sound = x; eighths = y; pitch = v; position = b .position };
-      given = record { out = reading x (suc (t .count)) (b .position); tone = v .tone; repeats = b .repeats; drops = b .drops };
+-- what the rules' step leaves and gives, after sample n with this sound at both rates, found to be this, from a position
+abbrev steppedTo : ℕ → Sound → Sound → Pitch → ℤ → Step
+steppedTo n x y v z =
+    let g = growth n (v .tone .rate) (v .tone .period) z in
+    record {
+      next = record { count = n; sound = x; eighths = y; pitch = v; position = g .position };
+      given = record { out = reading x n (g .position); tone = v .tone; repeats = g .repeats; drops = g .drops };
     }
-unfolding stepped
-stepped-is f t new x y v b ex ey ev eb = rw (eb, ev, ey, ex)
 
-module _ (f : InForce) (s : List ℤ) (m : ℕ) (y : List ℤ) (p : Progress) {y′ : List ℤ} {e : List ℕ} {h : List ℤ} {q : ℕ} (v : KeptPitch) (r : Moved) (l : m < length s)
-    (hd : Heard (p .count + 1) (ago s (m + 1)) y (p .places) y′ q e h) (ls : Listened f (p .count + 1) (ago s (m + 1)) e h (p .pitch) v)
-    (gr : Grown (p .behind) (v .tone .rate) (v .tone .period) r) where
-  one-step : stepped f (takeSoFar s m y p) (valueAt s m) ≡ record {
-    next =
-        record {
-          count = suc (p .count);
-          sound = ago s (m + 1);
-          eighths = ago y′ q;
-          pitch = pitchOf v;
-          position = inputAt (suc (p .count)) -ℤ pos (r .behind);
-        };
-    given =
-        record {
-          out = reading (ago s (m + 1)) (suc (p .count)) (inputAt (suc (p .count)) -ℤ pos (r .behind));
-          tone = v .tone;
-          repeats = replicate (r .repeated) (v .tone .period);
-          drops = replicate (r .dropped) (v .tone .period);
-        };
-  }
-  one-step =
-      stepped-is f (takeSoFar s m y p) (valueAt s m) (ago s (m + 1)) (ago y′ q) (pitchOf v) _ (ago-next s m l)
+-- what is left of the sample's parts
+abbrev pub nextOf : Progress → ℕ → KeptPitch → Progress
+nextOf p q v = record { count = p .count + 1; places = q; behind = p .behind; repeated = p .repeated; dropped = p .dropped; pitch = v }
+
+-- the rules' step, from what is heard and what that was found to be
+stepped-is : (f : InForce) (t : Take) (new : ℤ) (x y : Sound) (v : Pitch) → x ≡ heard new (t .sound)
+    → y ≡ eighthsAfter (suc (t .count)) x (t .eighths) → v ≡ listened f (suc (t .count)) x y (t .pitch)
+    → stepped f t new ≡ steppedTo (suc (t .count)) x y v (t .position)
+unfolding stepped
+stepped-is f t new x y v ex ey ev = rw (ev, ey, ex)
+
+module _ (f : InForce) (s : List ℤ) (m : ℕ) (y : List ℤ) (p : Progress) {y′ : List ℤ} {e : List ℕ} {h : List ℤ} {q : ℕ} (v : KeptPitch) (l : m < length s)
+    (hd : Heard (p .count + 1) (ago s (m + 1)) y (p .places) y′ q e h) (ls : Listened f (p .count + 1) (ago s (m + 1)) e h (p .pitch) v) where
+  one-step : (z : ℤ) → stepped f (takeAt s m y p z) (valueAt s m) ≡ steppedTo (suc (p .count)) (ago s (m + 1)) (ago y′ q) (pitchOf v) z
+  one-step z =
+      stepped-is f (takeAt s m y p z) (valueAt s m) (ago s (m + 1)) (ago y′ q) (pitchOf v) (ago-next s m l)
       (hd .sound ∙ ap (λ (n : ℕ). eighthsAfter n (ago s (m + 1)) (ago y (p .places))) (add-one (p .count)))
       (ls .pitch (ago y′ q) (hd .eighths .sums) ∙ ap (λ (n : ℕ). listened f n (ago s (m + 1)) (ago y′ q) (pitchOf (p .pitch))) (add-one (p .count)))
-      (sym (gr .grows (p .count)))
 
-  pub did : (outs : List ℤ) (ts : Tones) (i : ℕ) {o : ℤ} → ((n : ℕ) → o ≡ reading (ago s (m + 1)) n (inputAt n -ℤ pos (r .behind)))
-      → Did f (takeSoFar s m y p) (valueAt s m) (takeSoFar s (m + 1) y′ (nextOf p q v r)) outs i (set outs i o) ts (toneAt ts i (v .tone)) p (nextOf p q v r)
-  did outs ts i rd =
+  pub did : (ts : Tones) (i : ℕ) → Did f s m y p y′ (nextOf p q v) ts i (toneAt ts i (v .tone))
+  did ts i =
       record {
         take =
-            (λ j. record { count = add-one (p .count) j; sound = ago s (m + 1); eighths = ago y′ q; pitch = pitchOf v; position = inputAt (add-one (p .count) j) -ℤ pos (r .behind) })
-            ∙ sym (ap (λ (d : Step). d .next) one-step);
-        out = ap (set outs i) (rd (suc (p .count)) ∙ sym (ap (λ (d : Step). d .given .out) one-step));
-        tone = ap (toneAt ts i) (sym (ap (λ (d : Step). d .given .tone) one-step));
-        repeated = ap (λ (n : ℕ). p .repeated + n) (sym (ap (λ (d : Step). length (d .given .repeats)) one-step ∙ length-replicate (r .repeated) (v .tone .period)));
-        dropped = ap (λ (n : ℕ). p .dropped + n) (sym (ap (λ (d : Step). length (d .given .drops)) one-step ∙ length-replicate (r .dropped) (v .tone .period)));
-        few = (omega (arith, gr .repeated-one), omega (arith, gr .dropped-one));
+            λ z. (λ j. takeAt s (m + 1) y′ (record { count = add-one (p .count) j; places = q; behind = 0; repeated = 0; dropped = 0; pitch = v }) (one-step z j .next .position))
+            ∙ sym (ap (λ (d : Step). d .next) (one-step z));
+        given = λ z. sym (ap (λ (d : Step). d .given .tone) (one-step z));
+        tone = refl;
+        paced = tone-paced (ls .right .pitch .tone);
         count = refl;
         phase = λ f k. hd .phase f (p .count) refl k;
       }
 
-  pub ready-next : keptEighths ≤ p .places → Ready s (m + 1) y′ e h (nextOf p q v r)
-  ready-next k = record { right = ls .right; eighths = hd .eighths; near = gr .near; placed = omega (arith, hd .more) }
+  pub ready-next : keptEighths ≤ p .places → p .behind ≤ farthest → Ready s (m + 1) y′ e h (nextOf p q v)
+  ready-next k near = record { right = ls .right; eighths = hd .eighths; near = near; placed = omega (arith, hd .more) }
 
 -- what searching asks, of what is stored
 pub eighth-of : {y : List ℤ} {q : ℕ} {e : List ℕ} {h : List ℤ} → Eighths y q e h → Eighth e h

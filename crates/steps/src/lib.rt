@@ -16,6 +16,7 @@ ghost use Rattle.ages.specs.Ages.{ago, Samples};
 ghost use Rattle.passing.specs.Distances.{Long};
 ghost use Rattle.steps.specs.Eighths.{Eighths, Heard};
 ghost use Rattle.steps.specs.Running.{takeSoFar, tones, Long512, Ready, Room, Did, Ran, Begins, Ended};
+ghost use Rattle.steps.specs.Going.{Going};
 
 // A take as far as it has come within a block: its sample count, the eighth-rate samples that are stored, how far the read position lies
 // behind, the cycles repeated and dropped in the block, and the pitch.
@@ -79,7 +80,7 @@ fn hear(
     places
 }
 
-// One sample, which stands after the first m; the output and the tone after it go to place i.
+// One sample, which stands after the first m, is heard; the tone after it goes to place i.
 fn step(
     p: Progress,
     f: InForce,
@@ -88,39 +89,59 @@ fn step(
     h: &mut [i64; EIGHTH_LAGS],
     s: &[i16],
     m: usize,
-    out: &mut [i16; LONGEST_BLOCK],
     periods: &mut [u32; LONGEST_BLOCK],
     notes: &mut [u32; LONGEST_BLOCK],
     rates: &mut [u32; LONGEST_BLOCK],
     i: usize,
 ) -> Progress
     requires { ⌜ ForceIn f × Long (now s) m × (m < length (now s)) × (i < longestBlock) × Ready (now s) m (now y) (now e) (now h) p × Room p ⌝ }
-    ensures { λ r. ⌜ Ready (now (s .entry)) (m + 1) (now (y .exit)) (now (e .exit)) (now (h .exit)) r × Did f (takeSoFar (now (s .entry)) m (now (y .entry)) p) (valueAt (now (s .entry)) m) (takeSoFar (now (s .entry)) (m + 1) (now (y .exit)) r) (now (out .entry)) i (now (out .exit)) (tones (now (periods .entry)) (now (notes .entry)) (now (rates .entry))) (tones (now (periods .exit)) (now (notes .exit)) (now (rates .exit))) p r ⌝ }
+    ensures { λ r. ⌜ Ready (now (s .entry)) (m + 1) (now (y .exit)) (now (e .exit)) (now (h .exit)) r × Did f (now (s .entry)) m (now (y .entry)) p (now (y .exit)) r (tones (now (periods .entry)) (now (notes .entry)) (now (rates .entry))) i (tones (now (periods .exit)) (now (notes .exit)) (now (rates .exit))) ⌝ }
 {
     let n = p.count + 1;
     let heard = m + 1;
     let places = hear(y, p.places, e, h, n, s, heard);
     let old = p.pitch;
     let v = pitch::listen(old, f, n, e, h, s, heard);
-    let r = reading::grow(p.behind, v.tone.rate, v.tone.period);
-    let o = reading::read(s, heard, r.behind);
-    out[i] = o;
     periods[i] = v.tone.period;
     notes[i] = v.tone.note;
     rates[i] = v.tone.rate;
-    let repeated = p.repeated + r.repeated;
-    let dropped = p.dropped + r.dropped;
     Progress {
         count: n,
         places: places,
-        behind: r.behind,
-        repeated: repeated,
-        dropped: dropped,
+        behind: p.behind,
+        repeated: p.repeated,
+        dropped: p.dropped,
         pitch: v,
     }
 }
 
-// The samples of the store after the first m, b of them: their outputs, and the tone after each.
+// The samples of the store after the first m, b of them, are heard: the tone after each. The head stays where it is.
+fn hear_all(
+    p: Progress,
+    f: InForce,
+    y: &mut [i16; OPEN_EIGHTHS],
+    e: &mut [u64; EIGHTH_LAGS],
+    h: &mut [i64; EIGHTH_LAGS],
+    s: &[i16],
+    m: usize,
+    b: usize,
+    periods: &mut [u32; LONGEST_BLOCK],
+    notes: &mut [u32; LONGEST_BLOCK],
+    rates: &mut [u32; LONGEST_BLOCK],
+) -> Progress
+    requires { ⌜ ForceIn f × Long (now s) m × (m + b ≤ length (now s)) × (b ≤ longestBlock) × Ready (now s) m (now y) (now e) (now h) p × Begins b p × Long512 (tones (now periods) (now notes) (now rates)) ⌝ }
+    ensures { λ r. ⌜ Going f (now (s .entry)) m (now (y .entry)) (tones (now (periods .entry)) (now (notes .entry)) (now (rates .entry))) p b (now (y .exit)) (now (e .exit)) (now (h .exit)) (tones (now (periods .exit)) (now (notes .exit)) (now (rates .exit))) r ⌝ }
+{
+    let mut q = p;
+    let mut i: usize = 0;
+    while i < b {
+        q = step(q, f, y, e, h, s, m + i, periods, notes, rates, i);
+        i += 1;
+    }
+    q
+}
+
+// The samples of the store after the first m, b of them: the tone after each, and then what the head reads, whose rate that is.
 pub fn run(
     p: Progress,
     f: InForce,
@@ -138,11 +159,10 @@ pub fn run(
     requires { ⌜ ForceIn f × Long (now s) m × (m + b ≤ length (now s)) × (b ≤ longestBlock) × Ready (now s) m (now y) (now e) (now h) p × Begins b p × (length (now out) ≡ longestBlock) × Long512 (tones (now periods) (now notes) (now rates)) ⌝ }
     ensures { λ r. ⌜ Ready (now (s .entry)) (m + b) (now (y .exit)) (now (e .exit)) (now (h .exit)) r × Ran f (takeSoFar (now (s .entry)) m (now (y .entry)) p) (take b (drop m (now (s .entry)))) (takeSoFar (now (s .entry)) (m + b) (now (y .exit)) r) (now (out .entry)) (now (out .exit)) (tones (now (periods .entry)) (now (notes .entry)) (now (rates .entry))) (tones (now (periods .exit)) (now (notes .exit)) (now (rates .exit))) p r × Ended b p r ⌝ }
 {
-    let mut q = p;
-    let mut i: usize = 0;
-    while i < b {
-        q = step(q, f, y, e, h, s, m + i, out, periods, notes, rates, i);
-        i += 1;
-    }
+    let mut q = hear_all(p, f, y, e, h, s, m, b, periods, notes, rates);
+    let r = reading::glide(p.behind, rates, periods, s, m, b, out);
+    q.behind = r.behind;
+    q.repeated = r.repeated;
+    q.dropped = r.dropped;
     q
 }

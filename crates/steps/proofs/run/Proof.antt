@@ -1,59 +1,28 @@
--- `steps::run` meets its contract: after i turns the first i samples of the block have been taken, one after the other (`Going`).
+-- `steps::run` meets its contract: the samples are heard, and the head that is then moved over the tones stands where the rules leave it (`ran`).
 -- Assumes nothing.
-use mathlib.Core.Path.{_≡_, refl, sym, ap, _∙_, subst}
-use mathlib.Core.List.{List}
-use Prim.Native.Nat.{ℕ, _+_, _-_, _≤_}
 use native.Mathlib.Omega.{arith}
-use lib.IntN.{ℤ}
-use lib.ListN.{length}
-use Rattle.steps.specs.Running.{tones}
-use Rattle.steps.specs.Going.{Going, going-none, going-room, going-long, going-more}
+use borrow.Author.Needs.{needs}
+use Rattle.steps.specs.Heading.{paced-all, ran, ready-left, ended-left}
 use Rattle.steps.proofs.run.Statement.{statement}
 use Rattle.steps.proofs.run.Tie as tie
 
-abbrev Inv-loop : tie.InvT-loop
-Inv-loop f y₀ e₀ h₀ s m b out₀ ps₀ ns₀ rs₀ q₀ i₀ y e h out ps ns rs q i =
-    (i ≤ b) × (length out₀ ≡ 512) × Going f s m y₀ out₀ (tones ps₀ ns₀ rs₀) q₀ i y e h out (tones ps ns rs) q
+hear-all-requires : tie.Need-hear-all-requires
+hear-all-requires c κs = search needs
 
-abbrev μ-loop : tie.MeasureT-loop
-μ-loop f y₀ e₀ h₀ s m b out₀ ps₀ ns₀ rs₀ q₀ i₀ y e h out ps ns rs q i = b - i
+glide-requires : tie.Need-glide-requires
+glide-requires c κs =
+    let h = c .before .before .before in
+    let s = h .before .before .before .before .before .before .before in
+    let p = s .pre in
+    (p .4 .near, paced-all (h .hear-all .ensures) (p .2), p .2, omega (arith, p .1 .enough), p .3, p .6)
 
-loop-holds : tie.Need-loop-holds Inv-loop μ-loop
-loop-holds c = (omega arith, c .pre .6, going-none (c .args .f) (c .args .out .now) (tones (c .args .periods .now) (c .args .notes .now) (c .args .rates .now)) (c .pre .4) (c .pre .5))
-
-add-step : tie.Need-add-step Inv-loop μ-loop
-add-step c = omega arith
-
-step-requires : tie.Need-step-requires Inv-loop μ-loop
-step-requires c κs =
-    let l = c .before .before .before .before .before .before .before .before in
-    let p = l .before .pre in
-    let k = l .loop .inv .2 in
-    let b = l .before .args .b in
-    let t = c .before .before .before .before .before .before .before .loop-test .taken in
-    (p .0, going-long k b (omega (arith, t)) (p .3) (p .2) (p .1), omega (arith, t, p .2), omega (arith, t, p .3), k .ready, going-room k b (omega (arith, t)) (p .3) (p .2) (p .5))
-
-add-i : tie.Need-add-i Inv-loop μ-loop
-add-i c = omega arith
-
-loop-less : tie.Need-loop-less Inv-loop μ-loop
-loop-less c = omega arith
-
-loop-again : tie.Need-loop-again Inv-loop μ-loop
-loop-again c =
-    let l = c .before .before .before .before .before .before .before .before .before in
-    let p = l .before .pre in
-    let k = l .loop .inv .2 in
-    let t = c .before .before .before .before .before .before .before .before .loop-test .taken in
-    (omega (arith, t), l .loop .inv .1, going-more k (l .before .args .b) (omega (arith, t)) (p .3) (p .2) (omega (arith, l .loop .inv .1)) (p .7) (c .step .ensures .0) (c .step .ensures .1))
-
-returns : tie.Need-returns Inv-loop μ-loop
+returns : tie.Need-returns
 returns c =
-    let a = c .before .before .args in
-    let l = c .before .loop in
-    let e : l .i ≡ a .b = omega arith in
-    let k = subst (λ (n : ℕ). Going (a .f) (a .s .now) (a .m) (a .y .now) (a .out .now) (tones (a .periods .now) (a .notes .now) (a .rates .now)) (a .p) n (l .y) (l .e) (l .h) (l .out) (tones (l .periods) (l .notes) (l .rates)) (l .q)) e (l .inv .2) in
-    (k .ready, k .ran, k .ended)
+    let h = c .before .before .before .before in
+    let s = h .before .before .before .before .before .before .before in
+    let p = s .pre in
+    let heard = h .hear-all .ensures in
+    (ready-left heard (p .2) (c .glide .ensures), ran heard (p .2) (c .glide .ensures) (p .5), ended-left heard (p .2) (c .glide .ensures))
 
 pub run-spec : {M : Type 1} → statement M
-run-spec = tie.close (tie.spec Inv-loop μ-loop loop-holds add-step step-requires add-i loop-less loop-again returns)
+run-spec = tie.close (tie.spec hear-all-requires glide-requires returns)
