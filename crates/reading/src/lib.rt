@@ -8,7 +8,7 @@ ghost use Rattle.rules.specs.Rules as rules;
 ghost use Rattle.rules.specs.Rules.{longestBlock};
 ghost use Rattle.rules.specs.Position.{Paced};
 ghost use Rattle.ages.specs.Ages.{ago};
-ghost use Rattle.reading.specs.Bends.{bend};
+ghost use Rattle.reading.specs.Bends.{bend, lift};
 ghost use Rattle.reading.specs.Gliding.{Grown, amongFour, PacedAll, Glided};
 
 // The read head within a block: how far it lies behind the input, and the cycles repeated and dropped so far.
@@ -62,17 +62,16 @@ fn bend(p: i16, a: i16, b: i16, q: i16, u: u32) -> i64
     (cube * v + 4096 * square) * v
 }
 
-// Twice the value through neighbours p, a, b and q with u of 4096, in 1/4096^3.
-fn curve(p: i16, a: i16, b: i16, q: i16, u: u32) -> i64
+// How far the curve through neighbours p, a, b and q lies above a with u of 4096, in 1/(2 x 4096^3).
+fn lift(p: i16, a: i16, b: i16, q: i16, u: u32) -> i64
     requires { ⌜ u ≤ 4096 ⌝ }
-    ensures { λ r. ⌜ r ≡ rules.curve p a b q u ⌝ }
+    ensures { λ r. ⌜ r ≡ lift p a b q u ⌝ }
 {
     let bent = bend(p, a, b, q, u);
     let left = p as i64;
-    let here = a as i64;
     let next = b as i64;
     let v = u as i64;
-    (bent + 16777216 * (next - left)) * v + 137438953472 * here
+    (bent + 16777216 * (next - left)) * v
 }
 
 // Held within 16 bits.
@@ -88,12 +87,13 @@ fn held(z: i64) -> i16
     z as i16
 }
 
-// Through neighbours p, a, b and q with u of 4096: halved and rounded down once, then held.
+// Through neighbours p, a, b and q with u of 4096: rounded down once, then held. The sample a is a whole number, and waits until then.
 fn through(p: i16, a: i16, b: i16, q: i16, u: u32) -> i16
     requires { ⌜ u ≤ 4096 ⌝ }
     ensures { λ r. ⌜ r ≡ rules.through p a b q u ⌝ }
 {
-    held(curve(p, a, b, q, u) >> 37)
+    let here = a as i64;
+    held(here + (lift(p, a, b, q, u) >> 37))
 }
 
 // Through the four samples from a place on, with u of 4096; with 0 it is a copy of the second.

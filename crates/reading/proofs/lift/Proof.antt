@@ -1,4 +1,4 @@
--- `reading::curve` meets its contract: slope and bend, taken u times, are the rule's curve beside the sample (`curve-is`), and each step's size is below 2^63.
+-- `reading::lift` meets its contract: it is slope and bend, taken u times, and each step's size is below 2^63.
 -- Assumes nothing.
 use mathlib.Core.Path.{sym, _∙_, subst}
 use Prim.Native.Nat.{ℕ, _+_, _^_, _≤_}
@@ -8,9 +8,9 @@ use mir.Syntax.{w16, w64}
 use mir.Val.{SFits, toZ, ofZ}
 use mir.Facts.{toZ-ofZ}
 use Rattle.whole.specs.Words.{Bits, arg, arg≤, num, lit, is, cast, cast-ok, add, add-ok, sub, sub-ok, mul, mul-ok}
-use Rattle.reading.specs.Bends.{bend, bend-within, curve-is}
-use Rattle.reading.proofs.curve.Statement.{statement}
-use Rattle.reading.proofs.curve.Tie as tie
+use Rattle.reading.specs.Bends.{bend, bend-within, lift}
+use Rattle.reading.proofs.lift.Statement.{statement}
+use Rattle.reading.proofs.lift.Tie as tie
 
 abbrev word : ℤ → ℕ
 word z = ofZ w64 (toZ w16 (ofZ w16 z))
@@ -53,17 +53,11 @@ module _ (c : tie.After-bend) where
   turn : Bits w64 (2 ^ 44 + 2 ^ 40) (ofZ w64 (toZ w64 (ofZ w64 (c .bend .result)) +ℤ toZ w64 slopeBits)) (bend p a b q u +ℤ pos 16777216 *ℤ (b -ℤ p))
   turn = add bent slope tt
 
-  start : Bits w64 (2 ^ 52) (ofZ w64 (toZ w64 137438953472 *ℤ toZ w64 (word a))) (pos 137438953472 *ℤ a)
-  start = mul (lit w64 137438953472) (long (c .before .fits .a)) tt
-
 bend-requires : tie.Need-bend-requires
 bend-requires c κs = search needs
 
 cast-left : tie.Need-cast-left
 cast-left c = cast-ok (arg (c .before .fits .p)) tt
-
-cast-here : tie.Need-cast-here
-cast-here c = cast-ok (arg (c .before .fits .a)) tt
 
 cast-next : tie.Need-cast-next
 cast-next c = cast-ok (arg (c .before .fits .b)) tt
@@ -83,28 +77,20 @@ add-result c = add-ok (bent c) (slope c) tt
 mul-result-2 : tie.Need-mul-result-2
 mul-result-2 c = mul-ok (turn c) (share c) tt
 
-mul-result-3 : tie.Need-mul-result-3
-mul-result-3 c = mul-ok (lit w64 137438953472) (long (c .before .fits .a)) tt
-
-add-result-2 : tie.Need-add-result-2
-add-result-2 c = add-ok (mul (turn c) (share c) tt) (start c) tt
-
 returns : tie.Need-returns
-returns c = add (mul (turn c) (share c) tt) (start c) tt .reads ∙ curve-is (p c) (a c) (b c) (q c) (u c)
+unfolding lift
+returns c = mul (turn c) (share c) tt .reads
 
-pub curve-spec : {M : Type 1} → statement M
-curve-spec =
+pub lift-spec : {M : Type 1} → statement M
+lift-spec =
     tie.close
     (tie.spec
     bend-requires
     cast-left
-    cast-here
     cast-next
     cast-v
     sub-result
     mul-result
     add-result
     mul-result-2
-    mul-result-3
-    add-result-2
     returns)
