@@ -3,6 +3,7 @@
 use crate::rules::LONGEST_BLOCK;
 use crate::settings::Settings;
 use crate::statistics::Statistics;
+use crate::table::CD;
 use crate::tuner::{Answer, Tuner};
 
 /// The most bytes before a line's end.
@@ -13,7 +14,8 @@ pub const UNREADABLE: usize = 10;
 /// A line that can be read.
 #[derive(Clone, Debug, PartialEq, Eq)]
 pub enum Record {
-    Start(Settings),
+    /// The sample rate, if it is on the line.
+    Start(Option<u32>, Settings),
     /// Mode and channel are not on the line, and are kept.
     Change(Settings),
     Mode(u32),
@@ -31,7 +33,7 @@ impl Record {
         }
         let fields: Vec<&[u8]> = line.split(|&byte| byte == b'\t').collect();
         match (fields[0], &fields[1..]) {
-            (b"start", settings) => Some(Record::Start(settings_in(settings)?)),
+            (b"start", fields) => start_in(fields),
             (b"change", settings) => Some(Record::Change(settings_in(settings)?)),
             (b"mode", [mode]) => Some(Record::Mode(setting(mode)?)),
             (b"channel", [channel]) => Some(Record::Channel(setting(channel)?)),
@@ -48,6 +50,15 @@ impl Record {
             _ => None,
         }
     }
+}
+
+/// The sample rate is an optional last field.
+fn start_in(fields: &[&[u8]]) -> Option<Record> {
+    let (settings, hertz) = match fields {
+        [settings @ .., hertz] if settings.len() == 4 => (settings, Some(setting(hertz)?)),
+        _ => (fields, None),
+    };
+    Some(Record::Start(hertz, settings_in(settings)?))
 }
 
 fn settings_in(fields: &[&[u8]]) -> Option<Settings> {
@@ -149,7 +160,7 @@ impl Program {
         let mut numbers: Vec<i64> = Vec::new();
         let answer = match record {
             None => UNREADABLE,
-            Some(Record::Start(settings)) => self.start(settings).number(),
+            Some(Record::Start(hertz, settings)) => self.start(hertz, settings).number(),
             Some(Record::Change(to)) => self.change(|now| Settings {
                 mode: now.mode,
                 channel: now.channel,
@@ -172,12 +183,16 @@ impl Program {
         answers.push(b'\n');
     }
 
-    /// Start begins anew; if it is refused, the old tuner stays.
-    fn start(&mut self, settings: Settings) -> Answer {
-        let (answer, tuner) = Tuner::start(settings);
+    /// Start begins anew, at 44,100 unless the line has another rate; if it is
+    /// refused, the old tuner stays.
+    fn start(&mut self, hertz: Option<u32>, settings: Settings) -> Answer {
+        let (answer, tuner) = Tuner::start(hertz.unwrap_or(CD), settings);
+        let before = self.tuner.standing();
         if answer == Answer::Taken {
-            self.statistics.start(&self.tuner.standing());
+            self.statistics.start(&before, hertz);
             self.tuner = tuner;
+        } else {
+            self.statistics.refused_start(&before, answer, &settings);
         }
         answer
     }

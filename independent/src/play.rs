@@ -1,19 +1,30 @@
 //! A scripted take as records of calls, for a program that has no lines to
 //! read: every call, every refusal, repeats and resets, in both programs.
 //!
-//! A record has 1050 bytes: byte 0 is the call; 2, 4 and 6 are a block's
-//! number, length and room, low byte first; from 8 on scale, eps, decay and
-//! floor; from 24 on the samples, each with 32768 added. Where settings are
-//! given, mode and channel stand in the places of number and room. Bytes of the
-//! keyboard stand from 24 on, as many as the length says.
+//! A record has 1054 bytes: byte 0 is the call; 2, 4 and 6 are a block's
+//! number, length and room, low byte first; from 8 on a start's sample rate,
+//! then scale, eps, decay and floor; from 28 on the samples, each with 32768
+//! added. Where settings are given, mode and channel stand in the places of
+//! number and room. Bytes of the keyboard stand in the place of samples, as
+//! many as the length says.
 
 use crate::rules::{cut, POSITION_UNIT};
 use crate::settings::Settings;
 use crate::statistics::Statistics;
+use crate::table::{CD, FILM};
 use crate::tuner::{Answer, Counts, Meter, Tuner};
 
-pub const RECORD: usize = 1050;
+pub const RECORD: usize = 1054;
 const MOST: usize = 513;
+/// Where the rate stands, where the settings behind it, and where the samples.
+const HERTZ: usize = 8;
+const SETTINGS: usize = 12;
+const SAMPLES: usize = 28;
+
+/// A sample rate, then scale, eps, decay and floor.
+type Numbers = [u32; 5];
+/// All twelve notes, at 44,100.
+const ALL: Numbers = [CD, 4095, 100, 0, 100];
 
 /// What is asked of the tuner.
 #[derive(Clone, Copy, Debug, PartialEq, Eq)]
@@ -35,27 +46,27 @@ pub enum Call {
 }
 
 /// One record.
-pub fn record(call: Call, number: u16, room: u16, settings: [u32; 4], samples: &[i16]) -> Vec<u8> {
+pub fn record(call: Call, number: u16, room: u16, numbers: Numbers, samples: &[i16]) -> Vec<u8> {
     let mut bytes = vec![0u8; RECORD];
     bytes[0] = call as u8;
     bytes[2..4].copy_from_slice(&number.to_le_bytes());
     bytes[4..6].copy_from_slice(&(samples.len() as u16).to_le_bytes());
     bytes[6..8].copy_from_slice(&room.to_le_bytes());
-    for (place, setting) in settings.iter().enumerate() {
-        bytes[8 + 4 * place..12 + 4 * place].copy_from_slice(&setting.to_le_bytes());
+    for (place, number) in bytes[HERTZ..SAMPLES].chunks_exact_mut(4).zip(numbers) {
+        place.copy_from_slice(&number.to_le_bytes());
     }
-    for (place, &sample) in samples.iter().enumerate() {
+    for (place, &sample) in bytes[SAMPLES..].chunks_exact_mut(2).zip(samples) {
         let level = (i32::from(sample) + 32_768) as u16;
-        bytes[24 + 2 * place..26 + 2 * place].copy_from_slice(&level.to_le_bytes());
+        place.copy_from_slice(&level.to_le_bytes());
     }
     bytes
 }
 
 /// One record of bytes of the keyboard.
 fn midi_record(midi: &[u8]) -> Vec<u8> {
-    let mut bytes = record(Call::Midi, 0, 0, [0; 4], &[]);
+    let mut bytes = record(Call::Midi, 0, 0, [0; 5], &[]);
     bytes[4..6].copy_from_slice(&(midi.len() as u16).to_le_bytes());
-    bytes[24..24 + midi.len()].copy_from_slice(midi);
+    bytes[SAMPLES..SAMPLES + midi.len()].copy_from_slice(midi);
     bytes
 }
 
@@ -64,15 +75,18 @@ fn word(bytes: &[u8], at: usize) -> u16 {
 }
 
 fn sample(bytes: &[u8], place: usize) -> i16 {
-    (i32::from(word(bytes, 24 + 2 * place)) - 32_768) as i16
+    (i32::from(word(bytes, SAMPLES + 2 * place)) - 32_768) as i16
+}
+
+fn long(bytes: &[u8], at: usize) -> u32 {
+    u32::from_le_bytes(bytes[at..at + 4].try_into().unwrap())
 }
 
 fn settings(bytes: &[u8]) -> Settings {
-    let long = |at: usize| u32::from_le_bytes(bytes[at..at + 4].try_into().unwrap());
     Settings {
         mode: u32::from(word(bytes, 2)),
         channel: u32::from(word(bytes, 6)),
-        ..Settings::of([long(8), long(12), long(16), long(20)])
+        ..Settings::of([0, 4, 8, 12].map(|place| long(bytes, SETTINGS + place)))
     }
 }
 
@@ -93,11 +107,14 @@ fn level(sample: i16) -> String {
 pub fn play(tuner: &mut Tuner, bytes: &[u8]) -> String {
     let none = Counts::default();
     match bytes[0] {
-        call @ (0 | 1) => {
-            let with = [settings(bytes), Settings::DEFAULT][usize::from(call)];
-            let (answer, started) = Tuner::start(with);
+        0 => {
+            let (answer, started) = Tuner::start(long(bytes, HERTZ), settings(bytes));
             *tuner = started;
             said(answer, none)
+        }
+        1 => {
+            *tuner = Tuner::default_start();
+            said(Answer::Taken, none)
         }
         2 => said(tuner.change(settings(bytes)), none),
         3 => said(tuner.reset(), none),
@@ -135,7 +152,7 @@ pub fn play(tuner: &mut Tuner, bytes: &[u8]) -> String {
         }
         _ => {
             let length = usize::from(word(bytes, 4)).min(MOST);
-            let midi = &bytes[24..24 + length];
+            let midi = &bytes[SAMPLES..SAMPLES + length];
             said(tuner.midi(midi, &mut Statistics::default()), none)
         }
     }
@@ -153,27 +170,28 @@ fn voice(at: usize) -> i16 {
     (wave(period, 9_000) + wave(period / 2, 2_500)) as i16
 }
 
+fn stretch(from: usize, length: usize) -> Vec<i16> {
+    (from..from + length).map(voice).collect()
+}
+
 /// The scripted take: every call, every refusal, repeats and resets.
 pub fn script() -> Vec<u8> {
-    const ALL: [u32; 4] = [4095, 100, 0, 100];
     /// A alone, so that cycles are repeated and dropped.
-    const SOME: [u32; 4] = [0b0010_0000_0000, 150, 100, 50];
+    const SOME: Numbers = [CD, 0b0010_0000_0000, 150, 100, 50];
     let mut bytes = Vec::new();
-    let mut add = |call, number, room, settings, samples: &[i16]| {
-        bytes.extend(record(call, number, room, settings, samples))
+    let mut add = |call, number, room, numbers, samples: &[i16]| {
+        bytes.extend(record(call, number, room, numbers, samples))
     };
-    let stretch =
-        |from: usize, length: usize| -> Vec<i16> { (from..from + length).map(voice).collect() };
     let none: &[i16] = &[];
     // Each refusal of a setting: the first bad one is named.
-    let refused: [[u32; 4]; 7] = [
-        [0, 100, 0, 100],
-        [4096, 410, 256, 0],
-        [4095, 410, 0, 100],
-        [4095, 410, 256, 0],
-        [4095, 409, 256, 0],
-        [4095, 409, 255, 0],
-        [4095, 100, 0, 1_000_001],
+    let refused: [Numbers; 7] = [
+        [CD, 0, 100, 0, 100],
+        [CD, 4096, 410, 256, 0],
+        [CD, 4095, 410, 0, 100],
+        [CD, 4095, 410, 256, 0],
+        [CD, 4095, 409, 256, 0],
+        [CD, 4095, 409, 255, 0],
+        [CD, 4095, 100, 0, 1_000_001],
     ];
     add(Call::Meter, 0, 0, ALL, none);
     add(Call::Block, 65_535, 512, ALL, &stretch(0, 512));
@@ -212,7 +230,7 @@ pub fn script() -> Vec<u8> {
             // A record out of range, and mended.
             add(Call::Spoil, 0, 0, ALL, none);
             add(Call::Block, number + 1, 512, ALL, none);
-            add(Call::Change, 0, 0, [0, 0, 0, 0], none);
+            add(Call::Change, 0, 0, [CD, 0, 0, 0, 0], none);
             add(Call::Reset, 0, 0, ALL, none);
             add(Call::Meter, 0, 0, ALL, none);
             add(Call::Mend, 0, 0, ALL, none);
@@ -248,13 +266,13 @@ pub fn script() -> Vec<u8> {
     add(Call::StartDefault, 0, 0, ALL, none);
     add(Call::Meter, 0, 0, ALL, none);
     bytes.extend(played());
+    bytes.extend(filmed());
     bytes
 }
 
 /// The take goes on in keyboard mode, on channel 3: keys near and far, none,
 /// cut messages, a new channel, refusals and a reset.
 fn played() -> Vec<u8> {
-    const ALL: [u32; 4] = [4095, 100, 0, 100];
     let settings = |call, mode, channel| record(call, mode, channel, ALL, &[]);
     let mut records = vec![settings(Call::Start, 1, 3)];
     let between: [&[u8]; 12] = [
@@ -272,8 +290,7 @@ fn played() -> Vec<u8> {
         &[100],
     ];
     for number in 0..36u16 {
-        let from = 400 * usize::from(number);
-        let samples: Vec<i16> = (from..from + 400).map(voice).collect();
+        let samples = stretch(400 * usize::from(number), 400);
         records.push(record(Call::Block, number, 400, ALL, &samples));
         records.push(record(Call::Meter, 0, 0, ALL, &[]));
         records.push(midi_record(between[usize::from(number) % between.len()]));
@@ -301,5 +318,57 @@ fn played() -> Vec<u8> {
     records.push(settings(Call::Start, 2, 16));
     records.push(settings(Call::Start, 2, 15));
     records.push(settings(Call::Meter, 0, 0));
+    records.concat()
+}
+
+/// The take goes on at 48,000, which a change, a reset and bytes of the keyboard
+/// keep; then back at 44,100, by a start that is refused, whose rate comes before
+/// its settings, and by one that is taken.
+fn filmed() -> Vec<u8> {
+    const AT_FILM: Numbers = [FILM, 4095, 100, 0, 100];
+    let sung = |numbers: std::ops::Range<u16>| -> Vec<u8> {
+        let block = |number: u16| {
+            let samples = stretch(400 * usize::from(number), 400);
+            let block = record(Call::Block, number, 400, ALL, &samples);
+            [block, record(Call::Meter, 0, 0, ALL, &[])].concat()
+        };
+        numbers.flat_map(block).collect()
+    };
+    let start = |numbers| record(Call::Start, 0, 0, numbers, &[]);
+    let mut records = vec![
+        start(AT_FILM),
+        sung(0..9),
+        record(Call::Change, 0, 0, [CD, 4095, 150, 128, 50], &[]),
+        sung(9..14),
+        record(Call::Reset, 0, 0, ALL, &[]),
+        sung(0..6),
+        record(Call::Change, 1, 0, ALL, &[]),
+        midi_record(&[144, 56, 100]),
+        sung(6..10),
+        midi_record(&[101, 100]),
+        sung(10..12),
+    ];
+    for hertz in [0, 44_099, 44_101, 47_999, 48_001, 96_000, u32::MAX] {
+        records.push(start([hertz, 4095, 100, 0, 100]));
+        // Each setting bad behind it.
+        records.push(start([hertz, 0, 100, 0, 100]));
+        records.push(start([hertz, 4095, 410, 0, 100]));
+        records.push(start([hertz, 4095, 100, 256, 100]));
+        records.push(start([hertz, 4095, 100, 0, 0]));
+        records.push(record(Call::Start, 2, 16, [hertz, 0, 410, 256, 0], &[]));
+    }
+    records.extend([
+        sung(0..6),
+        start(AT_FILM),
+        sung(0..3),
+        start([FILM, 4095, 410, 256, 0]),
+        sung(0..6),
+        start(AT_FILM),
+        record(Call::StartDefault, 0, 0, AT_FILM, &[]),
+        sung(0..6),
+        start(AT_FILM),
+        start(ALL),
+        sung(0..6),
+    ]);
     records.concat()
 }

@@ -9,15 +9,16 @@ use crate::keyboard::Keyboard;
 use crate::rules::*;
 use crate::settings::Settings;
 use crate::statistics::Statistics;
+use crate::table::{is_rate, CD};
 use crate::tuner::*;
 
 pub const STORED: usize = 1_764;
 pub const EIGHTHS: usize = 224;
 pub const LAGS: usize = 109;
 /// The bytes of a record.
-pub const SIZE: usize = 6_968;
+pub const SIZE: usize = 6_976;
 /// The number that stands first in a record of this layout.
-pub const LAYOUT: u64 = 20_005;
+pub const LAYOUT: u64 = 20_006;
 /// Where a key, a note or a data byte would stand: there is none.
 pub const NONE: u8 = 128;
 
@@ -26,6 +27,8 @@ pub const NONE: u8 = 128;
 pub struct Record {
     pub layout: u64,
     pub settings: Settings,
+    /// The sample rate.
+    pub hertz: u64,
     // The keyboard: the key, the running status (0: none) and the half message.
     pub key: u32,
     pub status: u16,
@@ -59,7 +62,8 @@ pub struct Record {
 /// A call, with what is lent beside the record.
 #[derive(Clone, Debug, PartialEq)]
 pub enum Call {
-    Start(Settings),
+    /// A sample rate and settings.
+    Start(u32, Settings),
     StartDefault,
     Change(Settings),
     Midi(Vec<u8>),
@@ -89,10 +93,10 @@ pub struct Left {
 }
 
 impl Left {
-    fn start(&mut self, settings: Settings) {
-        let (answer, tuner) = Tuner::start(settings);
+    fn start(&mut self, hertz: u32, settings: Settings) {
+        let (answer, tuner) = Tuner::start(hertz, settings);
         self.number = answer.number() as u32;
-        self.record = Record::fresh(tuner.settings).bytes();
+        self.record = Record::fresh(tuner.hertz, tuner.settings).bytes();
     }
 }
 
@@ -105,6 +109,7 @@ macro_rules! in_order {
         $number!($record.settings.floor);
         $number!($record.settings.mode);
         $number!($record.settings.channel);
+        $number!($record.hertz);
         $number!($record.key);
         $number!($record.status);
         $number!($record.half);
@@ -134,7 +139,7 @@ macro_rules! in_order {
 impl Record {
     /// The record with these bytes, low byte first; any are one.
     pub fn of_bytes(bytes: &[u8; SIZE]) -> Record {
-        let mut record = Record::fresh(Settings::DEFAULT);
+        let mut record = Record::default_start();
         let mut at = 0;
         macro_rules! read {
             (each $numbers:expr) => {
@@ -168,10 +173,16 @@ impl Record {
         bytes
     }
 
-    pub fn fresh(settings: Settings) -> Record {
+    /// The default tuner's.
+    pub fn default_start() -> Record {
+        Record::fresh(CD, Settings::DEFAULT)
+    }
+
+    pub fn fresh(hertz: u32, settings: Settings) -> Record {
         Record {
             layout: LAYOUT,
             settings,
+            hertz: u64::from(hertz),
             key: u32::from(NONE),
             status: 0,
             half: u16::from(NONE),
@@ -229,6 +240,7 @@ impl Record {
         self.layout == LAYOUT
             && self.tracking <= 1
             && self.settings.in_range()
+            && u32::try_from(self.hertz).is_ok_and(is_rate)
             && self.keyboard().is_some_and(|keyboard| keyboard.is_good())
             && self.count <= TAKE_LIMIT as u64
             && u64::from(self.length) <= self.count.min(LONGEST_BLOCK as u64)
@@ -306,6 +318,7 @@ impl Record {
         });
         let length = usize::from(self.length);
         Tuner {
+            hertz: self.hertz as u32,
             settings: self.settings,
             keyboard: self.keyboard().expect("a good record has a keyboard"),
             limit: count + TAKE_LIMIT - self.count as usize,
@@ -337,7 +350,7 @@ impl Record {
 
     /// The record after the tuner made of it took a block.
     fn after(&self, tuner: &Tuner, seen: &Statistics) -> Record {
-        let mut record = Record::fresh(tuner.settings).with_keyboard(&tuner.keyboard);
+        let mut record = Record::fresh(tuner.hertz, tuner.settings).with_keyboard(&tuner.keyboard);
         let last = tuner.last.as_ref().expect("a block was taken");
         record.count = self.count + last.samples.len() as u64;
         record.behind = (input_position(tuner.take.count()) - tuner.position) as u64;
@@ -388,8 +401,8 @@ pub fn made(bytes: &[u8; SIZE], call: &Call) -> Left {
         ..Left::default()
     };
     match call {
-        Call::Start(settings) => left.start(*settings),
-        Call::StartDefault => left.start(Settings::DEFAULT),
+        Call::Start(hertz, settings) => left.start(*hertz, *settings),
+        Call::StartDefault => left.record = Record::default_start().bytes(),
         Call::Cut(length, k) => {
             // Past the end in whole numbers, whatever k is.
             let from = (u128::from(*k) * LONGEST_BLOCK as u128).min(u128::from(*length)) as u64;
@@ -410,7 +423,7 @@ pub fn made(bytes: &[u8; SIZE], call: &Call) -> Left {
         Call::Reset if record.is_good() => {
             let mut tuner = record.tuner();
             left.number = tuner.reset().number() as u32;
-            left.record = Record::fresh(tuner.settings).bytes();
+            left.record = Record::fresh(tuner.hertz, tuner.settings).bytes();
         }
         Call::Block {
             number,

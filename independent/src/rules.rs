@@ -9,7 +9,7 @@
 
 use crate::history::{History, SILENCE_BEFORE};
 use crate::settings::Settings;
-use crate::table::{period_of, HIGHEST_NOTE, LOWEST_NOTE};
+use crate::table::{notes_at, period_of};
 
 /// The lags that the eight may hold.
 pub const LOWEST_LAG: usize = 16;
@@ -296,31 +296,31 @@ impl Step {
 
 // Note, rate, reading
 
-/// The notes of the table that the scale holds, downwards.
-pub fn notes_of(scale: u32) -> impl Iterator<Item = usize> {
-    (LOWEST_NOTE..=HIGHEST_NOTE)
+/// The notes of the table at this rate that the scale holds, downwards.
+pub fn notes_of(hertz: u32, scale: u32) -> impl Iterator<Item = usize> {
+    notes_at(hertz)
         .rev()
         .filter(move |note| scale >> (note % 12) & 1 == 1)
 }
 
-pub fn distance(note: usize, period: i64) -> i64 {
-    (period_of(note) - period).abs()
+pub fn distance(hertz: u32, note: usize, period: i64) -> i64 {
+    (period_of(hertz, note) - period).abs()
 }
 
 /// The note of the scale with least distance in period, the higher on
 /// equality: `min_by_key` gives the first of the least, and notes come
-/// downwards. The table holds notes of all twelve sorts, so there is one.
-pub fn wanted_note(scale: u32, period: i64) -> usize {
-    notes_of(scale)
-        .min_by_key(|&note| distance(note, period))
+/// downwards. A table holds notes of all twelve sorts, so there is one.
+pub fn wanted_note(hertz: u32, scale: u32, period: i64) -> usize {
+    notes_of(hertz, scale)
+        .min_by_key(|&note| distance(hertz, note, period))
         .expect("a scale in range holds a note")
 }
 
 /// The period of the wanted note; 0 where there is none, or where it is
 /// outside the table.
-pub fn wanted_period(note: Option<usize>) -> i64 {
+pub fn wanted_period(hertz: u32, note: Option<usize>) -> i64 {
     match note {
-        Some(note @ LOWEST_NOTE..=HIGHEST_NOTE) => period_of(note),
+        Some(note) if notes_at(hertz).contains(&note) => period_of(hertz, note),
         _ => 0,
     }
 }

@@ -51,6 +51,9 @@ fn altered(alter: fn(&mut Tuner)) -> Tuner {
 #[test]
 fn spoiled_records_are_refused_first() {
     let spoiled = [
+        altered(|tuner| tuner.hertz = 0),
+        altered(|tuner| tuner.hertz = 44_101),
+        altered(|tuner| tuner.hertz = 47_999),
         altered(|tuner| tuner.settings.scale = 0),
         altered(|tuner| tuner.settings.floor = 1_000_001),
         altered(|tuner| tuner.settings.mode = 2),
@@ -111,6 +114,7 @@ fn spoiled_records_are_refused_first() {
 fn records_at_the_edge_are_good() {
     let good = [
         pitched(),
+        altered(|tuner| tuner.hertz = 48_000),
         altered(|tuner| tuner.limit = 2_400),
         altered(|tuner| tuner.position = 2_400 * POSITION_UNIT),
         altered(|tuner| tuner.position = 1_400 * POSITION_UNIT),

@@ -3,18 +3,26 @@
 
 use crate::keyboard::{Event, Keyboard, Message};
 use crate::rules::*;
-use crate::table::{HIGHEST_NOTE, LOWEST_NOTE};
-use crate::tuner::Standing;
+use crate::settings::Settings;
+use crate::table::{notes_at, CD, FILM};
+use crate::tuner::{Answer, Standing};
 use std::fmt;
 
 /// Numbers of answers, 10 for a line that cannot be read among them.
-pub const ANSWERS: usize = 16;
+pub const ANSWERS: usize = 17;
+
+/// The sample rates, and the keys at the ends of the tables there, inside and
+/// outside.
+const RATES: [u32; 2] = [CD, FILM];
+const END_KEYS: [usize; 6] = [32, 33, 100, 101, 102, 103];
 
 macro_rules! counters {
     ($($(#[$meaning:meta])* $name:ident,)*) => {
         #[derive(Clone, Debug, Default, PartialEq, Eq)]
         pub struct Statistics {
             $($(#[$meaning])* pub $name: u64,)*
+            /// Steps in keyboard mode, by rate and key.
+            pub end_keys: [[u64; END_KEYS.len()]; RATES.len()],
             /// Answers by number.
             pub answers: [u64; ANSWERS],
             /// In 1/65536 sample, after repeats and drops.
@@ -25,15 +33,22 @@ macro_rules! counters {
             /// Every counter with its name, the answers last.
             pub fn counters(&self) -> Vec<(String, u64)> {
                 let branches = [$((stringify!($name).to_string(), self.$name),)*];
+                let mut counters = Vec::from(branches);
+                for (hertz, counts) in RATES.iter().zip(&self.end_keys) {
+                    let keys = END_KEYS.iter().zip(counts);
+                    counters.extend(keys.map(|(key, &count)| (format!("key_{key}_at_{hertz}"), count)));
+                }
                 let answers = self.answers.iter().enumerate();
-                let answers = answers.map(|(number, &count)| (format!("answer_{number}"), count));
-                branches.into_iter().chain(answers).collect()
+                counters.extend(answers.map(|(number, &count)| (format!("answer_{number}"), count)));
+                counters
             }
 
             /// Adds what another run saw.
             pub fn add(&mut self, other: &Statistics) {
                 $(self.$name += other.$name;)*
-                for (count, more) in self.answers.iter_mut().zip(other.answers) {
+                let numbered = self.end_keys.as_flattened_mut().iter_mut().chain(&mut self.answers);
+                let more = other.end_keys.as_flattened().iter().chain(&other.answers);
+                for (count, more) in numbered.zip(more) {
                     *count += more;
                 }
                 self.largest_behind = self.largest_behind.max(other.largest_behind);
@@ -75,6 +90,14 @@ counters! {
     moves_up,
     moves_stopped_at_16,
     moves_stopped_at_880,
+    /// At the other rate than 44,100.
+    steps_at_48000,
+    /// In scale mode, by the notes at the ends of a table.
+    notes_of_32_at_44100,
+    notes_of_100_at_44100,
+    notes_of_33_at_48000,
+    notes_of_101_at_48000,
+    notes_of_102_at_48000,
     /// In scale mode: two notes of the scale are nearest.
     notes_tied,
     /// In scale mode, with a key held.
@@ -155,6 +178,26 @@ counters! {
     keys_forgotten_by_channel,
     halves_forgotten_by_reset,
     halves_forgotten_by_channel,
+    /// Starts that are taken: without a rate on the line, and with each.
+    starts_without_rate,
+    starts_at_44100,
+    starts_at_48000,
+    /// To another rate than before; down also where the line has none.
+    rates_raised_by_start,
+    rates_lowered_by_start,
+    rates_lowered_without_rate,
+    /// Starts at an unknown rate with a bad setting behind it.
+    rates_refused_before_settings,
+    /// At 48,000, which stays.
+    starts_refused_at_48000,
+    changes_at_48000,
+    resets_at_48000,
+    midis_at_48000,
+}
+
+/// 1 at the rate 48,000, and else 0.
+fn at_48000(hertz: u32) -> u64 {
+    u64::from(hertz == FILM)
 }
 
 impl Statistics {
@@ -181,9 +224,10 @@ impl Statistics {
         self.remainders_cleared_by_loss += u64::from(kept > 0);
     }
 
-    pub fn step(&mut self, step: &Step) {
+    pub fn step(&mut self, hertz: u32, step: &Step) {
         let period = step.period();
         self.steps += 1;
+        self.steps_at_48000 += at_48000(hertz);
         self.bests_tied += u64::from(step.best_is_tied);
         self.bests_first_of_eight += u64::from(step.best == step.lowest);
         self.bests_last_of_eight += u64::from(step.best == step.lowest + TRACKED - 1);
@@ -205,20 +249,39 @@ impl Statistics {
     }
 
     /// A step in scale mode, with the key that is held.
-    pub fn scale_step(&mut self, scale: u32, key: Option<usize>, period: i64) {
-        let least = distance(wanted_note(scale, period), period);
-        let nearest = notes_of(scale).filter(|&note| distance(note, period) == least);
+    pub fn scale_step(&mut self, hertz: u32, scale: u32, key: Option<usize>, period: i64) {
+        let note = wanted_note(hertz, scale, period);
+        let least = distance(hertz, note, period);
+        let nearest = notes_of(hertz, scale).filter(|&near| distance(hertz, near, period) == least);
         self.notes_tied += u64::from(nearest.count() > 1);
         self.steps_past_a_key += u64::from(key.is_some());
+        let at_an_end = match (hertz, note) {
+            (CD, 32) => &mut self.notes_of_32_at_44100,
+            (CD, 100) => &mut self.notes_of_100_at_44100,
+            (FILM, 33) => &mut self.notes_of_33_at_48000,
+            (FILM, 101) => &mut self.notes_of_101_at_48000,
+            (FILM, 102) => &mut self.notes_of_102_at_48000,
+            _ => return,
+        };
+        *at_an_end += 1;
     }
 
     /// A step in keyboard mode.
-    pub fn keyboard_step(&mut self, key: Option<usize>, period: i64) {
-        match key {
-            None => self.steps_without_key += 1,
-            Some(..LOWEST_NOTE) => self.steps_with_key_below_table += 1,
-            Some(LOWEST_NOTE..=HIGHEST_NOTE) => self.key_step(period, wanted_period(key)),
-            Some(_) => self.steps_with_key_above_table += 1,
+    pub fn keyboard_step(&mut self, hertz: u32, key: Option<usize>, period: i64) {
+        let Some(key) = key else {
+            self.steps_without_key += 1;
+            return;
+        };
+        if let Some(place) = END_KEYS.iter().position(|&end| end == key) {
+            self.end_keys[at_48000(hertz) as usize][place] += 1;
+        }
+        let notes = notes_at(hertz);
+        if key < *notes.start() {
+            self.steps_with_key_below_table += 1;
+        } else if key > *notes.end() {
+            self.steps_with_key_above_table += 1;
+        } else {
+            self.key_step(period, wanted_period(hertz, Some(key)));
         }
     }
 
@@ -297,13 +360,32 @@ impl Statistics {
         }
     }
 
-    /// A start that was taken.
-    pub fn start(&mut self, before: &Standing) {
+    /// A start that was taken, with the rate on its line.
+    pub fn start(&mut self, before: &Standing, hertz: Option<u32>) {
         self.remainders_cleared_by_start += u64::from(before.kept > 0);
+        match (hertz, before.hertz) {
+            (None, FILM) => self.rates_lowered_without_rate += 1,
+            (Some(CD), FILM) => self.rates_lowered_by_start += 1,
+            (Some(FILM), CD) => self.rates_raised_by_start += 1,
+            _ => {}
+        }
+        *match hertz {
+            None => &mut self.starts_without_rate,
+            Some(CD) => &mut self.starts_at_44100,
+            Some(_) => &mut self.starts_at_48000,
+        } += 1;
+    }
+
+    /// A start that was refused, with its settings.
+    pub fn refused_start(&mut self, before: &Standing, answer: Answer, settings: &Settings) {
+        self.starts_refused_at_48000 += at_48000(before.hertz);
+        self.rates_refused_before_settings +=
+            u64::from(answer == Answer::RateUnknown && !settings.in_range());
     }
 
     /// A reset that was taken.
     pub fn reset(&mut self, before: &Standing) {
+        self.resets_at_48000 += at_48000(before.hertz);
         self.keys_forgotten_by_reset += u64::from(before.keyboard.key.is_some());
         self.halves_forgotten_by_reset += u64::from(before.keyboard.half.is_some());
         self.remainders_cleared_by_reset += u64::from(before.kept > 0);
@@ -316,6 +398,7 @@ impl Statistics {
         self.halves_forgotten_by_channel += forgotten * u64::from(before.keyboard.half.is_some());
         let kept = u64::from(after.kept > 0);
         let (old, new) = (&before.settings, &after.settings);
+        self.changes_at_48000 += u64::from(old != new) * at_48000(after.hertz);
         self.decays_changed_over_remainder += kept * u64::from(old.decay != new.decay);
         self.modes_changed_over_remainder += kept * u64::from(old.mode != new.mode);
         self.channels_changed_over_remainder += kept * u64::from(old.channel != new.channel);
@@ -323,6 +406,7 @@ impl Statistics {
 
     /// Bytes of the keyboard, all of a call.
     pub fn midi(&mut self, before: &Standing, after: &Standing) {
+        self.midis_at_48000 += at_48000(after.hertz);
         let kept = u64::from(after.kept > 0);
         let (old, new) = (before.keyboard.key, after.keyboard.key);
         self.keys_struck_over_remainder += kept * u64::from(new.is_some() && new != old);

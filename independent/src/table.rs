@@ -1,43 +1,62 @@
-//! The periods of MIDI notes 32 to 100, reckoned in whole numbers.
+//! The sample rates, and at each of them the periods of MIDI notes, reckoned
+//! in whole numbers.
 //!
-//! Entry p of note n is the whole number nearest to
-//! v = 44100 x 256 / (440 x 2^((n - 69) / 12)). With twelfth powers nothing
+//! Entry p of note n at the rate r is the whole number nearest to
+//! v = r x 256 / (440 x 2^((n - 69) / 12)). With twelfth powers nothing
 //! irrational is left: 2p - 1 <= 2v exactly when
-//! (2p - 1)^12 x 440^12 x 2^n <= (2 x 44100 x 256)^12 x 2^69.
+//! (2p - 1)^12 x 440^12 x 2^n <= (2 x r x 256)^12 x 2^69.
 
 use std::cmp::Ordering;
+use std::ops::RangeInclusive;
 use std::sync::OnceLock;
 
-pub const LOWEST_NOTE: usize = 32;
-pub const HIGHEST_NOTE: usize = 100;
-const NOTES: usize = HIGHEST_NOTE - LOWEST_NOTE + 1;
+/// The sample rates, in samples a second: that of discs, which holds unless
+/// another is given, and that of films.
+pub const CD: u32 = 44_100;
+pub const FILM: u32 = 48_000;
 
-/// The period of a note of the table, in 1/256 sample.
-pub fn period_of(note: usize) -> i64 {
-    static PERIODS: OnceLock<[i64; NOTES]> = OnceLock::new();
-    PERIODS.get_or_init(|| std::array::from_fn(|place| nearest_period(LOWEST_NOTE + place)))
-        [note - LOWEST_NOTE]
+pub fn is_rate(hertz: u32) -> bool {
+    [CD, FILM].contains(&hertz)
 }
 
-/// How `twice`, a whole number, compares with 2v of this note.
-pub fn compare_with_twice_the_period(twice: u32, note: usize) -> Ordering {
+/// The notes of the table at this rate: those whose periods can be tracked.
+pub fn notes_at(hertz: u32) -> RangeInclusive<usize> {
+    match hertz {
+        CD => 32..=100,
+        FILM => 33..=102,
+        _ => panic!("there is no table at {hertz}"),
+    }
+}
+
+/// The period of a note of the table at this rate, in 1/256 sample.
+pub fn period_of(hertz: u32, note: usize) -> i64 {
+    static AT_CD: OnceLock<Vec<i64>> = OnceLock::new();
+    static AT_FILM: OnceLock<Vec<i64>> = OnceLock::new();
+    let notes = notes_at(hertz);
+    let place = note - notes.start();
+    let table = if hertz == CD { &AT_CD } else { &AT_FILM };
+    table.get_or_init(|| notes.map(|note| nearest_period(hertz, note)).collect())[place]
+}
+
+/// How `twice`, a whole number, compares with 2v of this note at this rate.
+pub fn compare_with_twice_the_period(twice: u32, hertz: u32, note: usize) -> Ordering {
     let left = Natural::one()
         .times_power(twice, 12)
         .times_power(440, 12)
         .times_power(2, note);
     let right = Natural::one()
-        .times_power(2 * 44_100 * 256, 12)
+        .times_power(2 * hertz * 256, 12)
         .times_power(2, 69);
     left.compare(&right)
 }
 
 /// The greatest p with 2p - 1 <= 2v. No 2v is an odd whole number, so it is
 /// the one nearest to v, whichever way halves went.
-fn nearest_period(note: usize) -> i64 {
+fn nearest_period(hertz: u32, note: usize) -> i64 {
     let (mut low, mut high) = (1u32, 1 << 20);
     while high - low > 1 {
         let middle = (low + high) / 2;
-        match compare_with_twice_the_period(2 * middle - 1, note) {
+        match compare_with_twice_the_period(2 * middle - 1, hertz, note) {
             Ordering::Greater => high = middle,
             _ => low = middle,
         }

@@ -5,6 +5,7 @@ use crate::keyboard::{Keyboard, HIGHEST_KEY};
 use crate::rules::*;
 use crate::settings::{Settings, KEYBOARD};
 use crate::statistics::Statistics;
+use crate::table::{is_rate, CD};
 
 /// The most samples in a take.
 pub const TAKE_LIMIT: usize = 1_000_000_000;
@@ -28,6 +29,7 @@ pub enum Answer {
     FloorOutOfRange = 13,
     ChannelOutOfRange = 14,
     ModeUnknown = 15,
+    RateUnknown = 16,
 }
 
 impl Answer {
@@ -97,6 +99,7 @@ pub struct Figures {
 /// What stands between blocks, for who looks on.
 #[derive(Clone, Copy, Debug, PartialEq, Eq)]
 pub struct Standing {
+    pub hertz: u32,
     pub settings: Settings,
     pub keyboard: Keyboard,
     /// What rounding cut off the rate.
@@ -105,6 +108,8 @@ pub struct Standing {
 
 #[derive(Clone, Debug, PartialEq, Eq)]
 pub struct Tuner {
+    /// The sample rate, which only a start gives.
+    pub(crate) hertz: u32,
     pub(crate) settings: Settings,
     pub(crate) keyboard: Keyboard,
     pub(crate) limit: usize,
@@ -119,29 +124,38 @@ pub struct Tuner {
 }
 
 impl Tuner {
-    /// A tuner started with the default settings.
+    /// A tuner started with the default settings, at 44,100.
     pub fn default_start() -> Tuner {
-        Tuner::fresh(Settings::DEFAULT, TAKE_LIMIT)
+        Tuner::fresh(CD, Settings::DEFAULT, TAKE_LIMIT)
     }
 
-    /// A tuner started with these settings, or the default one beside the
-    /// number of the first bad setting.
-    pub fn start(settings: Settings) -> (Answer, Tuner) {
-        Tuner::start_with_limit(settings, TAKE_LIMIT)
+    /// A tuner started at this sample rate with these settings, or the default
+    /// one beside the number of what is bad: the rate, or the first setting.
+    pub fn start(hertz: u32, settings: Settings) -> (Answer, Tuner) {
+        Tuner::start_with_limit(hertz, settings, TAKE_LIMIT)
     }
 
     /// The same with another limit of the take, so that it can be reached.
-    pub fn start_with_limit(settings: Settings, limit: usize) -> (Answer, Tuner) {
-        let answer = settings.answer();
-        let allowed = match answer {
-            Answer::Taken => settings,
-            _ => Settings::DEFAULT,
+    pub fn start_with_limit(hertz: u32, settings: Settings, limit: usize) -> (Answer, Tuner) {
+        let answer = Tuner::answer_to_start(hertz, &settings);
+        let (hertz, settings) = match answer {
+            Answer::Taken => (hertz, settings),
+            _ => (CD, Settings::DEFAULT),
         };
-        (answer, Tuner::fresh(allowed, limit))
+        (answer, Tuner::fresh(hertz, settings, limit))
     }
 
-    fn fresh(settings: Settings, limit: usize) -> Tuner {
+    /// Order: 16, then the settings' own.
+    pub fn answer_to_start(hertz: u32, settings: &Settings) -> Answer {
+        match is_rate(hertz) {
+            true => settings.answer(),
+            false => Answer::RateUnknown,
+        }
+    }
+
+    fn fresh(hertz: u32, settings: Settings, limit: usize) -> Tuner {
         Tuner {
+            hertz,
             settings,
             keyboard: Keyboard::FRESH,
             limit,
@@ -171,12 +185,12 @@ impl Tuner {
         answer
     }
 
-    /// Settings kept, everything else fresh.
+    /// Sample rate and settings kept, everything else fresh.
     pub fn reset(&mut self) -> Answer {
         if !self.is_good() {
             return Answer::RecordOutOfRange;
         }
-        *self = Tuner::fresh(self.settings, self.limit);
+        *self = Tuner::fresh(self.hertz, self.settings, self.limit);
         Answer::Taken
     }
 
@@ -193,6 +207,7 @@ impl Tuner {
 
     pub fn standing(&self) -> Standing {
         Standing {
+            hertz: self.hertz,
             settings: self.settings,
             keyboard: self.keyboard,
             kept: self.kept,
@@ -336,10 +351,10 @@ impl Tuner {
                 (self.rate, self.kept) = (LEVEL_RATE, 0);
             }
             Ok(step) => {
-                seen.step(&step);
+                seen.step(self.hertz, &step);
                 let period = step.period();
                 let wanted_note = self.wanted_note(period, seen);
-                let raw = raw_rate_in_bounds(period, wanted_period(wanted_note));
+                let raw = raw_rate_in_bounds(period, wanted_period(self.hertz, wanted_note));
                 self.smooth(raw, tracking.pitch, wanted_note, seen);
                 self.mode = Mode::Tracking(Tracking {
                     lowest: step.next_lowest(),
@@ -373,11 +388,11 @@ impl Tuner {
         let Settings { scale, mode, .. } = self.settings;
         let key = self.keyboard.key.map(usize::from);
         if mode == KEYBOARD {
-            seen.keyboard_step(key, period);
+            seen.keyboard_step(self.hertz, key, period);
             return key;
         }
-        seen.scale_step(scale, key, period);
-        Some(wanted_note(scale, period))
+        seen.scale_step(self.hertz, scale, key, period);
+        Some(wanted_note(self.hertz, scale, period))
     }
 
     fn pitch(&self) -> Option<Pitch> {
@@ -401,7 +416,7 @@ impl Tuner {
                 None => Meter::Locking(tracking.last_best as f32),
                 Some(pitch) => Meter::Pitched(Figures {
                     period: pitch.period as f32 / 256.0,
-                    wanted_period: wanted_period(pitch.wanted_note) as f32 / 256.0,
+                    wanted_period: wanted_period(self.hertz, pitch.wanted_note) as f32 / 256.0,
                     rate: self.rate as f32 / 65_536.0,
                 }),
             },
@@ -450,7 +465,8 @@ impl Tuner {
                     && (32_768..=131_072).contains(&self.rate)
             }
         };
-        self.settings.in_range()
+        is_rate(self.hertz)
+            && self.settings.in_range()
             && self.keyboard.is_good()
             && count <= self.limit
             && self.eighths.count() == count / 8

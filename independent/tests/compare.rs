@@ -38,12 +38,12 @@ fn the_program_is_equal_to_itself() {
     assert!(said[0].starts_with("seed 7: "));
     assert!(said[1].starts_with("seed 8: "));
     assert!(said[2].starts_with("equal: "));
-    assert!(said[2].contains("; 34 kinds, seeds 7 to 8, "));
+    assert!(said[2].contains("; 37 kinds, seeds 7 to 8, "));
     assert_eq!(said.len(), 3);
     let words: Vec<&str> = said[2].split(' ').collect();
     let (lines, samples): (u64, u64) = (words[1].parse().unwrap(), words[3].parse().unwrap());
     assert!(lines > 5_000, "{lines} lines");
-    assert!(samples > 2 * 31 * 2_000, "{samples} samples out");
+    assert!(samples > 2 * 34 * 2_000, "{samples} samples out");
 }
 
 /// A program that answers once its input has ended is equal, and nothing

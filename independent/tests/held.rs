@@ -5,6 +5,7 @@ use independent::generator::edges::{bytes_of, calls_over, edges};
 use independent::record::{made, Call, Record};
 use independent::rules::{raw_rate_in_bounds, smoothed_rate, wanted_period};
 use independent::settings::{Settings, KEYBOARD};
+use independent::table::CD;
 
 /// A tuner in a record, fed five samples a block, which are one tracking step.
 struct Take {
@@ -30,7 +31,7 @@ fn cycle(length: usize) -> Vec<i16> {
 impl Take {
     fn begin(settings: Settings, length: usize) -> Take {
         Take {
-            record: Record::fresh(settings),
+            record: Record::fresh(CD, settings),
             cycle: cycle(length),
             at: 0,
         }
@@ -71,7 +72,7 @@ impl Take {
         }
         assert_eq!(usize::try_from(period).unwrap(), 256 * self.cycle.len());
         let note = (note < 128).then_some(note as usize);
-        let raw = raw_rate_in_bounds(i64::from(period), wanted_period(note));
+        let raw = raw_rate_in_bounds(i64::from(period), wanted_period(CD, note));
         let decay = self.record.settings.decay;
         assert_eq!(self.rate(), smoothed_rate(decay, rate, raw, kept));
         raw
@@ -188,8 +189,8 @@ fn a_loss_a_reset_and_a_start_clear_it() {
     assert_eq!(take.rate(), (65_536, 0));
     let mut take = pitched();
     take.make(&Call::Reset);
-    assert!(take.record == Record::fresh(settings(255)));
-    for call in [Call::Start(settings(200)), Call::StartDefault] {
+    assert!(take.record == Record::fresh(CD, settings(255)));
+    for call in [Call::Start(CD, settings(200)), Call::StartDefault] {
         let mut take = pitched();
         take.make(&call);
         assert_eq!(take.rate(), (65_536, 0));
@@ -223,7 +224,7 @@ fn what_is_kept_in_any_record() {
             (before, (1, true)) if record.count % 5 == 2 => {
                 let raw = raw_rate_in_bounds(
                     i64::from(after.period),
-                    wanted_period(Some(after.note as usize)),
+                    wanted_period(record.hertz as u32, Some(after.note as usize)),
                 );
                 let (decay, rate) = (record.settings.decay, i64::from(record.rate));
                 let right = smoothed_rate(decay, rate, raw, i64::from(record.kept));

@@ -28,6 +28,13 @@ fn answers(input: &str) -> String {
     String::from_utf8(answers).unwrap().replace('\t', " ")
 }
 
+/// Each line, of a fresh program, has this answer.
+fn assert_answered(table: &[(&str, &str)]) {
+    for (line, number) in table {
+        assert_eq!(answers(line), format!("{number}\n"), "{line}");
+    }
+}
+
 /// The answer to one line of a fresh program.
 fn answer(line: &[u8]) -> String {
     let (answers, _) = answers_to(&[line, b"\n"].concat());
@@ -137,9 +144,36 @@ fn each_setting_has_its_own_refusal() {
         ("change 4095 409 255 1000000", "0"),
         ("start 0 410 256 4294967296", "10"),
     ];
-    for (line, number) in table {
-        assert_eq!(answers(line), format!("{number}\n"), "{line}");
-    }
+    assert_answered(&table);
+}
+
+/// The rate is an optional last field of a start, and is named before the
+/// settings; unreadable comes before it.
+#[test]
+fn the_rate_on_a_start_line() {
+    let table = [
+        ("start 0 410 256 0 1", "16"),
+        ("start 4095 100 0 100 48000", "0"),
+        ("start 4095 100 0 100 44100", "0"),
+        ("start 4095 100 0 100 00048000", "0"),
+        ("start 4095 100 0 100 0", "16"),
+        ("start 4095 100 0 100 44099", "16"),
+        ("start 4095 100 0 100 44101", "16"),
+        ("start 4095 100 0 100 47999", "16"),
+        ("start 4095 100 0 100 48001", "16"),
+        ("start 4095 100 0 100 4294967295", "16"),
+        ("start 4095 100 0 100 4294967296", "10"),
+        ("start 0 100 0 100 48000", "8"),
+        ("start 1 410 256 0 48000", "11"),
+        ("start 1 409 256 0 44100", "12"),
+        ("start 1 409 255 0 48000", "13"),
+        ("start 4095 410 0 100 1", "16"),
+        ("start 4095 100 256 100 1", "16"),
+        ("start 4095 100 0 0 1", "16"),
+        ("start 0 410 256 4294967296 1", "10"),
+        ("change 4095 100 0 100 48000", "10"),
+    ];
+    assert_answered(&table);
 }
 
 /// Whichever setting is refused, the take goes on as it was.
@@ -187,9 +221,7 @@ fn lines_of_the_keyboard() {
         ("midi 144 60 ", "10"),
         ("keys 60", "10"),
     ];
-    for (line, number) in table {
-        assert_eq!(answers(line), format!("{number}\n"), "{line}");
-    }
+    assert_answered(&table);
     // As many bytes as a line holds, and one more.
     let line = |bytes: usize| ["midi".to_string(), "\t7".repeat(bytes)].concat();
     assert_eq!(line(4_094).len(), LONGEST_LINE);
@@ -274,6 +306,42 @@ fn starts_and_resets_in_keyboard_mode() {
     assert_eq!(sung_from(&again), played);
 }
 
+/// A start without a rate is at 44,100, also after 48,000; a change, a reset and
+/// lines of the keyboard keep the rate, and so does a start that is refused.
+#[test]
+fn rates_change_by_a_start_alone() {
+    let start = "start 4095 100 0 100";
+    let (at_cd, at_film) = (sung_from(""), sung_from(&format!("{start} 48000\n")));
+    assert_ne!(at_cd, at_film);
+    let lowered = [
+        format!("{start}\n"),
+        format!("{start} 44100\n"),
+        format!("{start} 48000\n{start}\n"),
+        format!("{start} 48000\n{start} 44100\n"),
+        format!("{start} 48001\n"),
+        format!("{start} 48000 \n"),
+        "change 4095 100 0 100 48000\n".to_string(),
+    ];
+    for lines in lowered {
+        assert_eq!(sung_from(&lines), at_cd, "{lines}");
+    }
+    let kept = [
+        "reset\n",
+        "change 1 200 0 100\nchange 4095 100 0 100\n",
+        "mode 1\nmode 0\nchannel 3\nmidi 147 69 100\n",
+        "start 4095 100 0 100 44101\n",
+        "start 0 100 0 100 44100\n",
+        "start 4095 410 0 100\n",
+        "start 4095 100 0 100 \n",
+        "change 4095 100 0 100 44100\n",
+        "nonsense\nreset\nreset\n",
+    ];
+    for lines in kept {
+        let lines = format!("{start} 48000\n{lines}");
+        assert_eq!(sung_from(&lines), at_film, "{lines}");
+    }
+}
+
 /// A block is given again after lines of the keyboard.
 #[test]
 fn the_repeat_among_lines_of_the_keyboard() {
@@ -328,7 +396,16 @@ fn lines_that_cannot_be_read() {
         b"resets",
         b"start",
         b"start\t4095\t100\t0",
-        b"start\t4095\t100\t0\t100\t0",
+        b"start\t4095\t100\t0\t100\t",
+        b"start\t4095\t100\t0\t100\t4294967296",
+        b"start\t4095\t100\t0\t100\t48000\t",
+        b"start\t4095\t100\t0\t100\t48000\t48000",
+        b"start\t4095\t100\t0\t100\t-48000",
+        b"start\t4095\t100\t0\t100\t48000.0",
+        b"start\t4095\t100\t0\t\t48000",
+        b"change\t4095\t100\t0\t100\t44100",
+        b"change\t4095\t100\t0\t100\t48000",
+        b"change\t4095\t100\t0\t100\t",
         b"start\t4095\t100\t\t100",
         b"start\t-1\t100\t0\t100",
         b"start\t4095\t-0\t0\t100",
@@ -396,6 +473,7 @@ fn a_refused_start_keeps_the_old_tuner() {
     let input = "block 0 1 2 3 4 5\n\
                  start 0 0 0 0\n\
                  start 4095 100 0 100 0\n\
+                 start 4095 100 0 100 \n\
                  block 0 1 2 3 4 5\n\
                  block 1 6\n\
                  start 4095 100 0 100\n\
@@ -405,6 +483,7 @@ fn a_refused_start_keeps_the_old_tuner() {
                  block 0 1 2 3 4 5\n";
     let expected = "0 5 0 0 0 0 0 0 1\n\
                     8\n\
+                    16\n\
                     10\n\
                     1 5 0 0 0 0 0 0 1\n\
                     0 1 0 0 2\n\

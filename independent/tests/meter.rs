@@ -1,9 +1,10 @@
-//! The meter through a take: searching, locking, pitched, lost; and drawn to the
-//! keyboard.
+//! The meter through a take: searching, locking, pitched, lost; drawn to the
+//! keyboard; and at either sample rate.
 
 use independent::rules::raw_rate;
 use independent::settings::{Settings, KEYBOARD, SCALE};
 use independent::statistics::Statistics;
+use independent::table::{CD, FILM};
 use independent::tuner::{Answer, Figures, Meter, Tuner};
 
 /// A tuner fed one sample a block.
@@ -15,7 +16,11 @@ struct Take {
 
 impl Take {
     fn begin(settings: Settings) -> Take {
-        let (answer, tuner) = Tuner::start(settings);
+        Take::begin_at(CD, settings)
+    }
+
+    fn begin_at(hertz: u32, settings: Settings) -> Take {
+        let (answer, tuner) = Tuner::start(hertz, settings);
         assert_eq!(answer, Answer::Taken);
         Take {
             tuner,
@@ -141,7 +146,11 @@ impl Take {
 
 /// A take that is pitched at period 96, about.
 fn pitched(settings: Settings) -> Take {
-    let mut take = Take::begin(settings);
+    pitched_at(CD, settings)
+}
+
+fn pitched_at(hertz: u32, settings: Settings) -> Take {
+    let mut take = Take::begin_at(hertz, settings);
     for _ in 0..600 {
         take.hear_next();
     }
@@ -248,6 +257,61 @@ fn a_reset_forgets_the_key() {
     assert!(take.tuner == fresh);
     take.play(&[]);
     assert!(take.tuner == fresh);
+}
+
+/// Period 96 is nearest to note 70 at 44,100, and to note 71 at 48,000.
+#[test]
+fn drawn_to_the_notes_of_the_rate() {
+    pitched_at(CD, Settings::DEFAULT).is_drawn_to(24_218);
+    let mut take = pitched_at(FILM, Settings::DEFAULT);
+    take.is_drawn_to(24_880);
+    let figures = Figures {
+        period: 96.0,
+        wanted_period: 24_880.0 / 256.0,
+        rate: 64_735.0 / 65_536.0,
+    };
+    assert_eq!(take.tuner.meter(), Meter::Pitched(figures));
+}
+
+/// A change, bytes of the keyboard and a reset keep the rate; a start does not.
+#[test]
+fn the_rate_changes_by_a_start_alone() {
+    let mut settings = Settings::DEFAULT;
+    let mut take = pitched_at(FILM, settings);
+    take.change(|settings| settings.scale = 1 << (69 % 12), &mut settings);
+    take.is_drawn_to(27_927);
+    take.change(|settings| settings.mode = KEYBOARD, &mut settings);
+    take.play(&[144, 70, 100]);
+    take.is_drawn_to(26_360);
+    assert_eq!(take.tuner.reset(), Answer::Taken);
+    assert!(take.tuner == Tuner::start(FILM, settings).1);
+    assert!(take.tuner != Tuner::start(CD, settings).1);
+    take.number = 0;
+    take.play(&[144, 70, 100]);
+    for _ in 0..600 {
+        take.hear_next();
+    }
+    take.is_drawn_to(26_360);
+    let mut take = pitched_at(CD, settings);
+    take.play(&[144, 70, 100]);
+    take.is_drawn_to(24_218);
+}
+
+/// Keys at the ends of both tables: key 32 is in that of 44,100 alone, 101 and
+/// 102 are in that of 48,000 alone. All are too far off for a rate.
+#[test]
+fn keys_at_the_ends_of_the_tables() {
+    let ends = [
+        (CD, [0, 217_471, 205_265, 4_281, 0, 0, 0]),
+        (FILM, [0, 0, 223_418, 4_660, 4_398, 4_151, 0]),
+    ];
+    for (hertz, wanted) in ends {
+        let mut take = pitched_at(hertz, played());
+        for (key, wanted) in [31, 32, 33, 100, 101, 102, 103].into_iter().zip(wanted) {
+            take.play(&[144, key, 1]);
+            take.is_level(wanted);
+        }
+    }
 }
 
 /// Silence, where D = E = 0, never passes.

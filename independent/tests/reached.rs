@@ -3,9 +3,10 @@
 
 use independent::generator::kinds::{kind_named, KINDS};
 use independent::generator::night::{write_night, NIGHT};
-use independent::generator::script::script;
+use independent::generator::script::{script, write_script};
 use independent::lines::{answers_to, Program, Record};
 use independent::statistics::Statistics;
+use independent::table::{is_rate, notes_at, period_of, CD, FILM};
 use independent::tuner::Meter;
 use std::collections::{HashMap, HashSet};
 
@@ -38,6 +39,12 @@ const REACHED: &[(&str, &str, u64)] = &[
     ("moves_up", "glides", 1),
     ("moves_stopped_at_16", "glides", 1),
     ("moves_stopped_at_880", "glides", 1),
+    ("steps_at_48000", "film", 1),
+    ("notes_of_32_at_44100", "tones", 1),
+    ("notes_of_100_at_44100", "glides", 192),
+    ("notes_of_33_at_48000", "film", 1),
+    ("notes_of_101_at_48000", "film", 1),
+    ("notes_of_102_at_48000", "film", 1),
     ("notes_tied", "ones", 1),
     ("steps_past_a_key", "played", 1),
     ("steps_without_key", "melody", 1),
@@ -93,6 +100,29 @@ const REACHED: &[(&str, &str, u64)] = &[
     ("keys_forgotten_by_channel", "pieces", 1),
     ("halves_forgotten_by_reset", "pieces", 1),
     ("halves_forgotten_by_channel", "pieces", 1),
+    ("starts_without_rate", "rates", 1),
+    ("starts_at_44100", "rates", 1),
+    ("starts_at_48000", "rates", 1),
+    ("rates_raised_by_start", "rates", 1),
+    ("rates_lowered_by_start", "rates", 1),
+    ("rates_lowered_without_rate", "rates", 1),
+    ("rates_refused_before_settings", "choices", 1),
+    ("starts_refused_at_48000", "rates", 1),
+    ("changes_at_48000", "rates", 1),
+    ("resets_at_48000", "rates", 1),
+    ("midis_at_48000", "ends", 1),
+    ("key_32_at_44100", "ends", 1),
+    ("key_33_at_44100", "ends", 1),
+    ("key_100_at_44100", "ends", 1),
+    ("key_101_at_44100", "ends", 1),
+    ("key_102_at_44100", "ends", 1),
+    ("key_103_at_44100", "ends", 1),
+    ("key_32_at_48000", "ends", 1),
+    ("key_33_at_48000", "ends", 1),
+    ("key_100_at_48000", "ends", 1),
+    ("key_101_at_48000", "ends", 1),
+    ("key_102_at_48000", "ends", 1),
+    ("key_103_at_48000", "ends", 1),
     ("answer_0", "endless", 1),
     ("answer_1", "mixed", 1),
     ("answer_2", "hostile", 1),
@@ -106,6 +136,7 @@ const REACHED: &[(&str, &str, u64)] = &[
     ("answer_13", "choices", 1),
     ("answer_14", "bytes", 1),
     ("answer_15", "bytes", 1),
+    ("answer_16", "choices", 1),
 ];
 
 /// No script reaches these: the line program always has room for 512 samples
@@ -173,8 +204,8 @@ fn the_night_reaches_every_branch() {
     }
 }
 
-/// Every choice of good and bad settings, to start with and to change to, with
-/// a block taken after each.
+/// Every choice of good and bad settings, to change to, and to start with at a
+/// rate that there is and at one that there is not, with a block taken after each.
 #[test]
 fn the_night_has_every_choice_of_settings() {
     let &(_, seed, samples) = NIGHT.iter().find(|row| row.0 == "choices").unwrap();
@@ -183,23 +214,43 @@ fn the_night_has_every_choice_of_settings() {
     let lines = script.split(|&byte| byte == b'\n').map(Record::on);
     let mut met = HashSet::new();
     for (record, answer) in lines.zip(answers.lines()) {
-        let (word, settings) = match record {
-            Some(Record::Start(settings)) => ("start", settings),
-            Some(Record::Change(settings)) => ("change", settings),
+        let (word, hertz, settings) = match record {
+            Some(Record::Start(hertz, settings)) => ("start", hertz.unwrap_or(CD), settings),
+            Some(Record::Change(settings)) => ("change", CD, settings),
             _ => continue,
         };
         let bad = [
+            !is_rate(hertz),
             !(1..=4_095).contains(&settings.scale),
             settings.eps > 409,
             settings.decay > 255,
             !(1..=1_000_000).contains(&settings.floor),
         ];
         let first = bad.iter().position(|&bad| bad);
-        let number = first.map_or("0", |place| ["8", "11", "12", "13"][place]);
-        assert_eq!(answer, number, "{settings:?}");
+        let number = first.map_or("0", |place| ["16", "8", "11", "12", "13"][place]);
+        assert_eq!(answer, number, "{settings:?} at {hertz}");
         met.insert((word, bad));
     }
-    assert_eq!(met.len(), 2 * 16);
+    assert_eq!(met.len(), 16 + 32);
+}
+
+/// At 48,000 every note of the table is wanted: the meter shows each of their
+/// periods after some short block.
+#[test]
+fn every_note_at_48000_is_wanted() {
+    let mut script = Vec::new();
+    let film = kind_named("film").unwrap();
+    write_script(film, 4, SAMPLES, Some(16), &mut script).unwrap();
+    let mut program = Program::default();
+    let mut wanted = HashSet::new();
+    for line in script.split_inclusive(|&byte| byte == b'\n') {
+        program.read(line, &mut Vec::new());
+        if let Meter::Pitched(figures) = program.tuner().meter() {
+            wanted.insert((256.0 * figures.wanted_period) as i64);
+        }
+    }
+    let table: HashSet<i64> = notes_at(FILM).map(|note| period_of(FILM, note)).collect();
+    assert_eq!(wanted, table);
 }
 
 #[test]
@@ -227,7 +278,8 @@ fn reached_tuners_are_good() {
     let kinds = ["mixed", "rough", "glides", "settings"];
     let played = ["played", "octaves", "pieces", "bytes"];
     let held = ["goals", "decays", "keys"];
-    let kinds = kinds.into_iter().chain(played).chain(held);
+    let filmed = ["film", "rates", "ends"];
+    let kinds = kinds.into_iter().chain(played).chain(held).chain(filmed);
     for (kind, seed) in kinds.map(|kind| (kind, 3)) {
         let script = script(kind_named(kind).unwrap(), seed, 50_000);
         let mut program = Program::default();

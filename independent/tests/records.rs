@@ -8,16 +8,23 @@ use independent::generator::edges::{
 use independent::record::{made, Call, Record};
 use independent::settings::Settings;
 use independent::statistics::Statistics;
+use independent::table::{CD, FILM};
 use independent::tuner::{Meter, Tuner};
 use std::collections::{BTreeMap, BTreeSet};
 
 #[test]
 fn a_take_over_a_record_is_the_tuner_s() {
+    for hertz in [CD, FILM] {
+        assert_is_the_tuner_s(hertz);
+    }
+}
+
+fn assert_is_the_tuner_s(hertz: u32) {
     let sung: Vec<i16> = (0..9_000)
         .map(|at| ((at % 101) * 90 + (at / 50 % 2) * 3_000 - 6_000) as i16)
         .collect();
-    let mut tuner = Tuner::default_start();
-    let mut bytes = bytes_of(Record::fresh(Settings::DEFAULT).bytes());
+    let (_, mut tuner) = Tuner::start(hertz, Settings::DEFAULT);
+    let mut bytes = bytes_of(Record::fresh(hertz, Settings::DEFAULT).bytes());
     let mut pitched = 0;
     for (number, samples) in (0..).zip(sung.chunks(173)) {
         let mut out = vec![7; samples.len() + 1];
@@ -40,6 +47,7 @@ fn a_take_over_a_record_is_the_tuner_s() {
             Meter::Locking(lag) => assert_eq!((shown.state, shown.figures[0]), (1, lag)),
             Meter::Pitched(figures) => {
                 assert_eq!((shown.state, shown.figures[1]), (2, figures.period));
+                assert_eq!(shown.figures[2..], [figures.wanted_period, figures.rate]);
                 pitched += 1;
             }
             Meter::Refused => panic!("a tuner from a start is never refused"),
@@ -66,20 +74,40 @@ fn records_are_good_up_to_the_edges() {
     }
 }
 
-/// A refused start leaves the default tuner, a refused change the record.
+/// A refused start leaves the default tuner, a refused change the record. A start
+/// that is taken has its own rate, a change keeps that of the record.
 #[test]
 fn refused_settings_over_a_record() {
     let mut numbers = BTreeSet::new();
     for (record, call) in choices() {
         let left = made(&bytes_of(record.bytes()), &call);
-        let refused = match &call {
-            Call::Start(_) => Record::fresh(Settings::DEFAULT),
-            _ => record,
+        let (refused, hertz) = match &call {
+            Call::Start(hertz, _) => (Record::default_start(), *hertz),
+            _ => (record, FILM),
         };
         assert_eq!(left.number > 0, left.record == refused.bytes(), "{call:?}");
+        let after = Record::of_bytes(&bytes_of(left.record));
+        let right = if left.number > 0 {
+            refused.hertz
+        } else {
+            hertz.into()
+        };
+        assert_eq!(after.hertz, right, "{call:?}");
         numbers.insert(left.number);
     }
-    assert_eq!(Vec::from_iter(numbers), [0, 8, 11, 12, 13, 14, 15]);
+    assert_eq!(Vec::from_iter(numbers), [0, 8, 11, 12, 13, 14, 15, 16]);
+}
+
+/// The rate stands behind the settings, in eight bytes.
+#[test]
+fn the_place_of_the_rate() {
+    let bytes = Record::fresh(FILM, Settings::DEFAULT).bytes();
+    assert_eq!(bytes[32..40], 48_000u64.to_le_bytes());
+    assert_eq!(bytes[..8], 20_006u64.to_le_bytes());
+    assert_eq!(bytes.len(), 6_976);
+    let other = Record::fresh(CD, Settings::DEFAULT).bytes();
+    assert_eq!(bytes[..32], other[..32]);
+    assert_eq!(bytes[40..], other[40..]);
 }
 
 /// What versions 1 and 2 left is of another layout; a start asks nothing of it.
@@ -87,14 +115,14 @@ fn refused_settings_over_a_record() {
 fn records_of_older_versions_are_refused() {
     let bytes = fresh_of_version_2();
     assert_eq!(bytes[..8], BEGINNING_OF_OLD.to_le_bytes());
-    for call in calls_over(&Record::fresh(Settings::DEFAULT)) {
+    for call in calls_over(&Record::default_start()) {
         let left = made(&bytes, &call);
         assert!(left.number == 9 || left.state == 9, "{call:?}");
         assert!(left.record == bytes, "{call:?}");
     }
     let left = made(&bytes, &Call::StartDefault);
     assert_eq!(left.number, 0);
-    assert_eq!(left.record, Record::fresh(Settings::DEFAULT).bytes());
+    assert_eq!(left.record, Record::default_start().bytes());
 }
 
 /// No line shows that a loss, a reset or a start cleared what was kept, since a
@@ -114,7 +142,7 @@ fn calls_over_records_meet_something_kept() {
         let after = Record::of_bytes(&bytes_of(left.record));
         let moved = (after.rate, after.kept) != (record.rate, record.kept);
         let what = match (&call, left.number) {
-            (Call::Start(_) | Call::StartDefault, 0) => "start",
+            (Call::Start(..) | Call::StartDefault, 0) => "start",
             (Call::Reset, 0) => "reset",
             (Call::Change(to), 0) if to.decay != record.settings.decay => "change of decay",
             (Call::Midi(_), 0) if after.key != record.key => "key",

@@ -2,6 +2,7 @@
 
 use independent::settings::Settings;
 use independent::statistics::Statistics;
+use independent::table::{CD, FILM};
 use independent::tuner::{Answer, Counts, Meter, Tuner};
 
 /// What the output holds before a call.
@@ -56,14 +57,15 @@ fn numbers_of_the_answers() {
         Answer::FloorOutOfRange,
         Answer::ChannelOutOfRange,
         Answer::ModeUnknown,
+        Answer::RateUnknown,
     ];
-    let numbers = [0, 1, 2, 3, 4, 5, 6, 7, 8, 9, 11, 12, 13, 14, 15];
+    let numbers = [0, 1, 2, 3, 4, 5, 6, 7, 8, 9, 11, 12, 13, 14, 15, 16];
     assert_eq!(answers.map(Answer::number), numbers);
 }
 
 #[test]
 fn order_of_the_refusals() {
-    let (_, mut tuner) = Tuner::start_with_limit(Settings::DEFAULT, 3);
+    let (_, mut tuner) = Tuner::start_with_limit(CD, Settings::DEFAULT, 3);
     let long = [1; 513];
     // With no last block only number 0 is taken.
     refused(&mut tuner, 2, 7, &[], 0);
@@ -87,7 +89,7 @@ fn order_of_the_refusals() {
 
 #[test]
 fn exactly_the_limit_is_allowed() {
-    let (_, mut tuner) = Tuner::start_with_limit(Settings::DEFAULT, 10);
+    let (_, mut tuner) = Tuner::start_with_limit(CD, Settings::DEFAULT, 10);
     taken(&mut tuner, 0, &[1; 6]);
     refused(&mut tuner, 7, 1, &[2; 5], 512);
     let (counts, output) = taken(&mut tuner, 1, &[2; 4]);
@@ -148,13 +150,16 @@ fn numbers_wrap_after_65535() {
     taken(&mut tuner, 1, &[5]);
 }
 
-#[test]
-fn settings_keep_their_ranges() {
-    let settings = |scale, eps, decay, floor, mode, channel| Settings {
+fn settings(scale: u32, eps: u32, decay: u32, floor: u32, mode: u32, channel: u32) -> Settings {
+    Settings {
         mode,
         channel,
         ..Settings::of([scale, eps, decay, floor])
-    };
+    }
+}
+
+#[test]
+fn settings_keep_their_ranges() {
     let good = [
         settings(1, 0, 0, 1, 0, 0),
         settings(4_095, 409, 255, 1_000_000, 1, 15),
@@ -178,28 +183,46 @@ fn settings_keep_their_ranges() {
         (15, settings(1, 0, 0, 1, most, 15)),
     ];
     assert_eq!(Settings::DEFAULT, settings(4_095, 100, 0, 100, 0, 0));
-    for settings in good {
-        assert_eq!(Tuner::start(settings).0, Answer::Taken);
+    for (hertz, settings) in good.into_iter().flat_map(|good| [(CD, good), (FILM, good)]) {
+        assert_eq!(Tuner::start(hertz, settings).0, Answer::Taken);
         assert_eq!(Tuner::default_start().change(settings), Answer::Taken);
     }
     for (number, settings) in bad {
-        let (answer, tuner) = Tuner::start(settings);
-        assert_eq!(answer.number(), number);
+        for hertz in [CD, FILM] {
+            let (answer, tuner) = Tuner::start(hertz, settings);
+            assert_eq!(answer.number(), number);
+            assert!(tuner == Tuner::default_start());
+            let (_, mut kept) = Tuner::start(hertz, good[0]);
+            assert_eq!(kept.change(settings).number(), number);
+            assert!(kept == Tuner::start(hertz, good[0]).1);
+            assert_eq!(kept.meter(), Meter::Searching);
+        }
+        // The rate comes before every setting.
+        assert_refused_for_its_rate(settings);
+    }
+    good.into_iter().for_each(assert_refused_for_its_rate);
+}
+
+/// A start at a rate that is unknown hands the default tuner back, at 44,100.
+fn assert_refused_for_its_rate(settings: Settings) {
+    for hertz in [0, 44_099, 44_101, 47_999, 48_001, 96_000, u32::MAX] {
+        let (answer, tuner) = Tuner::start(hertz, settings);
+        assert_eq!(answer.number(), 16, "{hertz}");
         assert!(tuner == Tuner::default_start());
-        let (_, mut kept) = Tuner::start(good[0]);
-        assert_eq!(kept.change(settings).number(), number);
-        assert!(kept == Tuner::start(good[0]).1);
-        assert_eq!(kept.meter(), Meter::Searching);
+        assert_eq!(tuner.standing().hertz, CD);
     }
 }
 
 #[test]
-fn a_reset_keeps_the_settings_alone() {
+fn a_reset_keeps_the_rate_and_the_settings_alone() {
     let mut settings = Settings::DEFAULT;
     settings.eps = 7;
-    let (_, mut tuner) = Tuner::start(settings);
-    taken(&mut tuner, 0, &[300; 77]);
-    assert!(tuner != Tuner::start(settings).1);
-    assert_eq!(tuner.reset(), Answer::Taken);
-    assert!(tuner == Tuner::start(settings).1);
+    for hertz in [CD, FILM] {
+        let (_, mut tuner) = Tuner::start(hertz, settings);
+        taken(&mut tuner, 0, &[300; 77]);
+        assert!(tuner != Tuner::start(hertz, settings).1);
+        assert_eq!(tuner.reset(), Answer::Taken);
+        assert!(tuner == Tuner::start(hertz, settings).1);
+        assert_eq!(tuner.standing().hertz, hertz);
+    }
 }

@@ -3,7 +3,7 @@
 
 use independent::history::History;
 use independent::rules::*;
-use independent::table::period_of;
+use independent::table::{period_of, CD};
 
 /// E, H and D of lag 2 over four samples.
 fn sums(samples: [i16; 4]) -> (i64, i64, i64) {
@@ -70,17 +70,17 @@ fn number_7() {
 
 #[test]
 fn number_8() {
-    assert_eq!(period_of(69), 25_658);
-    assert_eq!(period_of(33), 205_265);
+    assert_eq!(period_of(CD, 69), 25_658);
+    assert_eq!(period_of(CD, 33), 205_265);
 }
 
 #[test]
 fn number_9() {
     let a_alone = 1 << (69 % 12);
-    assert_eq!(wanted_note(a_alone, 26_000), 69);
-    assert_eq!(raw_rate(26_000, period_of(69)), 66_410);
-    assert_eq!(wanted_note(a_alone, 38_487), 69);
-    assert_eq!(wanted_note(a_alone, 38_488), 57);
+    assert_eq!(wanted_note(CD, a_alone, 26_000), 69);
+    assert_eq!(raw_rate(26_000, period_of(CD, 69)), 66_410);
+    assert_eq!(wanted_note(CD, a_alone, 38_487), 69);
+    assert_eq!(wanted_note(CD, a_alone, 38_488), 57);
 }
 
 #[test]

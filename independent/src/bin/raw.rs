@@ -1,14 +1,17 @@
 //! Tunes raw samples from standard input, low byte first, in blocks of 512
-//! with the default settings; with `--sung`, writes a take to tune.
+//! with the default settings, at 44,100 unless another rate is given; with
+//! `--sung`, writes a take to tune.
 
 use independent::generator::cases::sung;
 use independent::rules::LONGEST_BLOCK;
+use independent::settings::Settings;
 use independent::statistics::Statistics;
+use independent::table::CD;
 use independent::tuner::{Answer, Tuner};
 use independent::words::{words, wrong};
 use std::io::{Read, Write};
 
-const USAGE: &str = "raw [--sung]";
+const USAGE: &str = "raw [--sung | 44100 | 48000]";
 
 fn main() {
     let bytes_of = |samples: &[i16]| -> Vec<u8> {
@@ -18,14 +21,19 @@ fn main() {
             .collect()
     };
     let mut out = std::io::stdout().lock();
-    match words(USAGE).as_slice() {
-        [] => {}
+    let hertz = match words(USAGE).as_slice() {
+        [] => CD,
         [switch] if switch == "--sung" => {
             return out
                 .write_all(&bytes_of(&sung()))
                 .expect("standard output takes the take");
         }
+        [hertz] => hertz.parse().unwrap_or_else(|_| wrong(USAGE)),
         _ => wrong(USAGE),
+    };
+    let (answer, mut tuner) = Tuner::start(hertz, Settings::DEFAULT);
+    if answer != Answer::Taken {
+        wrong(USAGE)
     }
     let mut bytes = Vec::new();
     std::io::stdin()
@@ -35,7 +43,6 @@ fn main() {
         .chunks_exact(2)
         .map(|sample| i16::from_le_bytes([sample[0], sample[1]]))
         .collect();
-    let mut tuner = Tuner::default_start();
     let mut number = 0u16;
     for block in samples.chunks(LONGEST_BLOCK) {
         let mut tuned = vec![0; block.len()];

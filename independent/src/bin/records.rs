@@ -20,8 +20,12 @@ fn asked(bytes: &[u8; SIZE], call: &Call) -> Vec<u8> {
     let mut longs = [0u64; 2];
     let (mut midi, mut samples, mut out): (&[u8], &[i16], &[i16]) = (&[], &[], &[]);
     match call {
-        Call::Start(settings) | Call::Change(settings) => {
-            words[0] = if matches!(call, Call::Start(_)) { 0 } else { 2 };
+        Call::Start(_, settings) | Call::Change(settings) => {
+            // A start's sample rate stands in the place of a block's number.
+            (words[0], words[1]) = match call {
+                Call::Start(hertz, _) => (0, *hertz),
+                _ => (2, 0),
+            };
             words[4..].copy_from_slice(&[
                 settings.scale,
                 settings.eps,
@@ -92,7 +96,7 @@ fn said(from: &mut impl Read, room: usize) -> std::io::Result<(Left, bool)> {
 
 fn name(call: &Call) -> &'static str {
     match call {
-        Call::Start(_) => "start",
+        Call::Start(..) => "start",
         Call::StartDefault => "start_default",
         Call::Change(_) => "change",
         Call::Midi(_) => "midi",

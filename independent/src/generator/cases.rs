@@ -7,6 +7,7 @@ use super::sound::{period_of_note, sing, Passage, Wave};
 use crate::record::{made, Call, Record, LAYOUT, SIZE};
 use crate::rules::{LONGEST_BLOCK, TRACKED};
 use crate::settings::Settings;
+use crate::table::{CD, FILM};
 use crate::tuner::TAKE_LIMIT;
 
 /// Longer blocks and outputs are not lent.
@@ -23,7 +24,7 @@ pub struct Cases {
 impl Cases {
     pub fn seeded(seed: u64) -> Cases {
         let mut random = Random::seeded(seed);
-        let mut reached = vec![Record::fresh(Settings::DEFAULT)];
+        let mut reached = vec![Record::default_start()];
         for _ in 0..40 {
             reach(&mut random, &mut reached);
         }
@@ -56,7 +57,7 @@ impl Cases {
             70..=77 => Call::Change(change(random, &record)),
             78..=84 => Call::Reset,
             85..=93 => Call::Meter,
-            94..=96 => Call::Start(settings(random)),
+            94..=96 => Call::Start(hertz(random), settings(random)),
             97 => Call::StartDefault,
             _ => Call::Cut(long(random), long(random) / 512),
         };
@@ -122,7 +123,7 @@ pub fn sung() -> Vec<i16> {
     ] {
         take.extend([0; 700]);
         let voice = Wave::Partials(vec![1.0, 0.6, 0.3, 0.1]);
-        let passage = Passage::of(voice, period_of_note(note, cents), 8_000)
+        let passage = Passage::of(voice, period_of_note(CD, note, cents), 8_000)
             .swinging(0.003, 8_000.0)
             .loud(9_000.0)
             .breathy(60.0);
@@ -137,7 +138,7 @@ fn reach(random: &mut Random, reached: &mut Vec<Record>) {
     while !allowed.in_range() {
         allowed = settings(random);
     }
-    let mut record = Record::fresh(allowed);
+    let mut record = Record::fresh(random.one_of(&[CD, FILM]), allowed);
     let (mut phase, mut number) = (0.0, 0);
     for _ in 0..random.whole(1, 8) {
         let period = random.one_of(&[17.3, 50.0, 100.2, 187.0, 330.5, 601.0, 870.0]);
@@ -174,6 +175,12 @@ fn reach(random: &mut Random, reached: &mut Vec<Record>) {
         }
         reached.push(record.clone());
     }
+}
+
+/// A sample rate, most often one that there is.
+fn hertz(random: &mut Random) -> u32 {
+    let near = random.one_of(&[CD - 1, CD + 1, FILM - 1, FILM + 1]);
+    random.one_of(&[CD, CD, FILM, FILM, near, 0, 96_000, u32::MAX])
 }
 
 /// Some settings, most of them in their ranges; some have several out of them.
@@ -227,7 +234,7 @@ fn change(random: &mut Random, record: &Record) -> Settings {
 /// Bytes of a keyboard: whole messages, cut ones, or any bytes.
 fn midi(random: &mut Random) -> Vec<u8> {
     let length = random.one_of(&[0, 1, 1, 2, 3, 5, 9, 40, MOST]);
-    let few = [0, 1, 31, 32, 60, 62, 100, 101, 127];
+    let few = [0, 1, 31, 32, 33, 60, 62, 100, 101, 102, 103, 127];
     let kind = random.whole(0, 3);
     let byte = |random: &mut Random| match random.whole(0, 9) {
         0..=6 if kind > 0 => random.one_of(&few),
@@ -245,7 +252,7 @@ fn alter(random: &mut Random, record: &mut Record) {
     let few = random.whole(0, 2) as i64 - 1;
     // Past 32 bits, the rest as it was or 0: what lost high bits would make right.
     let high = random.next() << 32;
-    match random.whole(0, 34) {
+    match random.whole(0, 36) {
         0 => record.settings = settings(random),
         1 => record.count = random.one_of(&[0, 1, 7, 8, 1_763, 1_764, 1_765, 1_791, 1_792]),
         2 => record.count = random.one_of(&[999_999_999, 1_000_000_000, 1_000_000_001, u64::MAX]),
@@ -255,7 +262,10 @@ fn alter(random: &mut Random, record: &mut Record) {
         6 => record.tracking = random.one_of(&[0, 1, high, record.tracking | high, u64::MAX]),
         7 => record.period = random.one_of(&[0, 1, 4_095, 4_096, 225_280, 225_281, u32::MAX]),
         8 => record.period = random.whole(4_096, 225_280) as u32,
-        9 => record.note = random.one_of(&[0, 31, 32, 69, 100, 101, 127, 128, 129, u32::MAX]),
+        9 => {
+            let near = random.one_of(&[31, 32, 33, 100, 101, 102, 103]);
+            record.note = random.one_of(&[0, near, near, 69, 127, 128, 129, u32::MAX]);
+        }
         10 => record.rate = random.one_of(&[0, 32_767, 32_768, 65_536, 131_072, 131_073, u32::MAX]),
         11 => record.rate = random.whole(32_768, 131_072) as u32,
         12 => record.low = random.one_of(&[0, 15, 16, 17, 872, 873, 874, 881, u32::MAX]),
@@ -292,6 +302,11 @@ fn alter(random: &mut Random, record: &mut Record) {
         33 => {
             (record.period, record.rate) = (0, 65_536);
             (record.tracking, record.kept) = (random.one_of(&[0, 1]), random.whole(1, 255) as u32);
+        }
+        34 => record.hertz = random.one_of(&[CD, FILM]).into(),
+        35 => {
+            let some = u64::from(hertz(random));
+            record.hertz = random.one_of(&[some, high, record.hertz | high]);
         }
         _ => {
             let place = random.whole(0, 108);

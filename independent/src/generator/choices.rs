@@ -1,6 +1,7 @@
-//! Settings to start with and to change to, each good or bad: every choice of
-//! good and bad fields in turn.
+//! Settings to start with and to change to, each good or bad, and at a start a
+//! rate: every choice of good and bad fields in turn.
 
+use super::filming::{RATES, UNKNOWN_RATES};
 use super::random::Random;
 use super::script::Moment;
 
@@ -16,14 +17,19 @@ const FIELDS: [Field; 4] = [
     (&[1, 1, 1, 1, 999_999, 1_000_000], &[0, 1_000_001, u32::MAX]),
 ];
 
-/// A change, then a start, with each of the 16 choices of bad fields.
+/// A change, then a start, with each of the 16 choices of bad settings, and a
+/// start with each both at a rate that there is and at one that there is not.
 pub fn choice_line(random: &mut Random, moment: &Moment) -> Option<Vec<u8>> {
     let (word, choice) = (["change", "start"][moment.place % 2], moment.place / 2);
+    let is_bad = |field: usize| choice >> field & 1 == 1;
     let mut line = word.to_string();
     for (field, (good, bad)) in FIELDS.iter().enumerate() {
-        let is_bad = choice >> field & 1 == 1;
-        let value = random.one_of(if is_bad { bad } else { good });
+        let value = random.one_of(if is_bad(field) { bad } else { good });
         line += &format!("\t{value}");
+    }
+    if word == "start" {
+        let at_unknown = is_bad(FIELDS.len());
+        line += random.one_of(if at_unknown { UNKNOWN_RATES } else { RATES });
     }
     Some(line.into_bytes())
 }

@@ -3,6 +3,7 @@
 
 use crate::record::{made, Call, Record, LAYOUT, SIZE};
 use crate::settings::Settings;
+use crate::table::{CD, FILM};
 
 type Alter = fn(&mut Record);
 
@@ -14,9 +15,11 @@ pub const BEGINNING_OF_OLD: u64 = 4_095 | 100 << 32;
 /// Still good, with the sums of what is then kept.
 const GOOD: &[Alter] = &[
     |_| {},
-    |record| *record = Record::fresh(Settings::DEFAULT),
+    |record| *record = Record::default_start(),
+    |record| *record = Record::fresh(FILM, Settings::DEFAULT),
     |record| record.settings = settings([1, 0, 0, 1, 0, 0]),
     |record| record.settings = settings([4_095, 409, 255, 1_000_000, 1, 15]),
+    |record| record.hertz = 48_000,
     |record| keyboard(record, (0, 128, 0)),
     |record| keyboard(record, (127, 191, 127)),
     |record| keyboard(record, (128, 224, 128)),
@@ -45,6 +48,12 @@ const GOOD: &[Alter] = &[
     |record| record.note = 100,
     |record| record.note = 101,
     |record| record.note = 127,
+    // Each rate has its own table.
+    |record| filmed(record, 32),
+    |record| filmed(record, 33),
+    |record| filmed(record, 101),
+    |record| filmed(record, 102),
+    |record| filmed(record, 103),
     // No wanted note.
     |record| record.note = 128,
     |record| record.rate = 32_768,
@@ -72,6 +81,15 @@ const GOOD: &[Alter] = &[
     |record| stepping(record, (255, 255), 66_505),
     |record| stepping(record, (200, 254), 66_506),
     |record| stepping(record, (1, 1), 65_536),
+    // A step by the table of the other rate, also toward a key that is in one of them alone.
+    |record| {
+        stepping(record, (0, 0), 65_536);
+        record.hertz = 48_000;
+    },
+    |record| stepping_to(record, 44_100, 32),
+    |record| stepping_to(record, 48_000, 32),
+    |record| stepping_to(record, 44_100, 101),
+    |record| stepping_to(record, 48_000, 101),
     |record| {
         stepping(record, (255, 255), 65_536);
         record.settings.eps = 0;
@@ -112,6 +130,16 @@ const BAD: &[Alter] = &[
     |record| record.settings.mode = u32::MAX,
     |record| record.settings.channel = 16,
     |record| record.settings.channel = u32::MAX,
+    |record| record.hertz = 0,
+    |record| record.hertz = 44_099,
+    |record| record.hertz = 44_101,
+    |record| record.hertz = 47_999,
+    |record| record.hertz = 48_001,
+    |record| record.hertz = 96_000,
+    |record| record.hertz += PAST_32_BITS,
+    |record| record.hertz = u64::MAX,
+    |record| alone(record, |fresh| fresh.hertz = 0),
+    |record| alone(record, |fresh| fresh.hertz = 48_000 + PAST_32_BITS),
     |record| keyboard(record, (129, 0, 128)),
     |record| keyboard(record, (256, 0, 128)),
     |record| keyboard(record, (u32::MAX, 0, 128)),
@@ -211,6 +239,11 @@ fn settings([scale, eps, decay, floor, mode, channel]: [u32; 6]) -> Settings {
     }
 }
 
+/// At 48,000, with this note wanted.
+fn filmed(record: &mut Record, note: u32) {
+    (record.hertz, record.note) = (FILM.into(), note);
+}
+
 fn keyboard(record: &mut Record, (key, status, half): (u32, u16, u16)) {
     (record.key, record.status, record.half) = (key, status, half);
 }
@@ -225,15 +258,22 @@ fn stepping(record: &mut Record, (decay, kept): (u32, u32), rate: u32) {
     (record.rate, record.count) = (rate, 2_402);
 }
 
+/// The same at this rate in keyboard mode, with this key held.
+fn stepping_to(record: &mut Record, hertz: u64, key: u32) {
+    stepping(record, (0, 0), 65_536);
+    (record.hertz, record.settings.mode) = (hertz, 1);
+    keyboard(record, (key, 144, 128));
+}
+
 /// A fresh record in the place of this one, so that nothing else is altered.
 fn alone(record: &mut Record, alter: Alter) {
-    *record = Record::fresh(Settings::DEFAULT);
+    *record = Record::default_start();
     alter(record);
 }
 
 /// A record that is pitched, after 2,400 samples of a square wave.
 fn pitched() -> Record {
-    let mut bytes = Record::fresh(Settings::DEFAULT).bytes();
+    let mut bytes = Record::default_start().bytes();
     let samples: Vec<i16> = (0..480).map(|at| 9_000 * (at / 48 % 2) - 4_500).collect();
     for number in 0..5 {
         let call = Call::Block {
@@ -281,10 +321,11 @@ fn one_of_each<const ROWS: usize>(rows: [&[u32]; ROWS]) -> Vec<[u32; ROWS]> {
     choices
 }
 
-/// Starts and changes with every choice of good and bad settings, and with each at either bound, over a record that is pitched and
-/// holds a key.
+/// Starts and changes with every choice of good and bad settings, and with each at either bound, over a record at 48,000 that is pitched
+/// and holds a key; each start also at a rate that is unknown.
 pub fn choices() -> Vec<(Record, Call)> {
     let mut pitched = pitched();
+    pitched.hertz = FILM.into();
     keyboard(&mut pitched, (60, 144, 62));
     let rows: [&[u32]; 6] = [
         &[4_095, 4_096],
@@ -301,8 +342,10 @@ pub fn choices() -> Vec<(Record, Call)> {
         [1, 409, 255, 1_000_001, 2, 16],
         [1, 0, 0, 1, 1, 0],
     ]);
-    let chosen = chosen.into_iter().map(settings);
-    let calls = chosen.flat_map(|chosen| [Call::Start(chosen), Call::Change(chosen)]);
+    let calls = chosen.into_iter().map(settings).flat_map(|chosen| {
+        let starts = [CD, FILM, CD + 1].map(|hertz| Call::Start(hertz, chosen));
+        starts.into_iter().chain([Call::Change(chosen)])
+    });
     calls.map(|call| (pitched.clone(), call)).collect()
 }
 

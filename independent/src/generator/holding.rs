@@ -1,7 +1,7 @@
 //! Beside notes that are held: lines that follow a block, with decays from 200
 //! to 255, and with keys.
 
-use super::player::{midi, sung_key, velocity, NOTE_OFF, NOTE_ON};
+use super::player::{midi, struck, sung_key, NOTE_OFF, NOTE_ON};
 use super::random::Random;
 use super::script::Moment;
 
@@ -40,7 +40,7 @@ pub fn keys(random: &mut Random, moment: &Moment) -> Option<Vec<u8>> {
     let sung = sung_key(moment);
     let key = random.one_of(&[sung - 2, sung - 1, sung, sung, sung + 1, sung + 2]);
     let line = match random.whole(0, 99) {
-        0..=7 => midi(&[NOTE_ON, key, velocity(random)]),
+        0..=7 => struck(key, random),
         8..=9 => midi(&[NOTE_ON, key, 0]),
         10 => midi(&[NOTE_OFF, key, 64]),
         // Struck and released at once; and released, whichever it is.

@@ -7,9 +7,10 @@ use crate::lines::LONGEST_LINE;
 use crate::rules::LONGEST_BLOCK;
 
 /// A line of each record that would be taken, NEXT being the block's number.
-/// The block comes last, since its line grows with that number.
+/// The block comes last, since its line grows with that number. A start without
+/// its rate is what is left of this one when it is cut.
 const RECORDS: [&str; 7] = [
-    "start\t4095\t100\t0\t100",
+    "start\t4095\t100\t0\t100\t48000",
     "change\t4095\t100\t0\t100",
     "reset",
     "mode\t1",
@@ -146,6 +147,9 @@ const OTHER_NUMBERS: &[&str] = &[
     "4096",
     "32767",
     "32768",
+    "44100",
+    "44101",
+    "47999",
     "-32768",
     "-32769",
     "65535",
@@ -278,7 +282,7 @@ pub fn hostile_line(random: &mut Random, moment: &Moment) -> Option<Vec<u8>> {
 fn line_by_chance(random: &mut Random, next: u16) -> Vec<u8> {
     const PIECES: &[&str] = &[
         "start", "change", "block", "reset", "mode", "channel", "midi", "\t", "\t", "\t", "\t",
-        "\t", "0", "7", "144", "65535", "-", " ", "\r", "\0", "\n",
+        "\t", "0", "7", "144", "48000", "65535", "-", " ", "\r", "\0", "\n",
     ];
     match random.whole(0, 2) {
         0 => {

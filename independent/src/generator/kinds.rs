@@ -1,13 +1,14 @@
 //! The kinds of script: what is sung, and how it is sent.
 
 use super::choices::choice_line;
+use super::filming;
 use super::holding;
 use super::hostile::{endless_line, hostile_line};
 use super::player;
 use super::random::Random;
 use super::script::Moment;
 use super::sound::{period_of_note, Passage, Wave};
-use crate::table::{HIGHEST_NOTE, LOWEST_NOTE};
+use crate::table::{notes_at, CD, FILM};
 
 /// The loudest sample.
 const FULL: f64 = 32_768.0;
@@ -206,6 +207,24 @@ pub const KINDS: &[Kind] = &[
         ..played("keys", "keys struck under held notes", sustained)
     },
     Kind {
+        settings: Some("4095\t409\t0\t1\t48000"),
+        changes: 0,
+        ..kind("film", "every note from 33 to 102, at 48,000", film)
+    },
+    Kind {
+        settings: Some("4095\t409\t0\t1\t48000"),
+        lengths: (1, 200),
+        changes: 0,
+        following: Some(filming::switches),
+        ..kind("rates", "starts at both rates, and refused ones", both)
+    },
+    Kind {
+        settings: Some("4095\t409\t0\t1\t48000"),
+        lengths: (1, 60),
+        following: Some(filming::ends),
+        ..played("ends", "keys at the ends of both tables", at_the_ends)
+    },
+    Kind {
         settings: Some("4095\t409\t0\t1"),
         lengths: (1, 4),
         changes: 0,
@@ -240,24 +259,66 @@ fn voice(random: &mut Random, first: f64) -> Wave {
     Wave::Partials(strengths.iter().map(|strength| strength / sum).collect())
 }
 
-/// Leaps of 25 notes come to each of the 69 before any comes again.
 fn tones(random: &mut Random, place: usize) -> Passage {
-    let note = LOWEST_NOTE + 25 * place % (HIGHEST_NOTE - LOWEST_NOTE + 1);
+    tones_at(CD, random, place)
+}
+
+/// The notes of this rate's table, one after the other: leaps of 25 come to each
+/// of 69 before any comes again, and leaps of 29 to each of 70.
+fn tones_at(hertz: u32, random: &mut Random, place: usize) -> Passage {
+    let notes: Vec<usize> = notes_at(hertz).collect();
+    let leap = if hertz == CD { 25 } else { 29 };
+    let note = notes[leap * place % notes.len()];
     let cents = match random.whole(0, 2) {
         0 => 0.0,
         1 => random.real(-8.0, 8.0),
         _ => random.real(-55.0, 55.0),
     };
-    let period = period_of_note(note, cents);
+    let period = period_of_note(hertz, note, cents);
     let length = (6.0 * period) as usize + random.whole(500, 3_000);
     Passage::of(voice(random, 1.0), period, length)
         .loud(random.real(500.0, FULL))
         .breathy(random.one_of(&[0.0, 0.0, 20.0, 200.0]))
 }
 
+/// Every note of the table at 48,000.
+fn film(random: &mut Random, place: usize) -> Passage {
+    glided_up_to(tones_at(FILM, random, place), random)
+}
+
+/// The notes of either table.
+fn both(random: &mut Random, place: usize) -> Passage {
+    tones_at([CD, FILM][place % 2], random, place)
+}
+
+/// The first and the last notes of either table.
+fn at_the_ends(random: &mut Random, place: usize) -> Passage {
+    let hertz = random.one_of(&[CD, FILM]);
+    let note = [random.whole(32, 34), random.whole(99, 103)][place % 2];
+    let period = period_of_note(hertz, note, random.real(-20.0, 20.0));
+    let length = random.whole(2_500, 5_000);
+    let passage = Passage::of(voice(random, 1.0), period, length);
+    glided_up_to(passage.loud(random.real(2_000.0, 30_000.0)), random)
+}
+
+/// What is too high to be found by itself, its cycle being shorter than the
+/// shortest lag that is found, is glided up to from a note that is.
+fn glided_up_to(passage: Passage, random: &mut Random) -> Passage {
+    const FOUND: f64 = 40.0;
+    let period = passage.to;
+    if period > 26.0 {
+        return passage;
+    }
+    let length = ((FOUND - period) / random.real(0.004, 0.02)) as usize;
+    Passage {
+        from: FOUND,
+        ..passage.lasting(length)
+    }
+}
+
 /// One tone among the keys of the melody, as long as the melody.
 fn held(random: &mut Random, _: usize) -> Passage {
-    let period = period_of_note(random.whole(58, 61), random.real(-50.0, 50.0));
+    let period = period_of_note(CD, random.whole(58, 61), random.real(-50.0, 50.0));
     let length = 64 * player::TONE * player::MELODY.len();
     Passage::of(voice(random, 1.0), period, length)
         .swinging(random.real(0.001, 0.008), random.real(3_000.0, 8_000.0))
@@ -268,7 +329,7 @@ fn held(random: &mut Random, _: usize) -> Passage {
 /// come nearest to the bounds of the raw rate.
 fn in_tune(random: &mut Random, _: usize) -> Passage {
     let highest = random.one_of(&[64, 64, 99]);
-    let period = period_of_note(random.whole(33, highest), 0.0);
+    let period = period_of_note(CD, random.whole(33, highest), 0.0);
     let past = random.one_of(&[0.9993, 1.0007]);
     let length = random.whole(3_000, 6_000);
     Passage::of(voice(random, 1.0), period * past, length)
@@ -455,7 +516,7 @@ fn sustained(random: &mut Random, _: usize) -> Passage {
     let length = random.whole(12_000, 20_000);
     let passage = match random.whole(0, 2) {
         0 => {
-            let period = period_of_note(random.whole(45, 70), random.real(-50.0, 50.0));
+            let period = period_of_note(CD, random.whole(45, 70), random.real(-50.0, 50.0));
             Passage::of(voice(random, 1.0), period, length)
         }
         _ => {

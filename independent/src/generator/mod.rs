@@ -6,6 +6,7 @@
 pub mod cases;
 mod choices;
 pub mod edges;
+mod filming;
 mod holding;
 mod hostile;
 pub mod kinds;

@@ -28,7 +28,7 @@ pub const NIGHT: &[(&str, u64, usize)] = &[
     ("brim", 70, 8_000),
     ("settings", 16, 8_000),
     ("choices", 20, 5_000),
-    ("ones", 22, 6_000),
+    ("ones", 17, 6_000),
     ("rough", 6, 16_000),
     ("unreadable", 52, 2_000),
     ("mixed", 70, 8_000),
@@ -42,7 +42,10 @@ pub const NIGHT: &[(&str, u64, usize)] = &[
     ("goals", 19, 24_000),
     ("decays", 164, 8_000),
     ("keys", 48, 10_000),
-    ("hostile", 29, 8_600),
+    ("film", 9, 8_000),
+    ("rates", 231, 10_000),
+    ("ends", 236, 9_000),
+    ("hostile", 29, 9_400),
 ];
 
 /// Each script begins anew, and the last line lacks its end.

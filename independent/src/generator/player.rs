@@ -16,12 +16,18 @@ pub fn midi(bytes: &[u8]) -> Vec<u8> {
 
 /// The key nearest to what is sung.
 pub fn sung_key(moment: &Moment) -> u8 {
-    wanted_note(4_095, (PERIOD_UNIT as f64 * moment.period) as i64) as u8
+    let period = (PERIOD_UNIT as f64 * moment.period) as i64;
+    wanted_note(moment.hertz, 4_095, period) as u8
 }
 
 /// A velocity of a note on.
 pub fn velocity(random: &mut Random) -> u8 {
     random.one_of(&[1, 64, 100, 127])
+}
+
+/// The line that strikes this key.
+pub fn struck(key: u8, random: &mut Random) -> Vec<u8> {
+    midi(&[NOTE_ON, key, velocity(random)])
 }
 
 /// The melody's keys, so many blocks each, the last of them without the key.
@@ -97,14 +103,14 @@ pub fn octaves(random: &mut Random, moment: &Moment) -> Option<Vec<u8>> {
     let near = random.one_of(&[-24, -13, -11, 11, 13, 24]);
     let apart = random.one_of(&[-12, -12, 12, 12, near]);
     let key = (sung + apart).clamp(0, 127) as u8;
-    Some(midi(&[NOTE_ON, key, velocity(random)]))
+    Some(struck(key, random))
 }
 
 /// Keys outside the table and at its ends.
 pub fn outside(random: &mut Random, _: &Moment) -> Option<Vec<u8>> {
     let key = random.one_of(&[0, 1, 30, 31, 32, 33, 99, 100, 101, 102, 126, 127]);
     match random.whole(0, 9) {
-        0..=2 => Some(midi(&[NOTE_ON, key, velocity(random)])),
+        0..=2 => Some(struck(key, random)),
         3 => Some(midi(&[NOTE_ON, key, 0])),
         _ => None,
     }

@@ -1,11 +1,14 @@
 //! A script: the sound of a kind cut into blocks, with what else is sent.
 
+use super::filming::{any_rate, RATES};
 use super::kinds::Kind;
 use super::random::Random;
 use super::sound::sing;
 use super::spoilt::{filled_line, spoilt_line};
 use crate::lines::{Record, LONGEST_LINE};
 use crate::rules::LONGEST_BLOCK;
+use crate::table::CD;
+use crate::tuner::{Answer, Tuner};
 use std::io::{self, Write};
 
 /// Writes the script of a kind and a seed that has at least so many samples
@@ -22,11 +25,13 @@ pub fn write_script(
         kind,
         passages: random.whole(0, 99),
         random,
+        rates: rates_of(kind, seed),
         to,
         sung: Vec::new(),
         phase: 0.0,
         period: 0.0,
         followed: 0,
+        hertz: CD,
         last: None,
     };
     script.open()?;
@@ -41,6 +46,13 @@ pub fn write_script(
     script.close()
 }
 
+/// Chance for the rates on start lines alone, so that all else of a script is
+/// what it would be without them; other kinds have others.
+fn rates_of(kind: &Kind, seed: u64) -> Random {
+    let bytes = kind.name.bytes().map(u64::from);
+    Random::seeded(bytes.fold(!seed, |mixed, byte| mixed.rotate_left(8) ^ byte))
+}
+
 /// What stands when a block was sent and something may follow it.
 pub struct Moment {
     /// The place among such moments.
@@ -49,6 +61,8 @@ pub struct Moment {
     pub next: u16,
     /// The period with which the passage that is sung began, in samples.
     pub period: f64,
+    /// The sample rate in force.
+    pub hertz: u32,
 }
 
 /// The same in memory.
@@ -61,6 +75,7 @@ pub fn script(kind: &Kind, seed: u64, samples: usize) -> Vec<u8> {
 struct Script<'a, W> {
     kind: &'a Kind,
     random: Random,
+    rates: Random,
     to: W,
     /// Sung and not yet sent.
     sung: Vec<i16>,
@@ -71,6 +86,8 @@ struct Script<'a, W> {
     passages: usize,
     /// How often something might follow a block.
     followed: usize,
+    /// The sample rate of the last start that was taken.
+    hertz: u32,
     /// The last block that was taken.
     last: Option<(u16, Vec<i16>)>,
 }
@@ -119,6 +136,7 @@ impl<W: Write> Script<'_, W> {
                 place: self.followed,
                 next: self.next(),
                 period: self.period,
+                hertz: self.hertz,
             };
             self.followed += 1;
             if let Some(line) = following(&mut self.random, &moment) {
@@ -222,7 +240,14 @@ impl<W: Write> Script<'_, W> {
         let some = random.whole(1, 1_000_000);
         let floor = random.one_of(&[1, 1, 10, 100, 10_000, some]);
         let line = format!("{word}\t{scale}\t{eps}\t{decay}\t{floor}");
-        self.send(line.as_bytes())
+        let rate = self.rates.one_of(RATES);
+        self.send_with_rate(&line, rate)
+    }
+
+    /// Sends a start with this rate behind it, and a change as it is.
+    fn send_with_rate(&mut self, line: &str, rate: &str) -> io::Result<()> {
+        let rate = if line.starts_with("start") { rate } else { "" };
+        self.send(format!("{line}{rate}").as_bytes())
     }
 
     /// Settings that can be read, one or more of them out of range.
@@ -238,7 +263,8 @@ impl<W: Write> Script<'_, W> {
             "4294967295\t4294967295\t4294967295\t4294967295",
             "0000000000000000000000000\t0\t0\t0",
         ]);
-        self.send(format!("{word}\t{settings}").as_bytes())
+        let rate = any_rate(&mut self.rates);
+        self.send_with_rate(&format!("{word}\t{settings}"), rate)
     }
 
     fn send_block(&mut self, number: u16, samples: &[i16]) -> io::Result<()> {
@@ -259,7 +285,12 @@ impl<W: Write> Script<'_, W> {
                         self.last = Some((number, samples));
                     }
                 }
-                Some(Record::Start(settings)) if settings.in_range() => self.last = None,
+                Some(Record::Start(hertz, settings)) => {
+                    let hertz = hertz.unwrap_or(CD);
+                    if Tuner::answer_to_start(hertz, &settings) == Answer::Taken {
+                        (self.hertz, self.last) = (hertz, None);
+                    }
+                }
                 Some(Record::Reset) => self.last = None,
                 _ => {}
             }

@@ -139,15 +139,16 @@ pub fn two_to(x: f64) -> f64 {
     (0..doublings.abs()).fold(part, |value, _| value * factor)
 }
 
-/// The period of a note, in samples, so many cents above it.
-pub fn period_of_note(note: usize, cents: f64) -> f64 {
+/// The period of a note at this sample rate, in samples, so many cents above it.
+pub fn period_of_note(hertz: u32, note: usize, cents: f64) -> f64 {
     let octaves = (note as f64 - 69.0 + cents / 100.0) / 12.0;
-    44_100.0 / 440.0 / two_to(octaves)
+    f64::from(hertz) / 440.0 / two_to(octaves)
 }
 
 #[cfg(test)]
 mod tests {
     use super::*;
+    use crate::table::{CD, FILM};
 
     #[test]
     fn sine_and_powers_are_right() {
@@ -158,7 +159,8 @@ mod tests {
             let right = turns.exp2();
             assert!((two_to(turns) - right).abs() < 1e-12 * right);
         }
-        assert!((period_of_note(69, 0.0) - 100.227_272).abs() < 1e-5);
-        assert!((period_of_note(57, -1_200.0) - 400.909_090).abs() < 1e-5);
+        assert!((period_of_note(CD, 69, 0.0) - 100.227_272).abs() < 1e-5);
+        assert!((period_of_note(CD, 57, -1_200.0) - 400.909_090).abs() < 1e-5);
+        assert!((period_of_note(FILM, 69, 0.0) - 109.090_909).abs() < 1e-5);
     }
 }
