@@ -1,4 +1,4 @@
-/* Daxfolin for C: a proved tuner for one sung voice, mono, 16-bit samples, 44,100 a second.
+/* Daxfolin for C: a proved tuner for one sung voice, mono, 16-bit samples, 44,100 or 48,000 a second.
  *
  * Each function below is proved (crates/host): for any bytes in the record, any settings, any block and any lengths it comes to an end,
  * does nothing undefined, and answers as said here. It takes no memory of its own but under 32 KB of stack, has no state outside the
@@ -10,7 +10,7 @@
  * or host/build program.c OUT for both, also where the processor is another one (docs/HOST.md).
  *
  * What the proof takes for granted of the caller, as C cannot say it:
- * - a record is lent at an address that is a multiple of 8, all its 6968 bytes readable and, but for daxfolin_meter, writable;
+ * - a record is lent at an address that is a multiple of 8, all its 6976 bytes readable and, but for daxfolin_meter, writable;
  *   daxfolin_start and daxfolin_start_default write them all and read none, so there it may be fresh memory;
  * - `samples` and `out` stand at even addresses, with as many samples behind them as the length beside them says, and `bytes` anywhere,
  *   likewise; of a length of 0 nothing is read or written;
@@ -25,14 +25,17 @@
 extern "C" {
 #endif
 
-#define DAXFOLIN_VERSION 7u                /* of these calls: what daxfolin_version() answers */
-#define DAXFOLIN_LAYOUT 20005u             /* of the record: what stands first in it */
+#define DAXFOLIN_VERSION 8u                /* of these calls: what daxfolin_version() answers */
+#define DAXFOLIN_LAYOUT 20006u             /* of the record: what stands first in it */
 #define DAXFOLIN_LONGEST_BLOCK 512u        /* samples of a block */
 #define DAXFOLIN_LONGEST_TAKE 1000000000u  /* samples of a take */
+#define DAXFOLIN_CD 44100u                 /* the sample rates, in samples a second */
+#define DAXFOLIN_FILM 48000u
 
 /* The answers. After a refusal, any number from 2 on, the record is as it was, and so is every sample of the output; but a start that
- * is refused (8, 11 to 15) leaves the default tuner in the record, and what that held is gone. Of settings the first bad one is named,
- * in the order scale, eps, decay, floor, channel, mode. 10 answers lines that cannot be read, and so none of these calls. */
+ * is refused (8, 11 to 16) leaves the default tuner in the record, and what that held is gone. Of a start the sample rate is looked at
+ * first. Of settings the first bad one is named, in the order scale, eps, decay, floor, channel, mode. 10 answers lines that cannot be
+ * read, and so none of these calls. */
 enum {
     DAXFOLIN_TAKEN = 0,                 /* taken: start, change, keyboard bytes, block or reset */
     DAXFOLIN_GIVEN_AGAIN = 1,           /* the last block's number, length and samples: the same counts and output again, record unchanged */
@@ -42,13 +45,14 @@ enum {
     DAXFOLIN_NUMBER_NEITHER = 5,        /* neither the next number nor the last taken */
     DAXFOLIN_OTHER_SAMPLES = 6,         /* the last taken number, other length or samples */
     DAXFOLIN_TAKE_FULL = 7,             /* the take would pass 1,000,000,000 samples */
-    DAXFOLIN_SCALE_OUT_OF_RANGE = 8,    /* 0, or over 4095; here and from 11 on, a change leaves the record as it was, a start the default tuner */
+    DAXFOLIN_SCALE_OUT_OF_RANGE = 8,    /* 0, or over 4095; here and from 11 to 15, a change leaves the record as it was, a start the default tuner */
     DAXFOLIN_RECORD_OUT_OF_RANGE = 9,   /* a number of the record is out of its range (docs/RANGES.md), its layout's among them */
     DAXFOLIN_EPS_OUT_OF_RANGE = 11,     /* over 409 */
     DAXFOLIN_DECAY_OUT_OF_RANGE = 12,   /* over 255 */
     DAXFOLIN_FLOOR_OUT_OF_RANGE = 13,   /* 0, or over 1,000,000 */
     DAXFOLIN_CHANNEL_OUT_OF_RANGE = 14, /* over 15 */
-    DAXFOLIN_MODE_UNKNOWN = 15          /* over 1 */
+    DAXFOLIN_MODE_UNKNOWN = 15,         /* over 1 */
+    DAXFOLIN_RATE_UNKNOWN = 16          /* neither 44,100 nor 48,000: a start's alone, before the settings; it leaves the default tuner */
 };
 
 /* The modes: whose note is wanted. */
@@ -63,7 +67,7 @@ typedef struct daxfolin_settings {
     uint32_t channel; /* 0 to 15: the keyboard's */
 } daxfolin_settings;
 
-/* What daxfolin_start_default starts with: `daxfolin_settings settings = DAXFOLIN_DEFAULTS;`. */
+/* What daxfolin_start_default starts with, at 44,100: `daxfolin_settings settings = DAXFOLIN_DEFAULTS;`. */
 #define DAXFOLIN_DEFAULTS {4095, 100, 0, 100, 0, 0}
 
 /* What the keyboard's bytes left. */
@@ -123,6 +127,7 @@ typedef struct daxfolin_last {
 typedef struct daxfolin_record {
     uint64_t layout; /* DAXFOLIN_LAYOUT */
     daxfolin_settings settings;
+    uint64_t hertz; /* the sample rate, 44,100 or 48,000, which only a start gives; a record with any other number here is answered 9 */
     daxfolin_keyboard keyboard;
     daxfolin_heard heard;
     daxfolin_pitch pitch;
@@ -145,7 +150,7 @@ typedef struct daxfolin_shown {
     uint32_t state;
     float lag;    /* locking: the found lag, in samples */
     float period; /* pitched: in samples */
-    float wanted; /* pitched: the wanted period, in samples; 0 where no key is held, or one outside the table of notes 32 to 100 */
+    float wanted; /* pitched: the wanted period, in samples; 0 where no key is held, or one outside the table: notes 32 to 100 at 44,100, 33 to 102 at 48,000 */
     float rate;   /* pitched: as a ratio */
 } daxfolin_shown;
 
@@ -170,12 +175,13 @@ DAXFOLIN_SAME(sizeof(daxfolin_pitch), 136 + 16 + 8);
 DAXFOLIN_SAME(sizeof(daxfolin_head), 8);
 DAXFOLIN_SAME(sizeof(daxfolin_last), 4 * 2 + 512 * 2);
 DAXFOLIN_SAME(offsetof(daxfolin_record, settings), 8);
-DAXFOLIN_SAME(offsetof(daxfolin_record, keyboard), 32);
-DAXFOLIN_SAME(offsetof(daxfolin_record, heard), 40);
-DAXFOLIN_SAME(offsetof(daxfolin_record, pitch), 5768);
-DAXFOLIN_SAME(offsetof(daxfolin_record, head), 5928);
-DAXFOLIN_SAME(offsetof(daxfolin_record, last), 5936);
-DAXFOLIN_SAME(sizeof(daxfolin_record), 6968);
+DAXFOLIN_SAME(offsetof(daxfolin_record, hertz), 32);
+DAXFOLIN_SAME(offsetof(daxfolin_record, keyboard), 40);
+DAXFOLIN_SAME(offsetof(daxfolin_record, heard), 48);
+DAXFOLIN_SAME(offsetof(daxfolin_record, pitch), 5776);
+DAXFOLIN_SAME(offsetof(daxfolin_record, head), 5936);
+DAXFOLIN_SAME(offsetof(daxfolin_record, last), 5944);
+DAXFOLIN_SAME(sizeof(daxfolin_record), 6976);
 DAXFOLIN_SAME(sizeof(daxfolin_answer), 12);
 DAXFOLIN_SAME(sizeof(daxfolin_shown), 20);
 DAXFOLIN_SAME(sizeof(size_t), 8);
@@ -184,15 +190,15 @@ DAXFOLIN_SAME(sizeof(size_t), 8);
 /* The version of these calls: DAXFOLIN_VERSION. */
 uint32_t daxfolin_version(void);
 
-/* A fresh tuner with these settings. 0; or the number of the first bad setting (8, 11 to 15), and the record is not as it was: it is
- * the default tuner. */
-uint32_t daxfolin_start(daxfolin_record *record, daxfolin_settings settings);
+/* A fresh tuner at this sample rate, DAXFOLIN_CD or DAXFOLIN_FILM, with these settings. 0; or 16, then the number of the first bad
+ * setting (8, 11 to 15), and the record is not as it was: it is the default tuner, at 44,100. */
+uint32_t daxfolin_start(daxfolin_record *record, uint32_t hertz, daxfolin_settings settings);
 
-/* A fresh tuner with the default settings. 0. */
+/* A fresh tuner with the default settings, at 44,100. 0. */
 uint32_t daxfolin_start_default(daxfolin_record *record);
 
-/* New settings, which count from the next sample; another channel than the one in force forgets the key, the running status and any
- * half message. 0; or 9, then the number of the first bad setting (8, 11 to 15), and the record is as it was. */
+/* New settings, which count from the next sample, at the same sample rate; another channel than the one in force forgets the key, the
+ * running status and any half message. 0; or 9, then the number of the first bad setting (8, 11 to 15), and the record is as it was. */
 uint32_t daxfolin_change(daxfolin_record *record, daxfolin_settings settings);
 
 /* Bytes of a keyboard, MIDI 1.0, between blocks: any bytes, cut anywhere, and in both modes. The key that they leave counts from the
@@ -204,7 +210,8 @@ uint32_t daxfolin_midi(daxfolin_record *record, const uint8_t *bytes, size_t len
 daxfolin_answer daxfolin_block(daxfolin_record *record, uint16_t number, const int16_t *samples, size_t samples_length, int16_t *out,
                                size_t out_length);
 
-/* Settings kept, everything else fresh, the key, the running status and any half message forgotten. 0; or 9, and the record is as it was. */
+/* Sample rate and settings kept, everything else fresh, the key, the running status and any half message forgotten. 0; or 9, and the
+ * record is as it was. */
 uint32_t daxfolin_reset(daxfolin_record *record);
 
 /* What the meter shows: searching; or locking; or pitched; or refused, of a record that the other calls answer 9. */

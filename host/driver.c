@@ -2,7 +2,8 @@
  * cannot link the library itself. Every buffer stands between guards; a touched guard or sample in is an answer of its own.
  *
  * Asked:    call, number, two lengths, settings, two numbers for a cut (`asked`), then the record, the samples and the output as they
- *           are; bytes of the keyboard stand in the place of samples, the first length being theirs.
+ *           are; bytes of the keyboard stand in the place of samples, the first length being theirs, and a start's sample rate in that
+ *           of a block's number.
  * Answered: number and counts, the meter, a stretch, whether something else was touched (`said`), then the record and the output. */
 #include "daxfolin.h"
 #include <stdio.h>
@@ -61,9 +62,10 @@ static int misnamed(void) {
     daxfolin_settings settings = {1, 2, 3, 4, 1, 6};
     uint8_t bytes[4] = {150, 60, 100, 62};
     int16_t block[3] = {1000, -1000, 500}, room[3];
-    if (daxfolin_start(&t, settings) || daxfolin_midi(&t, bytes, 4) || daxfolin_block(&t, 0, block, 3, room, 3).number) return 1;
-    if (t.layout != DAXFOLIN_LAYOUT || memcmp(&t.settings, &settings, sizeof settings) || t.keyboard.key != 60 ||
-        t.keyboard.status != 150 || t.keyboard.half != 62 || t.heard.count != 3 ||
+    if (daxfolin_start(&t, 0, settings) != DAXFOLIN_RATE_UNKNOWN || t.hertz != DAXFOLIN_CD) return 1;
+    if (daxfolin_start(&t, DAXFOLIN_FILM, settings) || daxfolin_midi(&t, bytes, 4) || daxfolin_block(&t, 0, block, 3, room, 3).number) return 1;
+    if (t.layout != DAXFOLIN_LAYOUT || memcmp(&t.settings, &settings, sizeof settings) || t.hertz != DAXFOLIN_FILM ||
+        t.keyboard.key != 60 || t.keyboard.status != 150 || t.keyboard.half != 62 || t.heard.count != 3 ||
         memcmp(t.heard.store + 1761, block, sizeof block) || t.pitch.tone.note != 128 || t.pitch.tone.rate != 65536 ||
         t.pitch.tone.kept || t.pitch.tracking || t.head.behind || t.last.length != 3 || memcmp(t.last.out, room, sizeof room))
         return 1;
@@ -75,8 +77,16 @@ static int misnamed(void) {
     return daxfolin_meter(&t).state != DAXFOLIN_REFUSED;
 }
 
+/* The header's default settings are those of the start with the defaults. */
+static int misdefaulted(void) {
+    static daxfolin_record by_default, by_hand;
+    daxfolin_settings settings = DAXFOLIN_DEFAULTS;
+    if (daxfolin_start_default(&by_default) || daxfolin_start(&by_hand, DAXFOLIN_CD, settings)) return 1;
+    return memcmp(&by_default, &by_hand, sizeof by_hand);
+}
+
 int main(void) {
-    if (misnamed()) return 4;
+    if (misnamed() || misdefaulted()) return 4;
     struct asked asked;
     while (fread(&asked, sizeof asked, 1, stdin) == 1) {
         struct said said = {0};
@@ -90,7 +100,7 @@ int main(void) {
         get(out + GUARD, 2 * out_length);
         memcpy(in_was, in, sizeof in);
         switch (asked.call) {
-        case START: said.number = daxfolin_start(&lent.record, asked.settings); break;
+        case START: said.number = daxfolin_start(&lent.record, asked.number, asked.settings); break;
         case START_DEFAULT: said.number = daxfolin_start_default(&lent.record); break;
         case CHANGE: said.number = daxfolin_change(&lent.record, asked.settings); break;
         case BLOCK: answer(&said, daxfolin_block(&lent.record, (uint16_t)asked.number, in + GUARD, samples_length, out + GUARD, out_length)); break;

@@ -1,7 +1,8 @@
-/* Tunes a raw recording: mono, 16-bit signed samples, low byte first, 44,100 a second.
+/* Tunes a raw recording: mono, 16-bit signed samples, low byte first, 44,100 a second, or 48,000 where that is said.
  *
  *     host/build host/example.c target/example
  *     tools/run target/example sung.raw tuned.raw
+ *     tools/run target/example film.raw tuned.raw 48000
  *
  * The whole take is read and tuned before OUT is opened, so OUT may be IN, and OUT is as it was where the take is refused.
  * Status 0; 1 where a file cannot be read, tuned or written; 2 where the words are wrong. */
@@ -11,8 +12,13 @@
 #include <stdlib.h>
 #include <string.h>
 
-static const char usage[] = "usage: example IN OUT\n"
-                            "Tunes IN, raw samples (mono, 16 bits, low byte first, 44,100 a second), to the nearest notes, and writes OUT.\n";
+static const char usage[] = "usage: example IN OUT [44100 | 48000]\n"
+                            "Tunes IN, raw samples (mono, 16 bits, low byte first, 44,100 a second unless said), to the nearest notes, and writes OUT.\n";
+
+static int wrong(void) {
+    fputs(usage, stderr);
+    return 2;
+}
 
 static int fail(const char *file, const char *what) {
     fprintf(stderr, "example: %s: %s\n", file, what);
@@ -57,6 +63,12 @@ static int16_t *read_all(const char *file, size_t *count) {
     return (int16_t *)bytes;
 }
 
+/* The sample rate that a word says; or 0, which is none. */
+static uint32_t rate_of(const char *word) {
+    if (!strcmp(word, "44100")) return DAXFOLIN_CD;
+    return strcmp(word, "48000") ? 0 : DAXFOLIN_FILM;
+}
+
 static int write_all(const char *file, const int16_t *samples, size_t count) {
     FILE *to = fopen(file, "wb");
     if (!to) return fail(file, strerror(errno));
@@ -71,19 +83,20 @@ static int write_all(const char *file, const int16_t *samples, size_t count) {
 
 int main(int argc, char **argv) {
     if (argc == 2 && !strcmp(argv[1], "--help")) return fputs(usage, stdout) < 0 || fflush(stdout) ? 1 : 0;
-    if (argc != 3) {
-        fputs(usage, stderr);
-        return 2;
-    }
+    if (argc < 3 || argc > 4) return wrong();
     if (daxfolin_version() != DAXFOLIN_VERSION) return fail("libhost.a", "another version than daxfolin.h");
+
+    static daxfolin_record tuner;
+    daxfolin_settings settings = DAXFOLIN_DEFAULTS;
+    uint32_t started = daxfolin_start(&tuner, argc == 4 ? rate_of(argv[3]) : DAXFOLIN_CD, settings);
+    if (started == DAXFOLIN_RATE_UNKNOWN) return wrong();
+    if (started != DAXFOLIN_TAKEN) return fail(argv[1], "the tuner does not start");
 
     size_t count;
     int16_t *take = read_all(argv[1], &count);
     if (!take) return 1;
 
-    static daxfolin_record tuner;
     unsigned long repeated = 0, dropped = 0;
-    if (daxfolin_start_default(&tuner) != DAXFOLIN_TAKEN) return fail(argv[1], "the tuner does not start");
     daxfolin_stretch part;
     for (size_t k = 0; (part = daxfolin_cut(count, k)).count > 0; k++) {
         int16_t tuned[DAXFOLIN_LONGEST_BLOCK];

@@ -1,4 +1,5 @@
-//! A proved tuner for one sung voice: mono, 16-bit samples, 44,100 a second.
+//! A proved tuner for one sung voice: mono, 16-bit samples, 44,100 or 48,000 a
+//! second.
 //!
 //! Every call is proved for any bytes in the record, any settings and any
 //! block (`crates/host` in the repository). What the proof takes for granted
@@ -21,20 +22,25 @@
 use std::fmt;
 
 /// The version of the calls.
-pub const VERSION: u32 = 7;
+pub const VERSION: u32 = 8;
 /// The number of the record's layout, which stands first in it.
-pub const LAYOUT: u64 = 20_005;
+pub const LAYOUT: u64 = 20_006;
 /// The most samples of a block.
 pub const LONGEST_BLOCK: usize = 512;
 /// The most samples of a take.
 pub const LONGEST_TAKE: u32 = 1_000_000_000;
+
+/// A sample rate, in samples a second: the one that the default start has.
+pub const CD: u32 = 44_100;
+/// A sample rate, in samples a second.
+pub const FILM: u32 = 48_000;
 
 /// Taken: a start, a change, bytes of a keyboard, a block or a reset.
 pub const TAKEN: u32 = 0;
 /// The last block's number, length and samples: the same counts and output again, the record unchanged.
 pub const GIVEN_AGAIN: u32 = 1;
 /// The block has no samples. From here on a call is refused: the record and the output are as they were, but for a start, which hands
-/// back the default tuner beside 8 and 11 to 15.
+/// back the default tuner beside 8 and 11 to 16.
 pub const BLOCK_EMPTY: u32 = 2;
 /// The block has more than 512 samples.
 pub const BLOCK_OVER_512: u32 = 3;
@@ -61,6 +67,8 @@ pub const FLOOR_OUT_OF_RANGE: u32 = 13;
 pub const CHANNEL_OUT_OF_RANGE: u32 = 14;
 /// The mode is over 1.
 pub const MODE_UNKNOWN: u32 = 15;
+/// The sample rate is neither [`CD`] nor [`FILM`]. A start alone is answered this, before its settings are looked at.
+pub const RATE_UNKNOWN: u32 = 16;
 
 /// A mode: the nearest note of the scale is wanted.
 pub const SCALE_MODE: u32 = 0;
@@ -119,7 +127,7 @@ pub enum Meter {
     Locking(f32),
     Pitched {
         period: f32,
-        /// 0 where no key is held, or one outside the table of notes 32 to 100.
+        /// 0 where no key is held, or one outside the table: notes 32 to 100 at 44,100, 33 to 102 at 48,000.
         wanted: f32,
         rate: f32,
     },
@@ -156,7 +164,7 @@ mod archive {
 
     extern "C" {
         pub fn daxfolin_version() -> u32;
-        pub fn daxfolin_start(record: *mut Record, settings: Settings) -> u32;
+        pub fn daxfolin_start(record: *mut Record, hertz: u32, settings: Settings) -> u32;
         pub fn daxfolin_start_default(record: *mut Record) -> u32;
         pub fn daxfolin_change(record: *mut Record, settings: Settings) -> u32;
         pub fn daxfolin_midi(record: *mut Record, bytes: *const u8, length: usize) -> u32;
@@ -175,7 +183,7 @@ mod archive {
 }
 
 const _: () = {
-    assert!(size_of::<Record>() == 6968 && align_of::<Record>() == 8);
+    assert!(size_of::<Record>() == 6976 && align_of::<Record>() == 8);
     assert!(size_of::<Settings>() == 24 && size_of::<Answer>() == 12);
     assert!(size_of::<archive::Shown>() == 20 && size_of::<archive::Stretch>() == 16);
 };
@@ -195,7 +203,7 @@ pub fn cut(recording: &[i16], k: usize) -> &[i16] {
 
 impl Record {
     /// The bytes of a record.
-    pub const SIZE: usize = 6968;
+    pub const SIZE: usize = 6976;
 
     fn blank() -> Record {
         assert_eq!(
@@ -208,15 +216,16 @@ impl Record {
         }
     }
 
-    /// A fresh tuner with these settings and 0; or the default tuner beside the number of the first bad setting: 8, or 11 to 15.
-    pub fn start(settings: Settings) -> (u32, Record) {
+    /// A fresh tuner at this sample rate, [`CD`] or [`FILM`], with these settings, and 0; or the default tuner, at 44,100, beside 16 or
+    /// then the number of the first bad setting: 8, or 11 to 15.
+    pub fn start(hertz: u32, settings: Settings) -> (u32, Record) {
         let mut record = Record::blank();
         // SAFETY: the record is a reference's.
-        let number = unsafe { archive::daxfolin_start(&mut record, settings) };
+        let number = unsafe { archive::daxfolin_start(&mut record, hertz, settings) };
         (number, record)
     }
 
-    /// A fresh tuner with the default settings, and 0.
+    /// A fresh tuner with the default settings, at 44,100, and 0.
     pub fn start_default() -> (u32, Record) {
         let mut record = Record::blank();
         // SAFETY: the record is a reference's.
@@ -224,8 +233,8 @@ impl Record {
         (number, record)
     }
 
-    /// New settings, which count from the next sample; another channel than the one in force forgets the key, the running status and any
-    /// half message. 0; or 9, then the number of the first bad setting (8, 11 to 15), and the record is as it was.
+    /// New settings, which count from the next sample, at the same sample rate; another channel than the one in force forgets the key, the
+    /// running status and any half message. 0; or 9, then the number of the first bad setting (8, 11 to 15), and the record is as it was.
     pub fn change(&mut self, settings: Settings) -> u32 {
         // SAFETY: the record is a reference's, and may hold any bytes.
         unsafe { archive::daxfolin_change(self, settings) }
@@ -254,7 +263,8 @@ impl Record {
         }
     }
 
-    /// Settings kept, everything else fresh, the key, the running status and any half message forgotten: 0; or 9, and the record is as it was.
+    /// Sample rate and settings kept, everything else fresh, the key, the running status and any half message forgotten: 0; or 9, and the
+    /// record is as it was.
     pub fn reset(&mut self) -> u32 {
         // SAFETY: the record is a reference's, and may hold any bytes.
         unsafe { archive::daxfolin_reset(self) }
@@ -300,7 +310,7 @@ impl Record {
     }
 }
 
-/// A fresh tuner with the default settings.
+/// A fresh tuner with the default settings, at 44,100.
 impl Default for Record {
     fn default() -> Record {
         let (number, record) = Record::start_default();

@@ -5,9 +5,9 @@
 #![cfg(target_arch = "x86_64")]
 
 use daxfolin::{
-    cut, Answer, Meter, Record, Settings, CHANNEL_OUT_OF_RANGE, DECAY_OUT_OF_RANGE,
-    EPS_OUT_OF_RANGE, FLOOR_OUT_OF_RANGE, KEYBOARD_MODE, LAYOUT, MODE_UNKNOWN, RECORD_OUT_OF_RANGE,
-    SCALE_OUT_OF_RANGE, TAKEN,
+    cut, Answer, Meter, Record, Settings, CD, CHANNEL_OUT_OF_RANGE, DECAY_OUT_OF_RANGE,
+    EPS_OUT_OF_RANGE, FILM, FLOOR_OUT_OF_RANGE, KEYBOARD_MODE, LAYOUT, MODE_UNKNOWN, RATE_UNKNOWN,
+    RECORD_OUT_OF_RANGE, SCALE_OUT_OF_RANGE, TAKEN,
 };
 use independent::generator::cases::Cases;
 use independent::generator::edges::fresh_of_version_2;
@@ -35,7 +35,7 @@ fn settings(of: &independent::settings::Settings) -> Settings {
 fn left_by(record: &mut Record, call: &Call) -> Left {
     let mut left = Left::default();
     match call {
-        Call::Start(with) => (left.number, *record) = Record::start(settings(with)),
+        Call::Start(hertz, with) => (left.number, *record) = Record::start(*hertz, settings(with)),
         Call::StartDefault => (left.number, *record) = Record::start_default(),
         Call::Change(to) => left.number = record.change(settings(to)),
         Call::Midi(bytes) => left.number = record.midi(bytes),
@@ -150,7 +150,7 @@ fn a_record_of_another_layout_is_refused() {
     is_of_another_layout(&old);
 }
 
-/// The first bad setting is named: a start hands back the default tuner, a change leaves the record.
+/// The first bad setting is named: a start hands back the default tuner, a change leaves the record. An unknown rate is named before all.
 #[test]
 fn each_setting_has_its_own_refusal() {
     let refused = [
@@ -170,7 +170,11 @@ fn each_setting_has_its_own_refusal() {
             mode,
             channel,
         };
-        assert_eq!(Record::start(settings), (number, Record::default()));
+        for hertz in [CD, FILM] {
+            assert_eq!(Record::start(hertz, settings), (number, Record::default()));
+        }
+        let refused = (RATE_UNKNOWN, Record::default());
+        assert_eq!(Record::start(CD + 1, settings), refused);
         let mut record = Record::default();
         record.block(0, &[1_000, -1_000, 500], &mut [0; 3]);
         let before = record.clone();
@@ -187,7 +191,7 @@ fn bytes_of_a_keyboard() {
         channel,
         ..Settings::default()
     };
-    let fresh = |mode, channel| Record::start(settings(mode, channel)).1;
+    let fresh = |mode, channel| Record::start(CD, settings(mode, channel)).1;
     let mut record = Record::default();
     assert_eq!(record.midi(&[]), TAKEN);
     assert_eq!(record, Record::default());
@@ -203,6 +207,61 @@ fn bytes_of_a_keyboard() {
     assert_eq!(record, fresh(KEYBOARD_MODE, 1));
     assert_eq!(at_once.reset(), TAKEN);
     assert_eq!(at_once, fresh(KEYBOARD_MODE, 0));
+}
+
+/// An unknown rate is refused, and the default tuner at 44,100 comes beside it; a change, bytes of a keyboard and a reset keep the rate.
+#[test]
+fn a_rate_is_a_start_s_alone() {
+    let settings = Settings::default();
+    let other = Settings {
+        scale: 1,
+        ..settings
+    };
+    assert_eq!(Record::start(CD, settings), (TAKEN, Record::default()));
+    let (number, film) = Record::start(FILM, settings);
+    assert_eq!(number, TAKEN);
+    assert_ne!(film, Record::default());
+    for hertz in [0, 44_099, 44_101, 47_999, 48_001, 96_000, u32::MAX] {
+        let refused = (RATE_UNKNOWN, Record::default());
+        assert_eq!(Record::start(hertz, settings), refused);
+    }
+    let mut record = film.clone();
+    assert_eq!(record.change(other), TAKEN);
+    assert_eq!(record, Record::start(FILM, other).1);
+    assert_eq!(record.midi(&[144, 60, 100]), TAKEN);
+    assert_eq!(record.block(0, &[1, 2, 3], &mut [0; 3]).number, TAKEN);
+    assert_eq!(record.reset(), TAKEN);
+    assert_eq!(record.change(settings), TAKEN);
+    assert_eq!(record, film);
+}
+
+/// A square wave of 96 samples is drawn to note 70 at 44,100, and to note 71 at 48,000. In keyboard mode key 32 is in the table of 44,100
+/// alone, and key 102 in that of 48,000 alone.
+#[test]
+fn each_rate_has_its_own_table() {
+    let settings = Settings {
+        mode: KEYBOARD_MODE,
+        ..Settings::default()
+    };
+    for (hertz, note, key_32, key_102) in [(CD, 24_218, 217_471, 0), (FILM, 24_880, 0, 4_151)] {
+        let mut record = Record::start(hertz, Settings::default()).1;
+        let mut wanted = |number: u16, key: &[u8]| {
+            if !key.is_empty() {
+                assert_eq!(record.change(settings), TAKEN);
+                assert_eq!(record.midi(key), TAKEN);
+            }
+            let samples: Vec<i16> = (0..480).map(|at| 9_000 * (at / 48 % 2) - 4_500).collect();
+            assert_eq!(record.block(number, &samples, &mut [0; 480]).number, TAKEN);
+            match record.meter() {
+                Meter::Pitched { wanted, .. } => (256.0 * wanted) as u32,
+                _ => 0,
+            }
+        };
+        let scale = (0..5).map(|number| wanted(number, &[])).last();
+        assert_eq!(scale, Some(note), "{hertz}");
+        assert_eq!(wanted(5, &[144, 32, 100]), key_32, "{hertz}");
+        assert_eq!(wanted(6, &[144, 102, 100]), key_102, "{hertz}");
+    }
 }
 
 /// A held note that is flat: at the highest decay too the rate comes all the way up, and stays there.
@@ -221,12 +280,13 @@ fn a_held_note_reaches_its_goal() {
     };
     let cycle: Vec<i16> = (0..608).map(|_| toss()).collect();
     let goal = ((608.0 * 256.0 * 65_536.0 / 153_775.0f64).round() / 65_536.0) as f32;
-    let (number, mut record) = Record::start(Settings {
+    let settings = Settings {
         eps: 409,
         decay: 255,
         floor: 1,
         ..Settings::default()
-    });
+    };
+    let (number, mut record) = Record::start(CD, settings);
     assert_eq!(number, TAKEN);
     let mut rates = Vec::new();
     for block in 0..150 {
