@@ -3,8 +3,10 @@
      bench run WHO SOUND BLOCK WARM COUNT   takes WARM samples of a sound in blocks of 512, then COUNT samples in blocks of BLOCK; prints a sum
                                             over the whole output, the cycles repeated and dropped, and the user time of the COUNT samples in
                                             microseconds. WHO: library, plain
-     bench compare SOUND BLOCK WARM COUNT   takes the same by both programs and holds every answer and sample of the one to the other's; each
-                                            eleventh block is given again, and a refused one is sent before it
+     bench compare SOUND BLOCK WARM COUNT [HERTZ]
+                                            takes the same by both programs and holds every answer and sample of the one to the other's; each
+                                            eleventh block is given again, and a refused one is sent before it. HERTZ: the sample rate, 44100
+                                            unless said, as it is for all else
      bench sizes                            bytes of each program's record, and of the stack below a call
      bench tracked SOUND                    how much of the sound is tracked, in tenths of a per cent
 
@@ -33,11 +35,15 @@ typedef plain_answer answer;
 typedef struct {
     const char *name;
     size_t record;
-    void (*start)(void);
+    uint32_t (*start)(uint32_t);
     answer (*block)(uint16_t, const int16_t *, size_t, int16_t *, size_t);
 } program;
 
-static void library_start(void) { failures += daxfolin_start_default(&tuner) != DAXFOLIN_TAKEN; }
+static uint32_t library_start(uint32_t hertz)
+{
+    daxfolin_settings settings = DAXFOLIN_DEFAULTS;
+    return daxfolin_start(&tuner, hertz, settings);
+}
 
 static answer library_block(uint16_t number, const int16_t *samples, size_t n, int16_t *to, size_t room)
 {
@@ -45,7 +51,7 @@ static answer library_block(uint16_t number, const int16_t *samples, size_t n, i
     return (answer){a.number, a.written, a.repeated, a.dropped};
 }
 
-static void plain_start(void) { plain_start_default(&plain); }
+static uint32_t plain_begin(uint32_t hertz) { return plain_start(&plain, hertz); }
 
 static answer plain_take(uint16_t number, const int16_t *samples, size_t n, int16_t *to, size_t room)
 {
@@ -54,8 +60,10 @@ static answer plain_take(uint16_t number, const int16_t *samples, size_t n, int1
 
 static const program programs[2] = {
     {"library", sizeof(daxfolin_record), library_start, library_block},
-    {"plain", sizeof(plain_tuner), plain_start, plain_take},
+    {"plain", sizeof(plain_tuner), plain_begin, plain_take},
 };
+
+static void start(const program *p, uint32_t hertz) { failures += p->start(hertz) != DAXFOLIN_TAKEN; }
 
 static void take(const program *p, size_t from, size_t to, size_t block)
 {
@@ -78,7 +86,7 @@ static long user_microseconds(void)
 
 static int run(const program *p, size_t block, size_t warm, size_t count)
 {
-    p->start();
+    start(p, DAXFOLIN_CD);
     take(p, 0, warm, 512);
     long began = user_microseconds();
     take(p, warm, warm + count, block);
@@ -120,10 +128,12 @@ static void both_take(size_t from, size_t to, size_t block)
     }
 }
 
-static int compare(size_t block, size_t warm, size_t count)
+static int compare(uint32_t hertz, size_t block, size_t warm, size_t count)
 {
-    programs[0].start();
-    programs[1].start();
+    for (int i = 0; i < 2; i++) {
+        failures += programs[i].start(hertz + 1) != DAXFOLIN_RATE_UNKNOWN;
+        start(&programs[i], hertz);
+    }
     both_take(0, warm, 512);
     both_take(warm, warm + count, block);
     printf("%lu samples compared, %lu blocks differ\n", checked, failures);
@@ -167,7 +177,7 @@ static __attribute__((noinline)) uintptr_t below(call *f, uint16_t n, size_t at)
 static uintptr_t stack_of(const program *p)
 {
     uintptr_t top = below(nothing, 0, 0), lowest = top;
-    p->start();
+    start(p, DAXFOLIN_CD);
     for (uint16_t n = 0; n < 200; n++) {
         uintptr_t deep = below(p->block, n, 512 * (size_t)n);
         if (deep < lowest) lowest = deep;
@@ -185,7 +195,7 @@ static int sizes(void)
 static int tracked(char which)
 {
     sound(which, in, MINUTE);
-    plain_start();
+    start(&programs[1], DAXFOLIN_CD);
     uint64_t yes = 0, all = 0;
     for (size_t from = 0; from + 64 <= MINUTE; from += 64, all++) {
         plain_take(number++, in + from, 64, out, 64);
@@ -201,9 +211,9 @@ int main(int argc, char **argv)
 {
     if (argc == 2 && !strcmp(argv[1], "sizes")) return sizes();
     if (argc == 3 && !strcmp(argv[1], "tracked")) return tracked(argv[2][0]);
-    if (argc == 6 && !strcmp(argv[1], "compare")) {
+    if ((argc == 6 || argc == 7) && !strcmp(argv[1], "compare")) {
         sound(argv[2][0], in, MINUTE);
-        return compare(whole(argv[3]), whole(argv[4]), whole(argv[5]));
+        return compare(argc == 7 ? (uint32_t)whole(argv[6]) : DAXFOLIN_CD, whole(argv[3]), whole(argv[4]), whole(argv[5]));
     }
     if (argc == 7 && !strcmp(argv[1], "run")) {
         sound(argv[3][0], in, MINUTE);

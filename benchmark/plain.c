@@ -1,12 +1,25 @@
 #include "plain.h"
 
-enum { LEAST_LAG = 16, MOST_LAG = 880, FIRST_NOTE = 32, LAST_NOTE = 100, LIMIT = 1000000000, LEVEL = 65536, FARTHEST = 65536000, READS = 4096 };
+enum { LEAST_LAG = 16, MOST_LAG = 880, LIMIT = 1000000000, LEVEL = 65536, FARTHEST = 65536000, READS = 4096 };
 
-/* The periods of the notes 32 to 100, in 1/256 sample. */
-static const uint32_t periods[69] = {217471, 205265, 193745, 182871, 172607, 162919, 153775, 145145, 136998, 129309, 122052, 115201, 108736,
+/* The sample rates, and at each the notes of the table with their periods, in 1/256 sample. */
+enum { CD = 44100, FILM = 48000 };
+
+typedef struct {
+    uint32_t first, last, periods[70];
+} table;
+
+static const table at_cd = {32, 100, {217471, 205265, 193745, 182871, 172607, 162919, 153775, 145145, 136998, 129309, 122052, 115201, 108736,
     102633, 96872, 91435, 86303, 81460, 76888, 72572, 68499, 64655, 61026, 57601, 54368, 51316, 48436, 45718, 43152, 40730, 38444, 36286,
     34250, 32327, 30513, 28800, 27184, 25658, 24218, 22859, 21576, 20365, 19222, 18143, 17125, 16164, 15256, 14400, 13592, 12829, 12109,
-    11429, 10788, 10182, 9611, 9072, 8562, 8082, 7628, 7200, 6796, 6415, 6055, 5715, 5394, 5091, 4805, 4536, 4281};
+    11429, 10788, 10182, 9611, 9072, 8562, 8082, 7628, 7200, 6796, 6415, 6055, 5715, 5394, 5091, 4805, 4536, 4281}};
+static const table at_film = {33, 102, {223418, 210879, 199043, 187872, 177327, 167375, 157981, 149114, 140745, 132845, 125389, 118352,
+    111709, 105439, 99521, 93936, 88664, 83687, 78990, 74557, 70372, 66423, 62695, 59176, 55855, 52720, 49761, 46968, 44332, 41844, 39495,
+    37278, 35186, 33211, 31347, 29588, 27927, 26360, 24880, 23484, 22166, 20922, 19748, 18639, 17593, 16606, 15674, 14794, 13964, 13180,
+    12440, 11742, 11083, 10461, 9874, 9320, 8797, 8303, 7837, 7397, 6982, 6590, 6220, 5871, 5541, 5230, 4937, 4660, 4398, 4151}};
+
+static bool known(uint32_t hertz) { return hertz == CD || hertz == FILM; }
+static const table *table_of(const plain_tuner *t) { return t->hertz == CD ? &at_cd : &at_film; }
 
 /* A ring, its length less one, and how many samples were stored. */
 typedef struct {
@@ -74,7 +87,7 @@ static bool right(const plain_sums *s, uint32_t n, sound x, uint32_t low)
 static bool good(const plain_tuner *t)
 {
     int64_t behind = (int64_t)t->count * LEVEL - t->position;
-    if (!within(t->scale, 1, 4095) || t->eps > 409 || t->decay > 255 || !within(t->floor, 1, 1000000)) return false;
+    if (!known(t->hertz) || !within(t->scale, 1, 4095) || t->eps > 409 || t->decay > 255 || !within(t->floor, 1, 1000000)) return false;
     if (t->count > LIMIT || t->length > LONGEST_BLOCK || t->length > t->count) return false;
     if (behind < 0 || behind > FARTHEST) return false;
     if (!silent_before(full(t)) || !silent_before(eighth(t))) return false;
@@ -82,7 +95,7 @@ static bool good(const plain_tuner *t)
     if (t->kept > 255) return false;
     if (t->period) {
         if (!t->tracking || !within(t->period, 4096, 225280)) return false;
-        if (!within(t->note, FIRST_NOTE, LAST_NOTE) || !within(t->rate, 32768, 131072)) return false;
+        if (!within(t->note, table_of(t)->first, table_of(t)->last) || !within(t->rate, 32768, 131072)) return false;
     } else if (t->rate != LEVEL) {
         return false;
     }
@@ -137,12 +150,12 @@ static void search(plain_tuner *t)
 
 /* Tracking. */
 
-static uint32_t wanted_note(uint32_t scale, uint32_t period)
+static uint32_t wanted_note(const table *notes, uint32_t scale, uint32_t period)
 {
     uint32_t best = 0, least = UINT32_MAX;
-    for (uint32_t note = FIRST_NOTE; note <= LAST_NOTE; note++) {
+    for (uint32_t note = notes->first; note <= notes->last; note++) {
         if (!(scale >> note % 12 & 1)) continue;
-        uint32_t p = periods[note - FIRST_NOTE];
+        uint32_t p = notes->periods[note - notes->first];
         uint32_t away = p < period ? period - p : p - period;
         if (away <= least) {
             best = note;
@@ -173,8 +186,9 @@ static void track(plain_tuner *t)
         int64_t bend = (int64_t)(d[at - 1] + d[at + 1] - 2 * d[at]);
         t->period += (uint32_t)floor_div(256 * (int64_t)(d[at - 1] - d[at + 1]) + bend, 2 * bend);
     }
-    t->note = wanted_note(t->scale, t->period);
-    uint64_t p = periods[t->note - FIRST_NOTE];
+    const table *notes = table_of(t);
+    t->note = wanted_note(notes, t->scale, t->period);
+    uint64_t p = notes->periods[t->note - notes->first];
     uint32_t raw = (uint32_t)((2 * (uint64_t)t->period * LEVEL + p) / (2 * p));
     uint32_t total = t->decay * t->rate + (256 - t->decay) * raw + t->kept;
     t->rate = total / 256;
@@ -229,7 +243,11 @@ static int16_t take(plain_tuner *t, int16_t sample)
 
 /* The calls. */
 
-void plain_start_default(plain_tuner *t) { *t = (plain_tuner){.scale = 4095, .eps = 100, .floor = 100, .rate = LEVEL}; }
+uint32_t plain_start(plain_tuner *t, uint32_t hertz)
+{
+    *t = (plain_tuner){.hertz = known(hertz) ? hertz : CD, .scale = 4095, .eps = 100, .floor = 100, .rate = LEVEL};
+    return known(hertz) ? 0 : 16;
+}
 
 static bool same(const plain_tuner *t, const int16_t *samples, size_t n)
 {

@@ -14,6 +14,7 @@ typedef struct {
 } plain_sums;
 
 typedef struct {
+    uint32_t hertz; /* the sample rate */
     uint32_t scale, eps, decay, floor;
     uint32_t count;
     int16_t ring[RING];       /* sample number i, from 0 on, stands at i % RING */
@@ -35,6 +36,7 @@ typedef struct {
     uint16_t written, repeated, dropped;
 } plain_answer;
 
-void plain_start_default(plain_tuner *);
+/* A fresh tuner at this sample rate with the default settings, and 0; or, where the rate is unknown, at 44,100, and 16. */
+uint32_t plain_start(plain_tuner *, uint32_t hertz);
 plain_answer plain_block(plain_tuner *, uint16_t number, const int16_t *samples, size_t n, int16_t *out, size_t room);
 #endif
