@@ -348,7 +348,7 @@ fn filmed() -> Vec<u8> {
         midi_record(&[101, 100]),
         sung(10..12),
     ];
-    for hertz in [0, 44_099, 44_101, 47_999, 48_001, 96_000, u32::MAX] {
+    for hertz in [0, 44_101, 48_001, u32::MAX] {
         records.push(start([hertz, 4095, 100, 0, 100]));
         // Each setting bad behind it.
         records.push(start([hertz, 0, 100, 0, 100]));
