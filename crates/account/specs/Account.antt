@@ -9,7 +9,7 @@ use lib.IntN.{ℤ, pos, _+ℤ_, _-ℤ_}
 use lib.ListN.{length, take}
 use Rattle.rules.specs.declared.Settings.{Settings}
 use Rattle.rules.specs.declared.InForce.{InForce}
-use Rattle.rules.specs.Rules.{Sound, silence, heardAll, Given, cycles, freshTake, defaults, after, samplesOut, allRepeated, allDropped, eighthLags}
+use Rattle.rules.specs.Rules.{Sound, silence, heardAll, Given, cycles, freshTake, defaults, cdRate, after, samplesOut, allRepeated, allDropped, eighthLags}
 use Rattle.rules.specs.Facts.{InBounds, Right}
 use Rattle.rules.specs.History.{Piece, afterPieces, givesPieces, ratesPieces, samplesPieces, totalOf}
 use Rattle.keyboard.specs.declared.Keyboard.{Keyboard}
@@ -55,7 +55,7 @@ pub record Received : Type 0 where
 
 -- what is in force: the settings, and the key held
 abbrev pub forceNow : Received → InForce
-forceNow r = record { settings = r .settings; key = r .keyboard .key }
+forceNow r = record { settings = r .settings; key = r .keyboard .key; hertz = cdRate }
 
 abbrev pub begun : Settings → Received
 begun s = record { settings = s; keyboard = fresh; pieces = []; written = []; repeated = 0; dropped = 0 }

@@ -15,9 +15,9 @@ use Rattle.whole.specs.Bounds.{natAbs-zero}
 use Rattle.whole.specs.Lists.{length-listOf, getD-listOf}
 use Rattle.whole.specs.Sums.{sum-within, total-zero}
 use Rattle.rules.specs.declared.Settings.{Settings}
-use Rattle.rules.specs.Rules.{Sound, silence, heard, heardAll, sq, E, H, noTone, inRange, defaults, after}
+use Rattle.rules.specs.Rules.{Sound, silence, heard, heardAll, sq, E, H, noTone, inRange, defaults, cdRate, after}
 use Rattle.rules.specs.Ranges.{defaults-in-range, settings-not-nine}
-use Rattle.rules.specs.Facts.{InRange, ForceIn, unpitched, valueAt, Right, keeping}
+use Rattle.rules.specs.Facts.{InRange, cd, ForceIn, unpitched, valueAt, Right, keeping}
 use Rattle.rules.specs.Hearing.{all-heard}
 use Rattle.rules.specs.Position.{behind-in-bounds, in-bounds-behind}
 use Rattle.rules.specs.Sane.{Sane, after-sane}
@@ -103,7 +103,7 @@ fresh-lengths s =
 -- ---- a good tuner holds a take in its ranges
 
 pub good-force : {t : Tuner} → Good t → ForceIn (forceOf t)
-good-force g = record { settings = g .settings; key = g .keyboard .key }
+good-force g = record { settings = g .settings; key = g .keyboard .key; hertz = cd refl }
 
 pub good-sane : {t : Tuner} → Good t → Sane (takeOf t)
 unfolding takeOf
@@ -236,7 +236,7 @@ plain-number e = sym (ap (λ (b : Answer). b .number) e)
 
 -- ---- never 9
 
-refused-inexact : {v : KeptPitch} → Exact v Meter.Refused → ⊥
+refused-inexact : {hertz : ℕ} {v : KeptPitch} → Exact hertz v Meter.Refused → ⊥
 refused-inexact = elim [ ]
 
 pub good-never-nine : {t : Tuner} → Good t → NeverNine t
@@ -262,7 +262,7 @@ good-never-nine {t} g =
     -- what is shown exactly is never a refusal
     meter-refused : {r : Meter} → Metered t r → r ≡ Meter.Refused → ⊥
     meter-refused (record-out-of-range n x) e = n g
-    meter-refused (read h x shown) e = refused-inexact (subst (Exact (t .pitch)) e shown)
+    meter-refused (read h x shown) e = refused-inexact (subst (Exact cdRate (t .pitch)) e shown)
 
 -- ---- a refusal changes nothing
 

@@ -12,7 +12,7 @@ use lib.Seq.{take-at}
 use Rattle.whole.specs.Tests.{by, cond-case, cond-yes, cond-no}
 use Rattle.rules.specs.declared.Settings.{Settings}
 use Rattle.rules.specs.declared.InForce.{InForce}
-use Rattle.rules.specs.Rules.{Sound, silence, heardAll, Mode, searching, tracking, Pitch, noTone, Take, Given, inputAt, freshTake, inRange, defaults, after, gives, samplesOut, gathered, allRepeated, allDropped}
+use Rattle.rules.specs.Rules.{Sound, silence, heardAll, Mode, searching, tracking, Pitch, noTone, Take, Given, inputAt, freshTake, inRange, defaults, cdRate, after, gives, samplesOut, gathered, allRepeated, allDropped}
 use Rattle.rules.specs.Ranges.{defaults-in-range}
 use Rattle.rules.specs.Facts.{InRange, ForceIn, keeping}
 use Rattle.rules.specs.History.{Piece, afterPieces, overPieces, givesPieces, samplesPieces}
@@ -107,7 +107,7 @@ more-in-range (q ∷ ps) p h r = (h .0, more-in-range ps p (h .1) r)
 module _ {r : Received} {t : Tuner} (k : Keeps r t) where
   -- what is in force
   force-is : forceOf t ≡ forceNow r
-  force-is i = record { settings = k .settings i; key = k .keyboard i .key }
+  force-is i = record { settings = k .settings i; key = k .keyboard i .key; hertz = cdRate }
 
   -- ---- a block taken
   module _ {n : ℕ} {xs ys ys′ : List ℤ} {t′ : Tuner} {a : Answer} (p : Took t n xs ys t′ a ys′) (z : a .number ≡ 0) where

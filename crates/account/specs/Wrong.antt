@@ -7,7 +7,7 @@ use Prim.Native.Nat.{ℕ, _≤_, _<_}
 use native.Mathlib.Omega.{arith}
 use lib.IntN.{ℤ, pos, negℤ, natAbs}
 use lib.ListN.{length, take, drop, replicate}
-use Rattle.rules.specs.Rules.{noNote, silence, heard, defaults, stepDue, listened, listenedIn, noTone, inputAt, cycleRepeated, cycleDropped, cycles, growth, sampleAt, curve, held, through, wholeOf, fractionOf, reading, freshTake, eighthDue, eighthsAfter, stepped, after, gives, samplesOut, gathered}
+use Rattle.rules.specs.Rules.{cdRate, noNote, silence, heard, defaults, stepDue, listened, listenedIn, noTone, inputAt, cycleRepeated, cycleDropped, cycles, growth, sampleAt, curve, held, through, wholeOf, fractionOf, reading, freshTake, eighthDue, eighthsAfter, stepped, after, gives, samplesOut, gathered}
 use Rattle.rules.specs.Ranges.{defaults-in-range}
 use Rattle.rules.specs.Sane.{tracking-is-not-searching}
 use Rattle.rules.specs.History.{Piece, overPieces, givesPieces}
@@ -157,7 +157,7 @@ second-taken {t} g e =
 
 -- the rules' samples for the first block, and for both: the input four samples late
 abbrev piece : List ℤ → Piece
-piece xs = record { inForce = record { settings = defaults; key = noNote }; samples = xs }
+piece xs = record { inForce = record { settings = defaults; key = noNote; hertz = cdRate }; samples = xs }
 
 case-out : (samplesOut (givesPieces freshTake (piece firstBlock ∷ [])) ≡ pos 0 ∷ pos 0 ∷ pos 0 ∷ [])
     × (samplesOut (givesPieces freshTake (piece firstBlock ∷ piece secondBlock ∷ [])) ≡ pos 0 ∷ pos 0 ∷ pos 0 ∷ pos 0 ∷ pos 1000 ∷ negℤ (pos 1000) ∷ [])

@@ -23,21 +23,21 @@ pub record Exactly (n d : ℕ) (r : Float) : Type 0 where
 
 -- ---- definitions: what is shown
 
--- period and wanted period in samples, and the rate
-abbrev pub figuresOf : KeptPitch → Figures
-figuresOf v =
-    record { period = ratio (v .tone .period) 256; wanted = ratio (wantedPeriod (v .tone .note)) 256; rate = ratio (v .tone .rate) 65536 }
+-- period and wanted period in samples, and the rate, at hertz samples a second
+abbrev pub figuresOf : ℕ → KeptPitch → Figures
+figuresOf hertz v =
+    record { period = ratio (v .tone .period) 256; wanted = ratio (wantedPeriod hertz (v .tone .note)) 256; rate = ratio (v .tone .rate) 65536 }
 
 -- searching; or, while there is no period, locking with the found lag; or pitched
-unfoldable pub shownOf : KeptPitch → Meter
-shownOf v =
+unfoldable pub shownOf : ℕ → KeptPitch → Meter
+shownOf hertz v =
     cond (eqb (v .tracking) 1)
-    (cond (eqb (v .tone .period) 0) (Meter.Locking (ratio (v .tracker .last) 1)) (Meter.Pitched (figuresOf v)))
+    (cond (eqb (v .tone .period) 0) (Meter.Locking (ratio (v .tracker .last) 1)) (Meter.Pitched (figuresOf hertz v)))
     Meter.Searching
 
 -- each figure shown of the pitch v equals its whole number, divided by 256 or 65536; the lag is whole
-pub data Exact (v : KeptPitch) : Meter → Type 0 where
-  searching : Exact v Meter.Searching
-  locking : {lag : Float} → HasValue lag false (v .tracker .last) 1 → Exact v (Meter.Locking lag)
-  pitched : {f : Figures} → HasValue (f .period) false (v .tone .period) 256 → HasValue (f .wanted) false (wantedPeriod (v .tone .note)) 256 →
-      HasValue (f .rate) false (v .tone .rate) 65536 → Exact v (Meter.Pitched f)
+pub data Exact (hertz : ℕ) (v : KeptPitch) : Meter → Type 0 where
+  searching : Exact hertz v Meter.Searching
+  locking : {lag : Float} → HasValue lag false (v .tracker .last) 1 → Exact hertz v (Meter.Locking lag)
+  pitched : {f : Figures} → HasValue (f .period) false (v .tone .period) 256 → HasValue (f .wanted) false (wantedPeriod hertz (v .tone .note)) 256 →
+      HasValue (f .rate) false (v .tone .rate) 65536 → Exact hertz v (Meter.Pitched f)

@@ -2,7 +2,7 @@
 use pitch::Pitch;
 ghost use mathlib.Core.Path.{_≡_};
 ghost use Prim.Native.Nat.{_^_, _<_};
-ghost use Rattle.rules.specs.Facts.{PitchIn};
+ghost use Rattle.rules.specs.Facts.{SampleRate, PitchIn};
 ghost use Rattle.pitch.specs.Pitches.{pitchOf};
 ghost use Rattle.meters.specs.Meters.{Exactly, Exact, shownOf};
 
@@ -45,9 +45,9 @@ fn lag_figure(lag: u32) -> f32
 }
 
 // What the meter shows of a pitch that is right.
-pub fn shown(v: Pitch) -> Meter
-    requires { ⌜ PitchIn (pitchOf v) ⌝ }
-    ensures { λ r. ⌜ (r ≡ shownOf v) × Exact v r ⌝ }
+pub fn shown(hertz: u32, v: Pitch) -> Meter
+    requires { ⌜ SampleRate hertz × PitchIn (pitchOf v) ⌝ }
+    ensures { λ r. ⌜ (r ≡ shownOf hertz v) × Exact hertz v r ⌝ }
 {
     if v.tracking != 1 {
         return Meter::Searching;
@@ -55,7 +55,7 @@ pub fn shown(v: Pitch) -> Meter
     if v.tone.period == 0 {
         return Meter::Locking(lag_figure(v.tracker.last));
     }
-    let wanted = notes::wanted_period(v.tone.note);
+    let wanted = notes::wanted_period(hertz, v.tone.note);
     Meter::Pitched(Figures {
         period: figure(v.tone.period),
         wanted: figure(wanted),

@@ -9,64 +9,70 @@ use native.Mathlib.Nat.{le-of-lt}
 use native.Mathlib.Omega.{arith}
 use borrow.Author.Tests.{ltb-true, ltb-false}
 use lib.Dec.{ltb}
-use lib.ListN.{getD}
+use lib.ListN.{length, getD}
 use Rattle.whole.specs.Tests.{by, yes-and-no}
 use Rattle.rules.specs.Rules.{table, firstNote, notes, notePeriod, ofScale, away, wanted}
-use Rattle.rules.specs.Notes.{IsWanted, wanted-some, is-wanted, table-falls}
+use Rattle.rules.specs.Facts.{SampleRate}
+use Rattle.rules.specs.Table.{table-length}
+use Rattle.rules.specs.Notes.{end, IsWanted, wanted-some, is-wanted, table-falls}
 
 -- what stands at the place of a note
-pub at-place : {t : List ℕ} → t ≡ table → (k n : ℕ) → firstNote + k ≡ n → getD t k 0 ≡ notePeriod n
+pub at-place : (hertz : ℕ) {t : List ℕ} → t ≡ table hertz → (k : ℕ) → getD t k 0 ≡ notePeriod hertz (firstNote hertz + k)
 unfolding notePeriod
-at-place e k n h = let same : k ≡ n - firstNote = omega arith in λ i. getD (e i) (same i) 0
+at-place hertz e k = let same : k ≡ firstNote hertz + k - firstNote hertz = omega arith in λ i. getD (e i) (same i) 0
+
+-- and how many do
+pub as-long : {hertz : ℕ} → SampleRate hertz → {t : List ℕ} → t ≡ table hertz → length t ≡ notes hertz
+as-long rate e = ap length e ∙ table-length rate
 
 -- the notes below place low have a longer period than p, those from place high on have not
-pub record Halving (p low high : ℕ) : Type 0 where
+pub record Halving (hertz p low high : ℕ) : Type 0 where
   pub order : low ≤ high
-  pub upto : high ≤ notes
-  pub longer : (m : ℕ) → firstNote ≤ m → m < firstNote + low → p < notePeriod m
-  pub shorter : (m : ℕ) → firstNote + high ≤ m → m < firstNote + notes → notePeriod m ≤ p
+  pub upto : high ≤ notes hertz
+  pub longer : (m : ℕ) → firstNote hertz ≤ m → m < firstNote hertz + low → p < notePeriod hertz m
+  pub shorter : (m : ℕ) → firstNote hertz + high ≤ m → m < end hertz → notePeriod hertz m ≤ p
 
 -- the first k notes are those with a longer period than p
-abbrev pub Longer : ℕ → ℕ → Type 0
-Longer p k = Halving p k k
+abbrev pub Longer : ℕ → ℕ → ℕ → Type 0
+Longer hertz p k = Halving hertz p k k
 
 -- no note from number a to below b is of the scale
 pub record NoneOfScale (scale a b : ℕ) : Type 0 where
   pub none : (m : ℕ) → a ≤ m → m < b → ofScale scale m ≡ false
 
--- the notes of the scale among the first k: the last of them is note number 31 + j, and j is 0 where there is none
-pub record LastOfScale (scale k j : ℕ) : Type 0 where
+-- the notes of the scale among the first k: the last of them stands at place j - 1, and j is 0 where there is none
+pub record LastOfScale (hertz scale k j : ℕ) : Type 0 where
   pub upto : j ≤ k
-  pub last : 0 < j → ofScale scale (31 + j) ≡ true
-  pub none-after : NoneOfScale scale (firstNote + j) (firstNote + k)
+  pub last : 0 < j → ofScale scale (firstNote hertz + (j - 1)) ≡ true
+  pub none-after : NoneOfScale scale (firstNote hertz + j) (firstNote hertz + k)
 
 -- the notes of the scale after the first k: the first of them stands at place j, and j is past the table where there is none
-pub record FirstOfScale (scale k j : ℕ) : Type 0 where
+pub record FirstOfScale (hertz scale k j : ℕ) : Type 0 where
   pub from : k ≤ j
-  pub upto : j ≤ notes
-  pub first : j < notes → ofScale scale (firstNote + j) ≡ true
-  pub none-before : NoneOfScale scale (firstNote + k) (firstNote + j)
+  pub upto : j ≤ notes hertz
+  pub first : j < notes hertz → ofScale scale (firstNote hertz + j) ≡ true
+  pub none-before : NoneOfScale scale (firstNote hertz + k) (firstNote hertz + j)
 
 -- ---- halving
-pub whole-table : (p : ℕ) → Halving p 0 notes
-whole-table p = record { order = omega arith; upto = omega arith; longer = λ m lo hi. absurd (omega arith); shorter = λ m lo hi. absurd (omega arith) }
+pub whole-table : (hertz p : ℕ) → Halving hertz p 0 (notes hertz)
+whole-table hertz p = record { order = omega arith; upto = omega arith; longer = λ m lo hi. absurd (omega arith); shorter = λ m lo hi. absurd (omega arith) }
 
-module _ {p low high mid : ℕ} (h : Halving p low high) (from : low ≤ mid) (to : mid < high) where
-  pub lower-half : notePeriod (firstNote + mid) ≤ p → Halving p low mid
+module _ {hertz p low high mid : ℕ} (rate : SampleRate hertz) (h : Halving hertz p low high) (from : low ≤ mid) (to : mid < high) where
+  pub lower-half : notePeriod hertz (firstNote hertz + mid) ≤ p → Halving hertz p low mid
   lower-half l =
       record {
         order = from;
         upto = omega (arith, h .upto);
         longer = h .longer;
-        shorter = λ m lo hi. omega (arith, table-falls (firstNote + mid) m (omega arith) lo hi);
+        shorter = λ m lo hi. omega (arith, table-falls rate (firstNote hertz + mid) m (omega arith) lo hi);
       }
 
-  pub upper-half : p < notePeriod (firstNote + mid) → Halving p (mid + 1) high
+  pub upper-half : p < notePeriod hertz (firstNote hertz + mid) → Halving hertz p (mid + 1) high
   upper-half l =
       record {
         order = omega arith;
         upto = h .upto;
-        longer = λ m lo hi. omega (arith, table-falls m (firstNote + mid) lo (omega arith) (omega (arith, h .upto)));
+        longer = λ m lo hi. omega (arith, table-falls rate m (firstNote hertz + mid) lo (omega arith) (omega (arith, h .upto)));
         shorter = h .shorter;
       }
 
@@ -119,57 +125,66 @@ not-equal : {a b : ℕ} → a < b → b ≡ a → ⊥
 not-equal h e = omega arith
 
 -- ---- the wanted note
-module _ {scale p k low high : ℕ} (l : Longer p k) (a : LastOfScale scale k low) (b : FirstOfScale scale k high) where
+module _ {hertz scale p k low high : ℕ} (rate : SampleRate hertz) (l : Longer hertz p k) (a : LastOfScale hertz scale k low) (b : FirstOfScale hertz scale k high) where
+  -- the last note of the scale with a longer period, and the first without
+  abbrev lower : ℕ
+  lower = firstNote hertz + (low - 1)
+
+  abbrev higher : ℕ
+  higher = firstNote hertz + high
+
   -- a note of the scale with a longer period is not nearer than the last of them
-  below : (m : ℕ) → firstNote ≤ m → m < firstNote + k → ofScale scale m ≡ true
-      → (0 < low) × (m ≤ 31 + low) × (p < notePeriod (31 + low)) × (notePeriod (31 + low) ≤ notePeriod m)
-  below m lo hi on =
-      by (ltb m (firstNote + low))
-      (λ t. let h = ltb-true m (firstNote + low) t in
-      let in-table : 31 + low < firstNote + notes = omega (arith, a .upto, l .upto) in
-      (omega arith, omega arith, l .longer (31 + low) (omega arith) (omega (arith, a .upto)), omega (arith, table-falls m (31 + low) lo (omega arith) in-table)))
-      (λ t. absurd (yes-and-no on (a .none-after .none m (ltb-false m (firstNote + low) t) hi)))
+  abbrev Lower : ℕ → Type 0
+  Lower m = (0 < low) × (m ≤ lower) × (p < notePeriod hertz lower) × (notePeriod hertz lower ≤ notePeriod hertz m)
 
   -- one without is not nearer than the first of them, and if it is higher it is farther
-  above : (m : ℕ) → firstNote + k ≤ m → m < firstNote + notes → ofScale scale m ≡ true
-      → (high < notes) × (firstNote + high ≤ m) × (notePeriod (firstNote + high) ≤ p) × (notePeriod m + (m - (firstNote + high)) ≤ notePeriod (firstNote + high))
+  abbrev Upper : ℕ → Type 0
+  Upper m = (high < notes hertz) × (higher ≤ m) × (notePeriod hertz higher ≤ p) × (notePeriod hertz m + (m - higher) ≤ notePeriod hertz higher)
+
+  below : (m : ℕ) → firstNote hertz ≤ m → m < firstNote hertz + k → ofScale scale m ≡ true → Lower m
+  below m lo hi on =
+      by (ltb m (firstNote hertz + low))
+      (λ t. let h = ltb-true m (firstNote hertz + low) t in
+      let in-table : lower < end hertz = omega (arith, a .upto, l .upto) in
+      (omega arith, omega arith, l .longer lower (omega arith) (omega (arith, a .upto)), omega (arith, table-falls rate m lower lo (omega arith) in-table)))
+      (λ t. absurd (yes-and-no on (a .none-after .none m (ltb-false m (firstNote hertz + low) t) hi)))
+
+  above : (m : ℕ) → firstNote hertz + k ≤ m → m < end hertz → ofScale scale m ≡ true → Upper m
   above m lo hi on =
-      by (ltb m (firstNote + high))
-      (λ t. absurd (yes-and-no on (b .none-before .none m lo (ltb-true m (firstNote + high) t))))
-      (λ t. let h = ltb-false m (firstNote + high) t in
-      (omega arith, h, l .shorter (firstNote + high) (omega (arith, b .from)) (omega arith), table-falls (firstNote + high) m (omega arith) h hi))
+      by (ltb m higher)
+      (λ t. absurd (yes-and-no on (b .none-before .none m lo (ltb-true m higher t))))
+      (λ t. let h = ltb-false m higher t in
+      (omega arith, h, l .shorter higher (omega (arith, b .from)) (omega arith), table-falls rate higher m (omega arith) h hi))
 
   -- by whether a note of the scale has a longer period
-  each-of-scale : {P : Type 0} (m : ℕ) → firstNote ≤ m → m < firstNote + notes → ofScale scale m ≡ true
-      → ((0 < low) × (m ≤ 31 + low) × (p < notePeriod (31 + low)) × (notePeriod (31 + low) ≤ notePeriod m) → P)
-      → ((high < notes) × (firstNote + high ≤ m) × (notePeriod (firstNote + high) ≤ p) × (notePeriod m + (m - (firstNote + high)) ≤ notePeriod (firstNote + high)) → P) → P
+  each-of-scale : {P : Type 0} (m : ℕ) → firstNote hertz ≤ m → m < end hertz → ofScale scale m ≡ true → (Lower m → P) → (Upper m → P) → P
   each-of-scale m lo hi on f g =
-      by (ltb m (firstNote + k))
-      (λ t. f (below m lo (ltb-true m (firstNote + k) t) on))
-      (λ t. g (above m (ltb-false m (firstNote + k) t) hi on))
+      by (ltb m (firstNote hertz + k))
+      (λ t. f (below m lo (ltb-true m (firstNote hertz + k) t) on))
+      (λ t. g (above m (ltb-false m (firstNote hertz + k) t) hi on))
 
   module _ (from : 1 ≤ scale) (to : scale ≤ 4095) where
     -- the first note without a longer period is wanted, unless the last with one is nearer
-    pub higher-wanted : high < notes → (0 < low → p - notePeriod (firstNote + high) ≤ notePeriod (31 + low) - p) → wanted scale p ≡ some (firstNote + high)
+    pub higher-wanted : high < notes hertz → (0 < low → p - notePeriod hertz higher ≤ notePeriod hertz lower - p) → wanted hertz scale p ≡ some higher
     higher-wanted h near =
-        is-wanted from to
+        is-wanted rate from to
         (record {
           inTable = omega arith;
           inScale = b .first h;
           least = λ m lo hi on. each-of-scale m lo hi on (λ w. shorter-is-nearer short (omega arith) (omega (arith, near (w .0)))) (λ w. farther-below short (omega arith));
-          higher = λ m lo hi on e. each-of-scale m lo hi on (λ w. omega (arith, a .upto, b .from)) (λ w. not-higher (notePeriod m) short (w .1) (w .3) (sym (away-shorter p (notePeriod m) (shorter-too m w)) ∙ e ∙ away-shorter p (notePeriod (firstNote + high)) short));
+          higher = λ m lo hi on e. each-of-scale m lo hi on (λ w. omega (arith, a .upto, b .from)) (λ w. not-higher (notePeriod hertz m) short (w .1) (w .3) (sym (away-shorter p (notePeriod hertz m) (shorter-too m w)) ∙ e ∙ away-shorter p (notePeriod hertz higher) short));
         })
       where
-        short : notePeriod (firstNote + high) ≤ p
-        short = l .shorter (firstNote + high) (omega (arith, b .from)) (omega arith)
+        short : notePeriod hertz higher ≤ p
+        short = l .shorter higher (omega (arith, b .from)) (omega arith)
 
-        shorter-too : (m : ℕ) → (high < notes) × (firstNote + high ≤ m) × (notePeriod (firstNote + high) ≤ p) × (notePeriod m + (m - (firstNote + high)) ≤ notePeriod (firstNote + high)) → notePeriod m ≤ p
+        shorter-too : (m : ℕ) → Upper m → notePeriod hertz m ≤ p
         shorter-too m w = omega arith
 
     -- the last note with a longer period is wanted where it is nearer than the first without
-    pub lower-wanted : 0 < low → (high < notes → notePeriod (31 + low) - p < p - notePeriod (firstNote + high)) → wanted scale p ≡ some (31 + low)
+    pub lower-wanted : 0 < low → (high < notes hertz → notePeriod hertz lower - p < p - notePeriod hertz higher) → wanted hertz scale p ≡ some lower
     lower-wanted h near =
-        is-wanted from to
+        is-wanted rate from to
         (record {
           inTable = omega (arith, a .upto, l .upto);
           inScale = a .last h;
@@ -177,16 +192,16 @@ module _ {scale p k low high : ℕ} (l : Longer p k) (a : LastOfScale scale k lo
           higher = λ m lo hi on e. each-of-scale m lo hi on (λ w. omega arith) (λ w. absurd (not-equal (farther m w) e));
         })
       where
-        long : p < notePeriod (31 + low)
-        long = l .longer (31 + low) (omega arith) (omega (arith, a .upto))
+        long : p < notePeriod hertz lower
+        long = l .longer lower (omega arith) (omega (arith, a .upto))
 
-        farther : (m : ℕ) → (high < notes) × (firstNote + high ≤ m) × (notePeriod (firstNote + high) ≤ p) × (notePeriod m + (m - (firstNote + high)) ≤ notePeriod (firstNote + high))
-            → away p (notePeriod (31 + low)) < away p (notePeriod m)
+        farther : (m : ℕ) → Upper m
+            → away p (notePeriod hertz lower) < away p (notePeriod hertz m)
         farther m w = longer-is-nearer (omega arith) (omega (arith, long)) (omega (arith, near (w .0), long))
 
     -- some note is of the scale
-    pub some-higher : low ≡ 0 → high < notes
+    pub some-higher : low ≡ 0 → high < notes hertz
     some-higher e =
-        let (n, f) = wanted-some scale p from to in
+        let (n, f) = wanted-some rate scale p from to in
         let w = f .1 in
         each-of-scale n (w .inTable .0) (w .inTable .1) (w .inScale) (λ v. absurd (omega arith)) (λ v. v .0)

@@ -1,27 +1,27 @@
 // The wanted note of a scale, and the rate toward it.
-use rules::FIRST_NOTE;
+use rules::CD_FIRST_NOTE;
+use rules::CD_NOTES;
+use rules::CD_RATE;
+use rules::FILM_FIRST_NOTE;
+use rules::FILM_NOTES;
 use rules::FRESH_RATE;
 use rules::GREATEST_RATE;
 use rules::Goal;
 use rules::InForce;
-use rules::LAST_NOTE;
 use rules::LEAST_RATE;
-use rules::NOTES;
 use rules::SCALE_MODE;
 use rules::Smoothed;
 use rules::Tone;
 ghost use mathlib.Core.Path.{_≡_};
 ghost use mathlib.Core.Option.{some};
+ghost use lib.ListN.{getD};
 ghost use Prim.Native.Nat.{ℕ, _+_, _-_, _%_, _≤_, _<_};
-ghost use Rattle.rules.specs.Rules.{table, notePeriod, ofScale, wanted, noteOf, wantedPeriod, rawRate, rawToward, smoothRate, smoothKept, leastPeriod, greatestPeriod, greatestRate, goalOf, goal, tuned};
-ghost use Rattle.rules.specs.Facts.{ForceIn, OfTable, ToneIn};
+ghost use Rattle.rules.specs.Rules.{table, firstNote, notes, notePeriod, ofScale, wanted, noteOf, wantedPeriod, rawRate, rawToward, smoothRate, smoothKept, leastPeriod, greatestPeriod, greatestRate, goalOf, goal, tuned};
+ghost use Rattle.rules.specs.Facts.{SampleRate, ForceIn, OfTable, ToneIn};
 ghost use Rattle.notes.specs.Around.{Halving, Longer, LastOfScale, FirstOfScale};
 
-// The place past the last note of the table.
-const PAST: u32 = NOTES as u32;
-
-// Places 0 to 68 are the notes 32 to 100. Each use lays the array out anew: once a search.
-const PERIODS: [u32; NOTES] = [
+// Notes 32 to 100 at 44,100. Each use lays an array out anew: once a search.
+const CD_PERIODS: [u32; CD_NOTES] = [
     217471,
     205265,
     193745,
@@ -93,11 +93,111 @@ const PERIODS: [u32; NOTES] = [
     4281,
 ];
 
-pub fn note_period(note: u32) -> u32
-    requires { ⌜ OfTable note ⌝ }
-    ensures { λ r. ⌜ r ≡ notePeriod note ⌝ }
+// Notes 33 to 102 at 48,000.
+const FILM_PERIODS: [u32; FILM_NOTES] = [
+    223418,
+    210879,
+    199043,
+    187872,
+    177327,
+    167375,
+    157981,
+    149114,
+    140745,
+    132845,
+    125389,
+    118352,
+    111709,
+    105439,
+    99521,
+    93936,
+    88664,
+    83687,
+    78990,
+    74557,
+    70372,
+    66423,
+    62695,
+    59176,
+    55855,
+    52720,
+    49761,
+    46968,
+    44332,
+    41844,
+    39495,
+    37278,
+    35186,
+    33211,
+    31347,
+    29588,
+    27927,
+    26360,
+    24880,
+    23484,
+    22166,
+    20922,
+    19748,
+    18639,
+    17593,
+    16606,
+    15674,
+    14794,
+    13964,
+    13180,
+    12440,
+    11742,
+    11083,
+    10461,
+    9874,
+    9320,
+    8797,
+    8303,
+    7837,
+    7397,
+    6982,
+    6590,
+    6220,
+    5871,
+    5541,
+    5230,
+    4937,
+    4660,
+    4398,
+    4151,
+];
+
+// The first note of the table.
+fn first_note(hertz: u32) -> u32
+    ensures { λ r. ⌜ r ≡ firstNote hertz ⌝ }
 {
-    PERIODS[(note - FIRST_NOTE) as usize]
+    if hertz == CD_RATE {
+        CD_FIRST_NOTE
+    } else {
+        FILM_FIRST_NOTE
+    }
+}
+
+// How many notes it holds.
+fn count(hertz: u32) -> u32
+    ensures { λ r. ⌜ r ≡ notes hertz ⌝ }
+{
+    if hertz == CD_RATE {
+        CD_NOTES as u32
+    } else {
+        FILM_NOTES as u32
+    }
+}
+
+// The period at a place of the table.
+fn period_at(hertz: u32, place: u32) -> u32
+    requires { ⌜ place < notes hertz ⌝ }
+    ensures { λ r. ⌜ r ≡ getD (table hertz) place 0 ⌝ }
+{
+    if hertz == CD_RATE {
+        return CD_PERIODS[place as usize];
+    }
+    FILM_PERIODS[place as usize]
 }
 
 // A note whose number mod 12 is c is of the scale.
@@ -130,9 +230,9 @@ struct Span {
 }
 
 // The half in which the notes with a longer period end.
-fn halved(periods: &[u32; NOTES], period: u32, s: Span) -> Span
-    requires { ⌜ (now periods ≡ table) × (s .low < s .high) × Halving period (s .low) (s .high) ⌝ }
-    ensures { λ r. ⌜ Halving period (r .low) (r .high) × (r .high - r .low < s .high - s .low) ⌝ }
+fn halved(hertz: u32, periods: &[u32], period: u32, s: Span) -> Span
+    requires { ⌜ SampleRate hertz × (now periods ≡ table hertz) × (s .low < s .high) × Halving hertz period (s .low) (s .high) ⌝ }
+    ensures { λ r. ⌜ Halving hertz period (r .low) (r .high) × (r .high - r .low < s .high - s .low) ⌝ }
 {
     let mid = (s.low + s.high) / 2;
     if periods[mid as usize] <= period {
@@ -149,24 +249,27 @@ fn halved(periods: &[u32; NOTES], period: u32, s: Span) -> Span
 }
 
 // How many notes have a longer period: they are the first of the table.
-fn longer(periods: &[u32; NOTES], period: u32) -> u32
-    requires { ⌜ now periods ≡ table ⌝ }
-    ensures { λ r. ⌜ Longer period r ⌝ }
+fn longer(hertz: u32, periods: &[u32], period: u32) -> u32
+    requires { ⌜ SampleRate hertz × (now periods ≡ table hertz) ⌝ }
+    ensures { λ r. ⌜ Longer hertz period r ⌝ }
 {
-    let mut s = Span { low: 0, high: PAST };
+    let mut s = Span {
+        low: 0,
+        high: count(hertz),
+    };
     while s.low < s.high {
-        s = halved(periods, period, s);
+        s = halved(hertz, periods, period, s);
     }
     s.low
 }
 
-// The last note of the scale among the first k of the table: it is number 31 + r, and r is 0 where there is none.
-fn last_of_scale(scale: u32, k: u32) -> u32
-    requires { ⌜ k ≤ 69 ⌝ }
-    ensures { λ r. ⌜ LastOfScale scale k r ⌝ }
+// How many of the first k notes of the table there are up to the last of the scale among them, and 0 where there is none.
+fn last_of_scale(hertz: u32, scale: u32, k: u32) -> u32
+    requires { ⌜ SampleRate hertz × (k ≤ notes hertz) ⌝ }
+    ensures { λ r. ⌜ LastOfScale hertz scale k r ⌝ }
 {
     let mut j = k;
-    let mut c = (31 + k) % 12;
+    let mut c = (first_note(hertz) + k - 1) % 12;
     while 0 < j {
         if of_scale(scale, c) {
             return j;
@@ -177,14 +280,15 @@ fn last_of_scale(scale: u32, k: u32) -> u32
     j
 }
 
-// The place of the first note of the scale after the first k of the table, and 69 where there is none.
-fn first_of_scale(scale: u32, k: u32) -> u32
-    requires { ⌜ k ≤ 69 ⌝ }
-    ensures { λ r. ⌜ FirstOfScale scale k r ⌝ }
+// The place of the first note of the scale after the first k of the table, and the place past the table where there is none.
+fn first_of_scale(hertz: u32, scale: u32, k: u32) -> u32
+    requires { ⌜ SampleRate hertz × (k ≤ notes hertz) ⌝ }
+    ensures { λ r. ⌜ FirstOfScale hertz scale k r ⌝ }
 {
+    let past = count(hertz);
     let mut j = k;
-    let mut c = (FIRST_NOTE + k) % 12;
-    while j < PAST {
+    let mut c = (first_note(hertz) + k) % 12;
+    while j < past {
         if of_scale(scale, c) {
             return j;
         }
@@ -195,17 +299,17 @@ fn first_of_scale(scale: u32, k: u32) -> u32
 }
 
 // The place of the wanted note.
-fn nearest(periods: &[u32; NOTES], scale: u32, period: u32) -> u32
-    requires { ⌜ (now periods ≡ table) × (1 ≤ scale) × (scale ≤ 4095) ⌝ }
-    ensures { λ r. ⌜ (r < 69) × (wanted scale period ≡ some (32 + r)) ⌝ }
+fn nearest(hertz: u32, periods: &[u32], scale: u32, period: u32) -> u32
+    requires { ⌜ SampleRate hertz × (now periods ≡ table hertz) × (1 ≤ scale) × (scale ≤ 4095) ⌝ }
+    ensures { λ r. ⌜ (r < notes hertz) × (wanted hertz scale period ≡ some (firstNote hertz + r)) ⌝ }
 {
-    let k = longer(periods, period);
-    let low = last_of_scale(scale, k);
-    let high = first_of_scale(scale, k);
+    let k = longer(hertz, periods, period);
+    let low = last_of_scale(hertz, scale, k);
+    let high = first_of_scale(hertz, scale, k);
     if low == 0 {
         return high;
     }
-    if high == PAST {
+    if high == count(hertz) {
         return low - 1;
     }
     let a = periods[(low - 1) as usize];
@@ -228,16 +332,19 @@ fn raw_rate(period: u32, wanted: u32) -> u32
 }
 
 // The wanted period: 0 where there is no wanted note, or one outside the table.
-pub fn wanted_period(note: u32) -> u32
-    ensures { λ r. ⌜ r ≡ wantedPeriod note ⌝ }
+pub fn wanted_period(hertz: u32, note: u32) -> u32
+    requires { ⌜ SampleRate hertz ⌝ }
+    ensures { λ r. ⌜ r ≡ wantedPeriod hertz note ⌝ }
 {
-    if note < FIRST_NOTE {
+    let first = first_note(hertz);
+    if note < first {
         return 0;
     }
-    if note > LAST_NOTE {
+    let place = note - first;
+    if place >= count(hertz) {
         return 0;
     }
-    note_period(note)
+    period_at(hertz, place)
 }
 
 // The raw rate: 65536 without a wanted period, or where it is not from a half to two.
@@ -270,26 +377,38 @@ fn smooth(decay: u32, rate: u32, kept: u32, raw: u32) -> Smoothed
     }
 }
 
-// The goal of this period by the scale. Its raw rate is never out of its bounds.
-fn goal_of_scale(scale: u32, period: u32) -> Goal
-    requires { ⌜ (1 ≤ scale) × (scale ≤ 4095) × (leastPeriod ≤ period) × (period ≤ greatestPeriod) ⌝ }
-    ensures { λ r. ⌜ r ≡ goalOf period (noteOf (wanted scale period)) ⌝ }
+// The goal of this period by the scale, among the periods of the table. Its raw rate is never out of its bounds.
+fn goal_among(hertz: u32, periods: &[u32], scale: u32, period: u32) -> Goal
+    requires { ⌜ SampleRate hertz × (now periods ≡ table hertz) × (1 ≤ scale) × (scale ≤ 4095) × (leastPeriod ≤ period) × (period ≤ greatestPeriod) ⌝ }
+    ensures { λ r. ⌜ r ≡ goalOf hertz period (noteOf (wanted hertz scale period)) ⌝ }
 {
-    let periods = PERIODS;
-    let k = nearest(&periods, scale, period);
+    let k = nearest(hertz, periods, scale, period);
     let raw = raw_rate(period, periods[k as usize]);
     Goal {
-        note: FIRST_NOTE + k,
+        note: first_note(hertz) + k,
         raw: raw,
     }
 }
 
-// The goal of this period by the key held.
-fn goal_of_key(key: u32, period: u32) -> Goal
-    requires { ⌜ period ≤ greatestPeriod ⌝ }
-    ensures { λ r. ⌜ r ≡ goalOf period key ⌝ }
+// The goal of this period by the scale: the table of the rate is chosen once, and lent.
+fn goal_of_scale(hertz: u32, scale: u32, period: u32) -> Goal
+    requires { ⌜ SampleRate hertz × (1 ≤ scale) × (scale ≤ 4095) × (leastPeriod ≤ period) × (period ≤ greatestPeriod) ⌝ }
+    ensures { λ r. ⌜ r ≡ goalOf hertz period (noteOf (wanted hertz scale period)) ⌝ }
 {
-    let raw = raw_toward(period, wanted_period(key));
+    if hertz == CD_RATE {
+        let periods = CD_PERIODS;
+        return goal_among(hertz, &periods, scale, period);
+    }
+    let periods = FILM_PERIODS;
+    goal_among(hertz, &periods, scale, period)
+}
+
+// The goal of this period by the key held.
+fn goal_of_key(hertz: u32, key: u32, period: u32) -> Goal
+    requires { ⌜ SampleRate hertz × (period ≤ greatestPeriod) ⌝ }
+    ensures { λ r. ⌜ r ≡ goalOf hertz period key ⌝ }
+{
+    let raw = raw_toward(period, wanted_period(hertz, key));
     Goal {
         note: key,
         raw: raw,
@@ -302,9 +421,9 @@ fn goal(f: InForce, period: u32) -> Goal
     ensures { λ r. ⌜ r ≡ goal f period ⌝ }
 {
     if f.settings.mode == SCALE_MODE {
-        return goal_of_scale(f.settings.scale, period);
+        return goal_of_scale(f.hertz, f.settings.scale, period);
     }
-    goal_of_key(f.key, period)
+    goal_of_key(f.hertz, f.key, period)
 }
 
 // The tone after a tracking step that found this period.

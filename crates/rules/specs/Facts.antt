@@ -9,21 +9,27 @@ use Rattle.whole.specs.Numbers.{listOf}
 use Rattle.rules.specs.declared.Settings.{Settings}
 use Rattle.rules.specs.declared.InForce.{InForce}
 use Rattle.rules.specs.declared.Tone.{Tone}
-use Rattle.rules.specs.Rules.{settingsNumber, Sound, E, H, inputAt, farthest, lowestLag, highestLag, leastPeriod, greatestPeriod, firstNote, notes, noNote, freshRate, leastRate, greatestRate, Mode, searching, tracking, Pitch}
+use Rattle.rules.specs.Rules.{settingsNumber, Sound, E, H, inputAt, farthest, lowestLag, highestLag, leastPeriod, greatestPeriod, cdRate, filmRate, firstNote, notes, noNote, freshRate, leastRate, greatestRate, Mode, searching, tracking, Pitch}
 
 -- settings in range: none of them is refused
 abbrev pub InRange : Settings → Type 0
 InRange s = settingsNumber s ≡ 0
 
+-- one of the two sample rates
+pub data SampleRate (hertz : ℕ) : Type 0 where
+  cd : hertz ≡ cdRate → SampleRate hertz
+  film : hertz ≡ filmRate → SampleRate hertz
+
 -- what is in force, in its ranges
 pub record ForceIn (f : InForce) : Type 0 where
   pub settings : InRange (f .settings)
   pub key : f .key ≤ noNote
+  pub hertz : SampleRate (f .hertz)
 
--- a note of the table
-pub record OfTable (n : ℕ) : Type 0 where
-  pub from : firstNote ≤ n
-  pub upto : n < firstNote + notes
+-- a note of the table of a sample rate
+pub record OfTable (hertz n : ℕ) : Type 0 where
+  pub from : firstNote hertz ≤ n
+  pub upto : n < firstNote hertz + notes hertz
 
 -- a tone in its ranges: a period, a wanted note or none, and a rate; or no period, and the rate 65536; and what is kept, 0 to 255
 pub data ToneIn (t : Tone) : Type 0 where

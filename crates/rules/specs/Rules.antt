@@ -192,45 +192,64 @@ moved low at =
 
 -- ---- Note and rate
 
--- the table: the periods of MIDI notes 32 to 100, in 1/256 sample; its rule is `Nearest` in Table
-unfoldable pub table : List ℕ
-table =
+-- the sample rates: of discs, and of film
+abbrev pub cdRate : ℕ
+cdRate = 44100
+
+abbrev pub filmRate : ℕ
+filmRate = 48000
+
+-- the tables: the periods of MIDI notes 32 to 100 at 44,100, and of 33 to 102 at 48,000, in 1/256 sample; their rule is `Nearest` in Table
+unfoldable pub cdTable : List ℕ
+cdTable =
     217471 ∷ 205265 ∷ 193745 ∷ 182871 ∷ 172607 ∷ 162919 ∷ 153775 ∷ 145145 ∷ 136998 ∷ 129309 ∷ 122052 ∷ 115201 ∷ 108736 ∷ 102633
     ∷ 96872 ∷ 91435 ∷ 86303 ∷ 81460 ∷ 76888 ∷ 72572 ∷ 68499 ∷ 64655 ∷ 61026 ∷ 57601 ∷ 54368 ∷ 51316 ∷ 48436 ∷ 45718 ∷ 43152 ∷ 40730
     ∷ 38444 ∷ 36286 ∷ 34250 ∷ 32327 ∷ 30513 ∷ 28800 ∷ 27184 ∷ 25658 ∷ 24218 ∷ 22859 ∷ 21576 ∷ 20365 ∷ 19222 ∷ 18143 ∷ 17125 ∷ 16164
     ∷ 15256 ∷ 14400 ∷ 13592 ∷ 12829 ∷ 12109 ∷ 11429 ∷ 10788 ∷ 10182 ∷ 9611 ∷ 9072 ∷ 8562 ∷ 8082 ∷ 7628 ∷ 7200 ∷ 6796 ∷ 6415 ∷ 6055
     ∷ 5715 ∷ 5394 ∷ 5091 ∷ 4805 ∷ 4536 ∷ 4281 ∷ []
 
--- its first note, and how many it holds: up to note 100
-abbrev pub firstNote : ℕ
-firstNote = 32
+unfoldable pub filmTable : List ℕ
+filmTable =
+    223418 ∷ 210879 ∷ 199043 ∷ 187872 ∷ 177327 ∷ 167375 ∷ 157981 ∷ 149114 ∷ 140745 ∷ 132845 ∷ 125389 ∷ 118352 ∷ 111709 ∷ 105439
+    ∷ 99521 ∷ 93936 ∷ 88664 ∷ 83687 ∷ 78990 ∷ 74557 ∷ 70372 ∷ 66423 ∷ 62695 ∷ 59176 ∷ 55855 ∷ 52720 ∷ 49761 ∷ 46968 ∷ 44332 ∷ 41844
+    ∷ 39495 ∷ 37278 ∷ 35186 ∷ 33211 ∷ 31347 ∷ 29588 ∷ 27927 ∷ 26360 ∷ 24880 ∷ 23484 ∷ 22166 ∷ 20922 ∷ 19748 ∷ 18639 ∷ 17593 ∷ 16606
+    ∷ 15674 ∷ 14794 ∷ 13964 ∷ 13180 ∷ 12440 ∷ 11742 ∷ 11083 ∷ 10461 ∷ 9874 ∷ 9320 ∷ 8797 ∷ 8303 ∷ 7837 ∷ 7397 ∷ 6982 ∷ 6590 ∷ 6220
+    ∷ 5871 ∷ 5541 ∷ 5230 ∷ 4937 ∷ 4660 ∷ 4398 ∷ 4151 ∷ []
 
-abbrev pub notes : ℕ
-notes = 69
+-- the table of a sample rate, its first note, and how many it holds
+unfoldable pub table : ℕ → List ℕ
+table hertz = cond (eqb hertz cdRate) cdTable filmTable
+
+unfoldable pub firstNote : ℕ → ℕ
+firstNote hertz = cond (eqb hertz cdRate) 32 33
+
+unfoldable pub notes : ℕ → ℕ
+notes hertz = cond (eqb hertz cdRate) 69 70
 
 -- the period of a note of the table
-unfoldable pub notePeriod : ℕ → ℕ
-notePeriod n = getD table (n - firstNote) 0
+unfoldable pub notePeriod : ℕ → ℕ → ℕ
+notePeriod hertz n = getD (table hertz) (n - firstNote hertz) 0
 
 -- a note is of the scale: bit = note number mod 12
 unfoldable pub ofScale : ℕ → ℕ → Bool
 ofScale scale n = eqb (scale / 2 ^ (n % 12) % 2) 1
 
 -- of the note wanted so far and a higher one: the one at less distance in period, the higher on equality
-unfoldable pub nearer : ℕ → Option ℕ → ℕ → ℕ
-nearer p none n = n
-nearer p (some m) n = cond (leb (away p (notePeriod n)) (away p (notePeriod m))) n m
+unfoldable pub nearer : ℕ → ℕ → Option ℕ → ℕ → ℕ
+nearer hertz p none n = n
+nearer hertz p (some m) n = cond (leb (away p (notePeriod hertz n)) (away p (notePeriod hertz m))) n m
 
 -- the wanted one of the first k notes of the table
-unfoldable pub wantedOf : ℕ → ℕ → ℕ → Option ℕ
-wantedOf scale p zero = none
-wantedOf scale p (suc k) =
-    let lower = wantedOf scale p k in
-    cond (ofScale scale (firstNote + k)) (some (nearer p lower (firstNote + k))) lower
+unfoldable pub wantedOf : ℕ → ℕ → ℕ → ℕ → Option ℕ
+wantedOf hertz scale p zero = none
+wantedOf hertz scale p (suc k) =
+    let lower = wantedOf hertz scale p k in
+    let next = firstNote hertz + k in
+    cond (ofScale scale next) (some (nearer hertz p lower next)) lower
 
 -- the wanted note of a period: the one of the scale with least distance in period, the higher note on equality
-unfoldable pub wanted : ℕ → ℕ → Option ℕ
-wanted scale p = wantedOf scale p notes
+unfoldable pub wanted : ℕ → ℕ → ℕ → Option ℕ
+wanted hertz scale p = wantedOf hertz scale p (notes hertz)
 
 -- no wanted note: MIDI notes are 0 to 127
 abbrev pub noNote : ℕ
@@ -243,11 +262,11 @@ noteOf (some n) = n
 
 -- the wanted note of the period p by what is in force: of the scale, or the key held
 unfoldable pub wantedNote : InForce → ℕ → ℕ
-wantedNote f p = cond (eqb (f .settings .mode) scaleMode) (noteOf (wanted (f .settings .scale) p)) (f .key)
+wantedNote f p = cond (eqb (f .settings .mode) scaleMode) (noteOf (wanted (f .hertz) (f .settings .scale) p)) (f .key)
 
 -- the wanted period: that of a note of the table; 0 where there is none, or one outside the table
-unfoldable pub wantedPeriod : ℕ → ℕ
-wantedPeriod n = cond (leb firstNote n && ltb n (firstNote + notes)) (notePeriod n) 0
+unfoldable pub wantedPeriod : ℕ → ℕ → ℕ
+wantedPeriod hertz n = cond (leb (firstNote hertz) n && ltb n (firstNote hertz + notes hertz)) (notePeriod hertz n) 0
 
 -- period x 65536 / wanted period, nearest, halves up
 unfoldable pub rawRate : ℕ → ℕ → ℕ
@@ -304,12 +323,12 @@ searched t none = t
 searched t (some lag) = noPeriod (tracking (lag - 3) lag)
 
 -- the goal of the period p: a wanted note, and the raw rate toward it
-unfoldable pub goalOf : ℕ → ℕ → Goal
-goalOf p n = record { note = n; raw = rawToward p (wantedPeriod n) }
+unfoldable pub goalOf : ℕ → ℕ → ℕ → Goal
+goalOf hertz p n = record { note = n; raw = rawToward p (wantedPeriod hertz n) }
 
 -- the goal of a successful tracking step that found the period p: the wanted note as it then stands
 unfoldable pub goal : InForce → ℕ → Goal
-goal f p = goalOf p (wantedNote f p)
+goal f p = goalOf (f .hertz) p (wantedNote f p)
 
 -- what a successful tracking step makes of a tone: the new period, its wanted note, the rate moved toward the raw rate, and what rounding cut off it
 unfoldable pub tuned : InForce → Tone → ℕ → Tone

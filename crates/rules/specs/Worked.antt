@@ -1,4 +1,4 @@
--- Document 01's worked numbers, number 11 as document 02's K12 has it: one table, and one statement over it, about the definitions.
+-- Document 01's worked numbers, number 11 as document 02's K12 has it, and those of K8: one table, and one statement over it, about the definitions.
 use mathlib.Core.Path.{_≡_, refl}
 use mathlib.Core.Bool.{Bool, true, false}
 use mathlib.Core.List.{List, [], _∷_}
@@ -6,7 +6,7 @@ use mathlib.Core.Option.{Option, none, some}
 use Prim.Native.Nat.{ℕ, _+_, _*_, _/_}
 use lib.IntN.{ℤ, pos, negsuc, negℤ, _+ℤ_}
 use Rattle.whole.specs.Numbers.{fold}
-use Rattle.rules.specs.Rules.{Sound, silence, heard, heardAll, E, H, D, eighthSample, eighthDue, meetsEps, meetsFloor, offset, table, notePeriod, ofScale, nearer, wantedOf, wanted, scaleMode, noNote, wantedPeriod, rawRate, rawToward, goalOf, smoothTotal, smoothRate, smoothKept, curve, held, through, inputAt, cycleRepeated, cycleDropped, cycles, growth, Take, freshTake, Given, noTone, listened, listenedIn, sampleAt, wholeOf, fractionOf, reading, eighthsAfter, stepped, gives, samplesOut}
+use Rattle.rules.specs.Rules.{Sound, silence, heard, heardAll, E, H, D, eighthSample, eighthDue, meetsEps, meetsFloor, offset, cdRate, filmRate, cdTable, filmTable, table, firstNote, notes, notePeriod, ofScale, nearer, wantedOf, wanted, scaleMode, noNote, wantedPeriod, rawRate, rawToward, goalOf, smoothTotal, smoothRate, smoothKept, curve, held, through, inputAt, cycleRepeated, cycleDropped, cycles, growth, Take, freshTake, Given, noTone, listened, listenedIn, sampleAt, wholeOf, fractionOf, reading, eighthsAfter, stepped, gives, samplesOut}
 
 -- the sound of some samples alone, the oldest first, as document 01 prints them
 abbrev soundOf : List ℤ → Sound
@@ -19,13 +19,13 @@ pub data Worked : Type 0 where
   meetsOfEps : (eps d e : ℕ) (meets : Bool) → Worked
   meetsOfFloor : (floor L e : ℕ) (meets : Bool) → Worked
   vertex : (d1 d2 d3 : ℕ) (off : ℤ) → Worked
-  note : (n p : ℕ) → Worked
-  wants : (scale p n : ℕ) → Worked
-  raw : (p n r : ℕ) → Worked
+  note : (hertz n p : ℕ) → Worked
+  wants : (hertz scale p n : ℕ) → Worked
+  raw : (hertz p n r : ℕ) → Worked
   -- the new rate, and what is then kept
   smooths : (decay rate kept goal new left : ℕ) → Worked
   -- the raw rate of the period p while the key n is wanted
-  wantsKey : (p n r : ℕ) → Worked
+  wantsKey : (hertz p n r : ℕ) → Worked
   reads : (p a b q : ℤ) (f : ℕ) (out : ℤ) → Worked
   -- after sample n, with the position grown to `grown` and a period, the position is `at`
   turns : (n p : ℕ) (grown at : ℤ) → Worked
@@ -36,11 +36,11 @@ Holds (eighth newest out) = eighthSample (soundOf newest) ≡ out
 Holds (meetsOfEps eps d e meets) = meetsEps eps d e ≡ meets
 Holds (meetsOfFloor floor L e meets) = meetsFloor floor L e ≡ meets
 Holds (vertex d1 d2 d3 off) = offset d1 d2 d3 ≡ off
-Holds (note n p) = notePeriod n ≡ p
-Holds (wants scale p n) = wanted scale p ≡ some n
-Holds (raw p n r) = rawRate p (notePeriod n) ≡ r
+Holds (note hertz n p) = wantedPeriod hertz n ≡ p
+Holds (wants hertz scale p n) = wanted hertz scale p ≡ some n
+Holds (raw hertz p n r) = rawRate p (notePeriod hertz n) ≡ r
 Holds (smooths decay rate kept goal new left) = (smoothRate decay rate kept goal ≡ new) × (smoothKept decay rate kept goal ≡ left)
-Holds (wantsKey p n r) = goalOf p n ≡ record { note = n; raw = r }
+Holds (wantsKey hertz p n r) = goalOf hertz p n ≡ record { note = n; raw = r }
 Holds (reads p a b q f out) = through p a b q (f / 16) ≡ out
 Holds (turns n p grown at) = growth n 0 p grown .position ≡ at
 
@@ -79,12 +79,12 @@ numbers =
     ∷ vertex 6 2 10 (minus 43)
     ∷ vertex 8 2 2 (pos 128)
     -- 8
-    ∷ note 69 25658
-    ∷ note 33 205265
+    ∷ note cdRate 69 25658
+    ∷ note cdRate 33 205265
     -- 9
-    ∷ wants onlyA 26000 69
-    ∷ raw 26000 69 66410
-    ∷ wants onlyA 38487 69
+    ∷ wants cdRate onlyA 26000 69
+    ∷ raw cdRate 26000 69 66410
+    ∷ wants cdRate onlyA 38487 69
     -- 10; and what rounding cut off, added at the next smoothing
     ∷ smooths 128 65536 0 66410 65973 0
     ∷ smooths 255 65281 0 65536 65281 255
@@ -96,23 +96,35 @@ numbers =
     ∷ turns 1000 (256 * 100) (samples 1000 +ℤ pos 32768) (samples 900 +ℤ pos 32768)
     ∷ turns 1000 (256 * 100) (samples 1000) (samples 1000)
     -- keys: the bounds are tested on the rounded rate; outside them, outside the table and without a key it is 65536
-    ∷ wantsKey 108734 32 32768
-    ∷ wantsKey 108733 32 65536
-    ∷ wantsKey 8562 100 131072
-    ∷ wantsKey 8563 100 65536
-    ∷ wantsKey 25600 31 65536
-    ∷ wantsKey 25600 101 65536
-    ∷ wantsKey 25600 0 65536
-    ∷ wantsKey 25600 noNote 65536
+    ∷ wantsKey cdRate 108734 32 32768
+    ∷ wantsKey cdRate 108733 32 65536
+    ∷ wantsKey cdRate 8562 100 131072
+    ∷ wantsKey cdRate 8563 100 65536
+    ∷ wantsKey cdRate 25600 31 65536
+    ∷ wantsKey cdRate 25600 101 65536
+    ∷ wantsKey cdRate 25600 0 65536
+    ∷ wantsKey cdRate 25600 noNote 65536
+    -- at 48,000: notes 33 to 102, by the same rule
+    ∷ note filmRate 32 0
+    ∷ note filmRate 33 223418
+    ∷ note filmRate 69 27927
+    ∷ note filmRate 101 4398
+    ∷ note filmRate 102 4151
+    ∷ note filmRate 103 0
+    ∷ wants filmRate onlyA 26000 69
+    ∷ raw filmRate 26000 69 61014
+    ∷ wantsKey filmRate 8302 102 131072
+    ∷ wantsKey filmRate 25600 32 65536
+    ∷ wantsKey filmRate 25600 103 65536
     ∷ []
 
 pub numbers-hold : AllHold numbers
-unfolding numbers AllHold Holds silence heard heardAll fold E H D eighthSample meetsEps meetsFloor offset notePeriod table wanted wantedOf ofScale nearer rawRate rawToward wantedPeriod goalOf smoothTotal smoothRate smoothKept curve held through growth cycleRepeated cycleDropped cycles inputAt
+unfolding numbers AllHold Holds silence heard heardAll fold E H D eighthSample meetsEps meetsFloor offset cdTable filmTable table firstNote notes notePeriod wanted wantedOf ofScale nearer rawRate rawToward wantedPeriod goalOf smoothTotal smoothRate smoothKept curve held through growth cycleRepeated cycleDropped cycles inputAt
 numbers-hold =
-    ((refl, refl, refl), ((refl, refl, refl), ((refl, refl, refl), (refl, (refl, (refl, (refl, (refl, (refl, (refl, (refl, (refl, (refl, (refl, (refl, (refl, ((refl, refl), ((refl, refl), ((refl, refl), (refl, (refl, (refl, (refl, (refl, (refl, (refl, (refl, (refl, (refl, (refl, (refl, tt)))))))))))))))))))))))))))))))
+    ((refl, refl, refl), ((refl, refl, refl), ((refl, refl, refl), (refl, (refl, (refl, (refl, (refl, (refl, (refl, (refl, (refl, (refl, (refl, (refl, (refl, ((refl, refl), ((refl, refl), ((refl, refl), (refl, (refl, (refl, (refl, (refl, (refl, (refl, (refl, (refl, (refl, (refl, (refl, (refl, (refl, (refl, (refl, (refl, (refl, (refl, (refl, (refl, (refl, (refl, tt))))))))))))))))))))))))))))))))))))))))))
 
 -- the whole case of document 01: until a period is tracked, output is the input four samples late
-pub whole-case : samplesOut (gives (record { settings = record { scale = 4095; eps = 200; decay = 0; floor = 100; mode = scaleMode; channel = 0 }; key = noNote }) freshTake (pos 1000 ∷ minus 1000 ∷ pos 500 ∷ pos 8 ∷ pos 9 ∷ pos 10 ∷ []))
+pub whole-case : samplesOut (gives (record { settings = record { scale = 4095; eps = 200; decay = 0; floor = 100; mode = scaleMode; channel = 0 }; key = noNote; hertz = cdRate }) freshTake (pos 1000 ∷ minus 1000 ∷ pos 500 ∷ pos 8 ∷ pos 9 ∷ pos 10 ∷ []))
     ≡ pos 0 ∷ pos 0 ∷ pos 0 ∷ pos 0 ∷ pos 1000 ∷ minus 1000 ∷ []
 unfolding freshTake silence heard gives samplesOut stepped eighthDue eighthsAfter noTone listened listenedIn growth cycleRepeated cycleDropped cycles inputAt reading curve held through sampleAt wholeOf fractionOf
 whole-case = refl

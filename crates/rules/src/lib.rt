@@ -36,12 +36,19 @@ pub const GREATEST_PERIOD: u32 = 256 * HIGHEST_LAG;
 // The highest that the lowest of eight lags can be.
 pub const HIGHEST_LOW: u32 = HIGHEST_LAG - 7;
 
-// The table: how many notes it holds, its first and its last.
-pub const NOTES: usize = 69;
+// The sample rates: of discs, and of film.
+pub const CD_RATE: u32 = 44100;
 
-pub const FIRST_NOTE: u32 = 32;
+pub const FILM_RATE: u32 = 48000;
 
-pub const LAST_NOTE: u32 = FIRST_NOTE + NOTES as u32 - 1;
+// The tables at these rates: how many notes each holds, and its first.
+pub const CD_NOTES: usize = 69;
+
+pub const CD_FIRST_NOTE: u32 = 32;
+
+pub const FILM_NOTES: usize = 70;
+
+pub const FILM_FIRST_NOTE: u32 = 33;
 
 // The modes: the wanted note is of the scale, or the key held.
 pub const SCALE_MODE: u32 = 0;
@@ -75,10 +82,11 @@ pub struct Settings {
     pub channel: u32,
 }
 
-// What is in force at a sample: the settings, and the key held, 128 where there is none.
+// What is in force at a sample: the settings, the key held, 128 where there is none, and the sample rate.
 pub struct InForce {
     pub settings: Settings,
     pub key: u32,
+    pub hertz: u32,
 }
 
 // The goal of a tracking step: the wanted note, 128 where there is none, and the raw rate toward it.

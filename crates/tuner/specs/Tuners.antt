@@ -8,7 +8,7 @@ use lib.IntN.{ℤ, pos, natAbs, _-ℤ_}
 use lib.ListN.{length, take, drop, replicate}
 use Rattle.rules.specs.declared.Settings.{Settings}
 use Rattle.rules.specs.declared.InForce.{InForce}
-use Rattle.rules.specs.Rules.{Sound, heard, eighthDue, eighthSample, Take, Given, inputAt, settingsNumber, inRange, defaults, after, gives, samplesOut, allRepeated, allDropped, takeLimit, longestBlock, keptSamples, eighthLags}
+use Rattle.rules.specs.Rules.{Sound, heard, eighthDue, eighthSample, Take, Given, inputAt, settingsNumber, inRange, defaults, cdRate, after, gives, samplesOut, allRepeated, allDropped, takeLimit, longestBlock, keptSamples, eighthLags}
 use Rattle.rules.specs.Facts.{energiesOf, correlationsOf, keeping}
 use Rattle.keyboard.specs.Keys.{fresh, played, onChannel}
 use Rattle.pitch.specs.Pitches.{pitchOf, keptOf}
@@ -35,7 +35,7 @@ takeOf t =
     }
 
 abbrev pub forceOf : Tuner → InForce
-forceOf t = record { settings = t .settings; key = t .keyboard .key }
+forceOf t = record { settings = t .settings; key = t .keyboard .key; hertz = cdRate }
 
 -- ---- a good record: each of its parts is right
 abbrev pub Good : Tuner → Type 0
@@ -208,4 +208,4 @@ pub record Keyed (t : Tuner) (bytes : List ℕ) (t′ : Tuner) (a : Answer) : Ty
 -- the promise of a read of the meter: refused where the record is not good, else what `shownOf` says, each figure exact
 pub data Metered (t : Tuner) (r : Meter) : Type 0 where
   record-out-of-range : (Good t → ⊥) → r ≡ Meter.Refused → Metered t r
-  read : Good t → r ≡ shownOf (t .pitch) → Exact (t .pitch) r → Metered t r
+  read : Good t → r ≡ shownOf cdRate (t .pitch) → Exact cdRate (t .pitch) r → Metered t r

@@ -8,6 +8,7 @@ use pitch::Pitch;
 use record::Head;
 use record::Heard;
 use record::Last;
+use rules::CD_RATE;
 use rules::InForce;
 use rules::KEPT_EIGHTHS;
 use rules::KEPT_SAMPLES;
@@ -126,6 +127,7 @@ fn after_block(t: Tuner, number: u16, samples: &[i16]) -> Tuner
     let f = InForce {
         settings: g,
         key: keys.key,
+        hertz: CD_RATE,
     };
     let n = samples.len();
     let store = t.heard.store;
@@ -298,7 +300,7 @@ impl Tuner {
             return Meter::Refused;
         }
         let v = self.pitch;
-        meters::shown(v)
+        meters::shown(CD_RATE, v)
     }
 }
 

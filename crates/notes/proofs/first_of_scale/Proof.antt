@@ -3,18 +3,27 @@
 use mathlib.Core.Path.{_≡_, sym, _∙_}
 use Prim.Native.Nat.{_+_, _-_, _%_, _≤_, _<_}
 use native.Mathlib.Omega.{arith}
+use Rattle.rules.specs.Rules.{firstNote, notes}
+use Rattle.rules.specs.Table.{table-span}
 use Rattle.notes.specs.Around.{NoneOfScale, none-yet, none-above}
 use Rattle.notes.proofs.first_of_scale.Statement.{statement}
 use Rattle.notes.proofs.first_of_scale.Tie as tie
 
 abbrev Inv-loop : tie.InvT-loop
-Inv-loop scale k j₀ c₀ j c = (k ≤ j) × (j ≤ 69) × ((32 + j) % 12 ≡ c) × NoneOfScale scale (32 + k) (32 + j)
+Inv-loop hertz scale k past j₀ c₀ j c =
+    (k ≤ j) × (j ≤ notes hertz) × ((firstNote hertz + j) % 12 ≡ c) × NoneOfScale scale (firstNote hertz + k) (firstNote hertz + j)
 
 abbrev μ-loop : tie.MeasureT-loop
-μ-loop scale k j₀ c₀ j c = 69 - j
+μ-loop hertz scale k past j₀ c₀ j c = notes hertz - j
+
+count-requires : tie.Need-count-requires Inv-loop μ-loop
+count-requires c κs = tt
+
+first-note-requires : tie.Need-first-note-requires Inv-loop μ-loop
+first-note-requires c κs = tt
 
 add-c : tie.Need-add-c Inv-loop μ-loop
-add-c c = omega arith
+add-c c = omega (arith, c .first-note .ensures, table-span (c .before .before .pre .0))
 
 loop-holds : tie.Need-loop-holds Inv-loop μ-loop
 loop-holds c = (omega arith, omega arith, omega arith, none-yet)
@@ -28,7 +37,7 @@ returns c =
     record {
       from = l .inv .0;
       upto = l .inv .1;
-      first = λ h. sym (c .before .of-scale .ensures (32 + l .j) (l .inv .2)) ∙ c .if1 .taken;
+      first = λ h. sym (c .before .of-scale .ensures _ (l .inv .2)) ∙ c .if1 .taken;
       none-before = l .inv .3;
     }
 
@@ -44,8 +53,9 @@ loop-less c = omega arith
 loop-again : tie.Need-loop-again Inv-loop μ-loop
 loop-again c =
     let l = c .before .before .before .before .loop in
-    let off = sym (c .before .before .of-scale .ensures (32 + l .j) (l .inv .2)) ∙ c .before .if1 .left in
-    let next : 32 + l .j + 1 ≡ 32 + (l .j + 1) = omega arith in
+    let first = firstNote (c .before .before .before .before .before .before .before .args .hertz) in
+    let off = sym (c .before .before .of-scale .ensures (first + l .j) (l .inv .2)) ∙ c .before .if1 .left in
+    let next : first + l .j + 1 ≡ first + (l .j + 1) = omega arith in
     (omega arith, omega arith, omega arith, rw next at (none-above (l .inv .3) off))
 
 returns-2 : tie.Need-returns-2 Inv-loop μ-loop
@@ -59,6 +69,8 @@ first-of-scale-spec =
     (tie.spec
     Inv-loop
     μ-loop
+    count-requires
+    first-note-requires
     add-c
     loop-holds
     of-scale-requires

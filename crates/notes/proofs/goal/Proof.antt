@@ -11,13 +11,13 @@ use Rattle.notes.proofs.goal.Tie as tie
 goal-of-scale-requires : tie.Need-goal-of-scale-requires
 goal-of-scale-requires c κs =
     let s = c .before .before in
-    let scale = ranges _ (s .pre .0 .settings) .scale in (scale .0, scale .1, s .pre .1, s .pre .2)
+    let scale = ranges _ (s .pre .0 .settings) .scale in (s .pre .0 .hertz, scale .0, scale .1, s .pre .1, s .pre .2)
 
 returns : tie.Need-returns
 unfolding goal
 returns c =
     let a = c .before .before .before .args in
-    c .goal-of-scale .ensures ∙ sym (ap (goalOf (a .period)) (note-of-scale (a .f) (a .period) (c .before .if1 .taken)))
+    c .goal-of-scale .ensures ∙ sym (ap (goalOf (a .f .hertz) (a .period)) (note-of-scale (a .f) (a .period) (c .before .if1 .taken)))
 
 goal-of-key-requires : tie.Need-goal-of-key-requires
 goal-of-key-requires c κs = search needs
@@ -26,7 +26,7 @@ returns-2 : tie.Need-returns-2
 unfolding goal
 returns-2 c =
     let a = c .before .before .before .args in
-    c .goal-of-key .ensures ∙ sym (ap (goalOf (a .period)) (note-of-keyboard (a .f) (a .period) (c .before .if1 .left)))
+    c .goal-of-key .ensures ∙ sym (ap (goalOf (a .f .hertz) (a .period)) (note-of-keyboard (a .f) (a .period) (c .before .if1 .left)))
 
 pub goal-spec : {M : Type 1} → statement M
 goal-spec = tie.close (tie.spec goal-of-scale-requires returns goal-of-key-requires returns-2)

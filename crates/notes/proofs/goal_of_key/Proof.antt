@@ -14,7 +14,7 @@ wanted-period-requires c κs = search needs
 raw-toward-requires : tie.Need-raw-toward-requires
 raw-toward-requires c κs =
     let e = c .wanted-period .ensures in
-    (c .before .pre, λ h. omega (arith, e, wanted-period-range (c .before .args .key) (omega (arith, e)) .0))
+    (c .before .pre .1, λ h. omega (arith, e, wanted-period-range (c .before .pre .0) (c .before .args .key) (omega (arith, e)) .0))
 
 returns : tie.Need-returns
 unfolding goalOf

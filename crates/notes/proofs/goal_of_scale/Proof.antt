@@ -1,62 +1,43 @@
--- `notes::goal_of_scale` meets its contract. The period read is the wanted note's, whose raw rate lies from a half to two, so that every call is allowed.
+-- `notes::goal_of_scale` meets its contract. Each array is the table of its rate.
 -- Assumes nothing.
-use mathlib.Core.Path.{_≡_, refl, sym, ap, _∙_}
-use Prim.Native.Nat.{_+_}
-use native.Mathlib.Omega.{arith}
+use mathlib.Core.Path.{sym}
 use borrow.Author.Needs.{needs}
-use lib.ListN.{getD}
-use Rattle.rules.specs.Rules.{table, notePeriod, rawRate, noteOf, goalOf}
-use Rattle.rules.specs.Notes.{wanted-is, note-period-range, raw-range, goal-of-scale}
-use Rattle.notes.specs.Around.{at-place}
+use Rattle.rules.specs.Rules.{cdTable, filmTable}
+use Rattle.rules.specs.Table.{at-cd, at-film}
 use Rattle.notes.proofs.goal_of_scale.Statement.{statement}
 use Rattle.notes.proofs.goal_of_scale.Tie as tie
 
-nearest-requires : tie.Need-nearest-requires
-unfolding table
-nearest-requires c κs = (refl, c .before .pre .0, c .before .pre .1)
+slice-aggregate-goal-among : tie.Need-slice-aggregate-goal-among
+slice-aggregate-goal-among c = search needs
 
-cast-raw-rate : tie.Need-cast-raw-rate
-cast-raw-rate c = search needs
-
-mul-raw-rate : tie.Need-mul-raw-rate
-mul-raw-rate c = search needs
-
-array-read-raw-rate : tie.Need-array-read-raw-rate
-array-read-raw-rate c = search needs
-
--- the period read
-read : (c : tie.After-nearest) → getD table (c .nearest .result) 0 ≡ notePeriod (32 + c .nearest .result)
-read c = at-place refl (c .nearest .result) (32 + c .nearest .result) refl
-
-raw-rate-requires : tie.Need-raw-rate-requires
-unfolding table
-raw-rate-requires c κs =
-    let s = c .before .before in
-    let w = wanted-is _ _ _ (c .nearest .ensures .1) in
-    rw (read c) (omega (arith, note-period-range _ (w .inTable .0) (w .inTable .1)), omega (arith, raw-range w (s .pre .2) (s .pre .3) .1))
-
-add-t12 : tie.Need-add-t12
-add-t12 c = search needs
+goal-among-requires : tie.Need-goal-among-requires
+unfolding cdTable
+goal-among-requires c κs =
+    let p = c .before .before .pre in
+    (p .0, sym (at-cd _ (c .before .if1 .taken) .0), p .1, p .2, p .3, p .4)
 
 returns : tie.Need-returns
-unfolding table noteOf
-returns c =
-    let n = c .before in
-    let s = n .before .before in
-    let w = wanted-is _ _ _ (n .nearest .ensures .1) in
-    let raw = c .raw-rate .ensures ∙ ap (rawRate (s .args .period)) (read n) in
-    (λ i. record { note = 32 + n .nearest .result; raw = raw i })
-    ∙ sym (goal-of-scale w (s .pre .2) (s .pre .3))
-    ∙ sym (ap (λ o. goalOf (s .args .period) (noteOf o)) (n .nearest .ensures .1))
+returns c = search needs
+
+slice-aggregate-goal-among-2 : tie.Need-slice-aggregate-goal-among-2
+slice-aggregate-goal-among-2 c = search needs
+
+goal-among-requires-2 : tie.Need-goal-among-requires-2
+unfolding filmTable
+goal-among-requires-2 c κs =
+    let p = c .before .before .pre in
+    (p .0, sym (at-film _ (c .before .if1 .left) .0), p .1, p .2, p .3, p .4)
+
+returns-2 : tie.Need-returns-2
+returns-2 c = search needs
 
 pub goal-of-scale-spec : {M : Type 1} → statement M
 goal-of-scale-spec =
     tie.close
     (tie.spec
-    nearest-requires
-    cast-raw-rate
-    mul-raw-rate
-    array-read-raw-rate
-    raw-rate-requires
-    add-t12
-    returns)
+    slice-aggregate-goal-among
+    goal-among-requires
+    returns
+    slice-aggregate-goal-among-2
+    goal-among-requires-2
+    returns-2)

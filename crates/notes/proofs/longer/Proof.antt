@@ -9,16 +9,19 @@ use Rattle.notes.proofs.longer.Statement.{statement}
 use Rattle.notes.proofs.longer.Tie as tie
 
 abbrev Inv-loop : tie.InvT-loop
-Inv-loop periods period s₀ s = Halving period (s .low) (s .high)
+Inv-loop hertz periods period s₀ s = Halving hertz period (s .low) (s .high)
 
 abbrev μ-loop : tie.MeasureT-loop
-μ-loop periods period s₀ s = s .high - s .low
+μ-loop hertz periods period s₀ s = s .high - s .low
+
+count-requires : tie.Need-count-requires Inv-loop μ-loop
+count-requires c κs = tt
 
 loop-holds : tie.Need-loop-holds Inv-loop μ-loop
-loop-holds c = whole-table _
+loop-holds c = rw (c .count .ensures) (whole-table _ _)
 
 halved-requires : tie.Need-halved-requires Inv-loop μ-loop
-halved-requires c κs = (c .before .before .before .pre, c .if1 .taken, c .before .before .loop .inv)
+halved-requires c κs = let s = c .before .before .before .before .before in (s .pre .0, s .pre .1, c .if1 .taken, c .before .before .loop .inv)
 
 loop-less : tie.Need-loop-less Inv-loop μ-loop
 loop-less c = c .halved .ensures .1
@@ -34,4 +37,4 @@ returns c =
 
 pub longer-spec : {M : Type 1} → statement M
 longer-spec =
-    tie.close (tie.spec Inv-loop μ-loop loop-holds halved-requires loop-less loop-again returns)
+    tie.close (tie.spec Inv-loop μ-loop count-requires loop-holds halved-requires loop-less loop-again returns)

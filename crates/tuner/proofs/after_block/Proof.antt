@@ -5,6 +5,7 @@ use Prim.Native.Nat.{_≤_}
 use native.Mathlib.Omega.{arith}
 use borrow.Author.Needs.{needs}
 use lib.ListN.{length}
+use Rattle.rules.specs.Facts.{cd}
 use Rattle.record.specs.Parts.{Stores}
 use Rattle.tuner.specs.Afters.{begin-long, begin-ready, end-places-few, after-is}
 use Rattle.tuner.proofs.Fields.{stores}
@@ -42,7 +43,7 @@ run-requires c κs =
     let s = start o in
     let p = s .pre in
     let t = s .args .t in (
-      record { settings = p .0 .settings; key = p .0 .keyboard .key },
+      record { settings = p .0 .settings; key = p .0 .keyboard .key; hertz = cd refl },
       begin-long t (p .0) (arrays s) (o .before .joined .ensures) (o .opened .ensures),
       omega (arith, o .before .joined .ensures .long, p .2),
       p .2,

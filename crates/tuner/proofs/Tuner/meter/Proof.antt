@@ -3,6 +3,7 @@
 use mathlib.Core.Path.{refl}
 use borrow.Author.Needs.{needs}
 use Rattle.whole.specs.Tests.{passed, failed}
+use Rattle.rules.specs.Facts.{cd}
 use Rattle.tuner.specs.Tuners.{record-out-of-range, read}
 use Rattle.tuner.proofs.Tuner.meter.Statement.{statement}
 use Rattle.tuner.proofs.Tuner.meter.Tie as tie
@@ -14,7 +15,7 @@ returns : tie.Need-returns
 returns c = record-out-of-range (failed (c .before .good2 .ensures) (c .if1 .taken)) refl
 
 shown-requires : tie.Need-shown-requires
-shown-requires c κs = passed (c .before .before .good2 .ensures) (c .before .if1 .left) .pitch .pitch
+shown-requires c κs = (cd refl, passed (c .before .before .good2 .ensures) (c .before .if1 .left) .pitch .pitch)
 
 returns-2 : tie.Need-returns-2
 returns-2 c =
