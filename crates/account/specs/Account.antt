@@ -17,13 +17,13 @@ use Rattle.keyboard.specs.Keys.{fresh, played, onChannel}
 use Rattle.tuner.specs.declared.Tuner.{Tuner}
 use Rattle.answers.specs.declared.Answer.{Answer}
 use Rattle.meters.specs.declared.Meter.{Meter}
-use Rattle.tuner.specs.Tuners.{freshTuner, takeOf, forceOf, Good, made, Took, Started, Changed, Keyed, Reset, Metered}
+use Rattle.tuner.specs.Tuners.{defaultTuner, takeOf, forceOf, Good, made, Took, Started, Changed, Keyed, Reset, Metered}
 
 -- ---- the history
 
--- a call and what it answered; a block also with its output before and after. The start with the defaults is a start like any other, with `defaults`
+-- a call and what it answered; a block also with its output before and after. The start with the defaults is a start like any other, with `defaults` at 44,100
 pub data Call : Type 0 where
-  start : Settings → Answer → Call
+  start : ℕ → Settings → Answer → Call
   change : Settings → Answer → Call
   block : ℕ → List ℤ → List ℤ → Answer → List ℤ → Call
   midi : List ℕ → Answer → Call
@@ -32,7 +32,7 @@ pub data Call : Type 0 where
 
 -- the call to the tuner t keeps its promise and leaves t′; a start asks nothing of t, and the meter leaves it
 pub data Leaves (t : Tuner) : Call → Tuner → Type 0 where
-  by-start : {s : Settings} {a : Answer} {t′ : Tuner} → Started s t′ a → Leaves t (start s a) t′
+  by-start : {hertz : ℕ} {s : Settings} {a : Answer} {t′ : Tuner} → Started hertz s t′ a → Leaves t (start hertz s a) t′
   by-change : {s : Settings} {a : Answer} {t′ : Tuner} → Changed t s t′ a → Leaves t (change s a) t′
   by-block : {k : ℕ} {xs ys ys′ : List ℤ} {a : Answer} {t′ : Tuner} → Took t k xs ys t′ a ys′ → Leaves t (block k xs ys a ys′) t′
   by-midi : {bytes : List ℕ} {a : Answer} {t′ : Tuner} → Keyed t bytes t′ a → Leaves t (midi bytes a) t′
@@ -41,30 +41,33 @@ pub data Leaves (t : Tuner) : Call → Tuner → Type 0 where
 
 -- any calls one after the other, the newest first, from a fresh start on
 pub data Series : List Call → Tuner → Type 0 where
-  fresh-start : Series [] (freshTuner defaults)
+  fresh-start : Series [] defaultTuner
   and-then : {cs : List Call} {c : Call} {t t′ : Tuner} → Series cs t → Leaves t c t′ → Series (c ∷ cs) t′
 
--- since the last start or reset: the settings, and the keyboard by its bytes; each block taken, with what was in force; what they wrote, one after the other; the counts that they answered, added up
+-- since the last start or reset: the settings, the sample rate, and the keyboard by its bytes; each block taken, with what was in force; what they wrote, one after the other; the counts that they answered, added up
 pub record Received : Type 0 where
   pub settings : Settings
+  pub hertz : ℕ
   pub keyboard : Keyboard
   pub pieces : List Piece
   pub written : List ℤ
   pub repeated : ℕ
   pub dropped : ℕ
 
--- what is in force: the settings, and the key held
+-- what is in force: the settings, the key held, and the sample rate
 abbrev pub forceNow : Received → InForce
-forceNow r = record { settings = r .settings; key = r .keyboard .key; hertz = cdRate }
+forceNow r = record { settings = r .settings; key = r .keyboard .key; hertz = r .hertz }
 
-abbrev pub begun : Settings → Received
-begun s = record { settings = s; keyboard = fresh; pieces = []; written = []; repeated = 0; dropped = 0 }
+-- nothing was received yet
+abbrev pub begun : ℕ → Settings → Received
+begun hertz s = record { settings = s; hertz = hertz; keyboard = fresh; pieces = []; written = []; repeated = 0; dropped = 0 }
 
 -- one block more: its samples under what is in force, what it wrote and what it counted
 abbrev pub withBlock : Received → List ℤ → Answer → List ℤ → Received
 withBlock r xs a ys′ =
     record {
       settings = r .settings;
+      hertz = r .hertz;
       keyboard = r .keyboard;
       pieces = r .pieces ++ (record { inForce = forceNow r; samples = xs } ∷ []);
       written = r .written ++ take (a .written) ys′;
@@ -78,7 +81,7 @@ plusBlock r xs a ys′ = cond (eqb (a .number) 0) (withBlock r xs a ys′) r
 
 -- the same with these settings and this keyboard
 abbrev pub withForce : Received → Settings → Keyboard → Received
-withForce r s k = record { settings = s; keyboard = k; pieces = r .pieces; written = r .written; repeated = r .repeated; dropped = r .dropped }
+withForce r s k = record { settings = s; hertz = r .hertz; keyboard = k; pieces = r .pieces; written = r .written; repeated = r .repeated; dropped = r .dropped }
 
 -- settings taken are in force from the next sample; another channel begins its keyboard anew
 unfoldable pub plusChange : Received → Settings → Answer → Received
@@ -88,17 +91,17 @@ plusChange r s a = cond (eqb (a .number) 0) (withForce r s (onChannel (r .settin
 unfoldable pub plusBytes : Received → List ℕ → Answer → Received
 plusBytes r bytes a = cond (eqb (a .number) 0) (withForce r (r .settings) (played (r .settings .channel) (r .keyboard) bytes)) r
 
--- what one call adds; a start or a reset begins the account again
+-- what one call adds; a start or a reset begins the account again, a refused start with the default tuner's
 unfoldable pub plus : Call → Received → Received
-plus (start s a) r = begun (cond (eqb (a .number) 0) s defaults)
+plus (start hertz s a) r = cond (eqb (a .number) 0) (begun hertz s) (begun cdRate defaults)
 plus (change s a) r = plusChange r s a
 plus (block k xs ys a ys′) r = plusBlock r xs a ys′
 plus (midi bytes a) r = plusBytes r bytes a
-plus (reset a) r = cond (eqb (a .number) 0) (begun (r .settings)) r
+plus (reset a) r = cond (eqb (a .number) 0) (begun (r .hertz) (r .settings)) r
 plus (meter m) r = r
 
 unfoldable pub received : List Call → Received
-received [] = begun defaults
+received [] = begun cdRate defaults
 received (c ∷ cs) = plus c (received cs)
 
 -- ---- what holds
@@ -120,9 +123,10 @@ eighthsOf r = heardAll silence (made 0 silence (samplesOf r))
 
 -- the account of the tuner t over what was received
 pub record Accounted (r : Received) (t : Tuner) : Type 0 where
-  -- the record is good, so no call is answered 9; settings and keyboard are what the calls made them; each sample is counted once
+  -- the record is good, so no call is answered 9; settings, sample rate and keyboard are what the calls made them; each sample is counted once
   pub good : Good t
   pub settings : t .settings ≡ r .settings
+  pub hertz : t .hertz ≡ r .hertz
   pub keyboard : t .keyboard ≡ r .keyboard
   pub count : t .heard .count ≡ length (samplesOf r)
   -- sums: those at eighth rate and, while tracking, the eight at full rate are the direct sums over all that was received
@@ -147,7 +151,7 @@ Theorem = (cs : List Call) (t : Tuner) → Series cs t → Accounted (received c
 
 -- a call that neither takes a block nor begins anew: settings changed or refused, keyboard bytes, a block refused or given again, a reset refused, the meter read
 unfoldable pub TakesNone : Call → Type 0
-TakesNone (start s a) = ⊥
+TakesNone (start hertz s a) = ⊥
 TakesNone (change s a) = Unit
 TakesNone (block k xs ys a ys′) = 0 < a .number
 TakesNone (midi bytes a) = Unit

@@ -15,9 +15,9 @@ use Rattle.whole.specs.Bounds.{natAbs-zero}
 use Rattle.whole.specs.Lists.{length-listOf, getD-listOf}
 use Rattle.whole.specs.Sums.{sum-within, total-zero}
 use Rattle.rules.specs.declared.Settings.{Settings}
-use Rattle.rules.specs.Rules.{Sound, silence, heard, heardAll, sq, E, H, noTone, inRange, defaults, cdRate, after}
-use Rattle.rules.specs.Ranges.{defaults-in-range, settings-not-nine}
-use Rattle.rules.specs.Facts.{InRange, cd, ForceIn, unpitched, valueAt, Right, keeping}
+use Rattle.rules.specs.Rules.{Sound, silence, heard, heardAll, sq, E, H, noTone, inRange, defaults, cdRate, startNumber, after}
+use Rattle.rules.specs.Ranges.{unrefused-start, default-start, settings-not-nine}
+use Rattle.rules.specs.Facts.{InRange, SampleRate, ForceIn, unpitched, valueAt, Right, keeping}
 use Rattle.rules.specs.Hearing.{all-heard}
 use Rattle.rules.specs.Position.{behind-in-bounds, in-bounds-behind}
 use Rattle.rules.specs.Sane.{Sane, after-sane}
@@ -33,7 +33,7 @@ use Rattle.keyboard.specs.Playing.{fresh-in, played-in, onChannel-in}
 use Rattle.record.specs.declared.Last.{Last}
 use Rattle.record.specs.Records.{soundOf, freshHeard, freshPitch, freshHead, noLast}
 use Rattle.tuner.specs.declared.Tuner.{Tuner}
-use Rattle.tuner.specs.Tuners.{takeOf, forceOf, Good, freshTuner, made, heardAfter, afterBlock, lastSamples, Fits, Verdict, record-out-of-range, given-again, tunerBy, answerBy, Took, Started, withSettings, ChangeVerdict, by-settings, Changed, NineOnly, Reset, withBytes, Keyed, Metered, read}
+use Rattle.tuner.specs.Tuners.{takeOf, forceOf, Good, freshTuner, defaultTuner, made, heardAfter, afterBlock, lastSamples, Fits, Verdict, record-out-of-range, given-again, tunerBy, answerBy, Took, Started, withSettings, ChangeVerdict, by-settings, Changed, NineOnly, Reset, withBytes, Keyed, Metered, read}
 use Rattle.tuner.specs.Taking.{made-length}
 use Rattle.tuner.specs.Verdicts.{verdict-one, verdict-fits, verdict-zero, tuner-taken, tuner-kept, by-refused, by-given, counted, overlaid, out-length}
 use Rattle.account.specs.Account.{Call, Leaves, by-start, by-change, by-block, by-midi, by-reset, by-meter, TakesNone, Meanwhile, nothing, and-meanwhile, GivenAgain, NeverNine}
@@ -71,11 +71,12 @@ silent-right {x} low n p =
           ∙ sym (natAbs-zero (H x (low + j)) (omega (arith, sum-within 0 (λ (k : ℕ). x k *ℤ x (k + (low + j))) (λ k. record { within = rw (p k, p (k + (low + j))) (omega arith) }) (low + j) .within)));
     }
 
-pub good-fresh : (s : Settings) → InRange s → Good (freshTuner s)
+pub good-fresh : {hertz : ℕ} (s : Settings) → SampleRate hertz → InRange s → Good (freshTuner hertz s)
 unfolding freshTuner freshHeard freshPitch freshHead noLast noTone silence
-good-fresh s e =
+good-fresh s rate e =
     record {
       settings = e;
+      hertz = rate;
       keyboard = fresh-in;
       heard =
           record {
@@ -89,9 +90,9 @@ good-fresh s e =
       last = record { length = omega arith; within = omega arith };
     }
 
-pub fresh-lengths : (s : Settings) → Lengths (freshTuner s)
+pub fresh-lengths : (hertz : ℕ) (s : Settings) → Lengths (freshTuner hertz s)
 unfolding freshTuner freshHeard noLast
-fresh-lengths s =
+fresh-lengths hertz s =
     record {
       store = length-replicate 1764 (pos 0);
       eighths = length-replicate 224 (pos 0);
@@ -103,7 +104,7 @@ fresh-lengths s =
 -- ---- a good tuner holds a take in its ranges
 
 pub good-force : {t : Tuner} → Good t → ForceIn (forceOf t)
-good-force g = record { settings = g .settings; key = g .keyboard .key; hertz = cd refl }
+good-force g = record { settings = g .settings; key = g .keyboard .key; hertz = g .hertz }
 
 pub good-sane : {t : Tuner} → Good t → Sane (takeOf t)
 unfolding takeOf
@@ -128,6 +129,7 @@ good-after t k xs g l most upto =
     let sane = after-sane (good-force g) (good-sane g) xs in
     record {
       settings = g .settings;
+      hertz = g .hertz;
       keyboard = g .keyboard;
       heard =
           record {
@@ -166,10 +168,10 @@ module _ {t : Tuner} (g : Good t) (l : Lengths t) where
       (λ e. (g, l)))
 
   -- other settings and another keyboard
-  good-with : {s : Settings} {k : Keyboard} → InRange s → KeyboardIn k → Good (record { settings = s; keyboard = k; heard = t .heard; pitch = t .pitch; head = t .head; last = t .last })
-  good-with r i = record { settings = r; keyboard = i; heard = g .heard; pitch = g .pitch; head = g .head; last = g .last }
+  good-with : {s : Settings} {k : Keyboard} → InRange s → KeyboardIn k → Good (record { settings = s; hertz = t .hertz; keyboard = k; heard = t .heard; pitch = t .pitch; head = t .head; last = t .last })
+  good-with r i = record { settings = r; hertz = g .hertz; keyboard = i; heard = g .heard; pitch = g .pitch; head = g .head; last = g .last }
 
-  lengths-with : {s : Settings} {k : Keyboard} → Lengths (record { settings = s; keyboard = k; heard = t .heard; pitch = t .pitch; head = t .head; last = t .last })
+  lengths-with : {s : Settings} {k : Keyboard} → Lengths (record { settings = s; hertz = t .hertz; keyboard = k; heard = t .heard; pitch = t .pitch; head = t .head; last = t .last })
   lengths-with = record { store = l .store; eighths = l .eighths; energies = l .energies; correlations = l .correlations; out = l .out }
 
   pub changed-good : {s : Settings} {t′ : Tuner} {a : Answer} → Changed t s t′ a → Good t′ × Lengths t′
@@ -192,16 +194,23 @@ module _ {t : Tuner} (g : Good t) (l : Lengths t) where
   pub reset-good : {t′ : Tuner} {a : Answer} → Reset t t′ a → Good t′ × Lengths t′
   reset-good p =
       rw (p .tuner)
-      (cond-case (eqb (p .number) 0) (freshTuner (t .settings)) t (λ (u : Tuner). Good u × Lengths u)
-      (λ e. (good-fresh (t .settings) (g .settings), fresh-lengths (t .settings)))
+      (cond-case (eqb (p .number) 0) (freshTuner (t .hertz) (t .settings)) t (λ (u : Tuner). Good u × Lengths u)
+      (λ e. (good-fresh (t .settings) (g .hertz) (g .settings), fresh-lengths (t .hertz) (t .settings)))
       (λ e. (g, l)))
 
-pub started-good : {s : Settings} {t′ : Tuner} {a : Answer} → Started s t′ a → Good t′ × Lengths t′
-started-good {s} p =
+-- what a start takes
+unrefused-good : (hertz : ℕ) (s : Settings) → startNumber hertz s ≡ 0 → Good (freshTuner hertz s) × Lengths (freshTuner hertz s)
+unrefused-good hertz s e = let r = unrefused-start s e in (good-fresh s (r .0) (r .1), fresh-lengths hertz s)
+
+pub default-good : Good defaultTuner × Lengths defaultTuner
+default-good = unrefused-good cdRate defaults default-start
+
+pub started-good : {hertz : ℕ} {s : Settings} {t′ : Tuner} {a : Answer} → Started hertz s t′ a → Good t′ × Lengths t′
+started-good {hertz} {s} p =
     rw (p .tuner)
-    (cond-case (inRange s) s defaults (λ (r : Settings). Good (freshTuner r) × Lengths (freshTuner r))
-    (λ e. (good-fresh s (eqb-true _ 0 e), fresh-lengths s))
-    (λ e. (good-fresh defaults defaults-in-range, fresh-lengths defaults)))
+    (cond-case (eqb (startNumber hertz s) 0) (freshTuner hertz s) defaultTuner (λ (u : Tuner). Good u × Lengths u)
+    (λ e. unrefused-good hertz s (eqb-true _ 0 e))
+    (λ e. default-good))
 
 call-good : {t t′ : Tuner} {c : Call} → Good t → Lengths t → Leaves t c t′ → Good t′ × Lengths t′
 call-good g l (by-start p) = started-good p
@@ -262,7 +271,7 @@ good-never-nine {t} g =
     -- what is shown exactly is never a refusal
     meter-refused : {r : Meter} → Metered t r → r ≡ Meter.Refused → ⊥
     meter-refused (record-out-of-range n x) e = n g
-    meter-refused (read h x shown) e = refused-inexact (subst (Exact cdRate (t .pitch)) e shown)
+    meter-refused (read h x shown) e = refused-inexact (subst (Exact (t .hertz) (t .pitch)) e shown)
 
 -- ---- a refusal changes nothing
 
@@ -282,7 +291,7 @@ pub refused-change-unchanged : {t t′ : Tuner} {s : Settings} {a : Answer} → 
 refused-change-unchanged {t} {s = s} p h = kept-unless-zero (withSettings t s) (p .tuner) (p .answer) h
 
 pub refused-reset-unchanged : {t t′ : Tuner} {a : Answer} → Reset t t′ a → 0 < a .number → t′ ≡ t
-refused-reset-unchanged {t} p h = kept-unless-zero (freshTuner (t .settings)) (p .tuner) (p .answer) h
+refused-reset-unchanged {t} p h = kept-unless-zero (freshTuner (t .hertz) (t .settings)) (p .tuner) (p .answer) h
 
 pub refused-bytes-unchanged : {t t′ : Tuner} {bytes : List ℕ} {a : Answer} → Keyed t bytes t′ a → 0 < a .number → t′ ≡ t
 refused-bytes-unchanged {t} {bytes = bytes} p h = kept-unless-zero (withBytes t bytes) (p .tuner) (p .answer) h

@@ -12,9 +12,9 @@ use lib.Seq.{take-at}
 use Rattle.whole.specs.Tests.{by, cond-case, cond-yes, cond-no}
 use Rattle.rules.specs.declared.Settings.{Settings}
 use Rattle.rules.specs.declared.InForce.{InForce}
-use Rattle.rules.specs.Rules.{Sound, silence, heardAll, Mode, searching, tracking, Pitch, noTone, Take, Given, inputAt, freshTake, inRange, defaults, cdRate, after, gives, samplesOut, gathered, allRepeated, allDropped}
-use Rattle.rules.specs.Ranges.{defaults-in-range}
-use Rattle.rules.specs.Facts.{InRange, ForceIn, keeping}
+use Rattle.rules.specs.Rules.{Sound, silence, heardAll, Mode, searching, tracking, Pitch, noTone, Take, Given, inputAt, freshTake, defaults, cdRate, startNumber, after, gives, samplesOut, gathered, allRepeated, allDropped}
+use Rattle.rules.specs.Ranges.{unrefused-start, default-start}
+use Rattle.rules.specs.Facts.{InRange, SampleRate, ForceIn, keeping}
 use Rattle.rules.specs.History.{Piece, afterPieces, overPieces, givesPieces, samplesPieces}
 use Rattle.pitch.specs.Keeping.{kept-pitch}
 use Rattle.pitch.specs.Listening.{lags-of}
@@ -30,7 +30,7 @@ use Rattle.answers.specs.declared.Answer.{Answer}
 use Rattle.keyboard.specs.declared.Keyboard.{Keyboard}
 use Rattle.keyboard.specs.Keys.{played, onChannel}
 use Rattle.record.specs.Records.{soundOf, freshHeard, freshPitch, freshHead, noLast}
-use Rattle.tuner.specs.Tuners.{freshTuner, takeOf, forceOf, Good, made, heardAfter, afterBlock, Took, Started, withSettings, Changed, withBytes, Keyed, Reset}
+use Rattle.tuner.specs.Tuners.{freshTuner, defaultTuner, takeOf, forceOf, Good, made, heardAfter, afterBlock, Took, Started, withSettings, Changed, withBytes, Keyed, Reset}
 use Rattle.tuner.specs.Taking.{kept-age, right-alike, made-append, after-eighths}
 use Rattle.tuner.specs.Verdicts.{tuner-taken, verdict-fits}
 use Rattle.account.specs.Calls.{Lengths, still-silent, good-fresh, fresh-lengths, good-force, good-sane, keeping-length, took-good, changed-good, keyed-good, took-number, took-keeps, untaken-unchanged, overlaid-starts, again-after, good-never-nine}
@@ -41,6 +41,7 @@ record Keeps (r : Received) (t : Tuner) : Type 0 where
   good : Good t
   lengths : Lengths t
   settings : t .settings ≡ r .settings
+  hertz : t .hertz ≡ r .hertz
   keyboard : t .keyboard ≡ r .keyboard
   ranges : InRanges (r .pieces)
   agree : Agree (afterPieces freshTake (r .pieces)) (takeOf t)
@@ -49,13 +50,14 @@ record Keeps (r : Received) (t : Tuner) : Type 0 where
   written : r .written ≡ samplesOut (givenOf r)
 
 -- ---- a fresh tuner
-begun-keeps : (s : Settings) → InRange s → Keeps (begun s) (freshTuner s)
+begun-keeps : {hertz : ℕ} (s : Settings) → SampleRate hertz → InRange s → Keeps (begun hertz s) (freshTuner hertz s)
 unfolding freshTuner freshHeard freshPitch freshHead noLast freshTake noTone takeOf afterPieces overPieces samplesOut gathered inputAt silence
-begun-keeps s e =
+begun-keeps {hertz} s rate e =
     record {
-      good = good-fresh s e;
-      lengths = fresh-lengths s;
+      good = good-fresh s rate e;
+      lengths = fresh-lengths hertz s;
       settings = refl;
+      hertz = refl;
       keyboard = refl;
       ranges = tt;
       agree = record { count = refl; pitch = refl; position = refl; sound = λ k h. sym (still-silent 1764 silence (λ j. refl) k); eighths = λ k h. sym (still-silent 224 silence (λ j. refl) k) };
@@ -64,9 +66,13 @@ begun-keeps s e =
       written = refl;
     }
 
-start-keeps : {s : Settings} {t′ : Tuner} {a : Answer} → Started s t′ a → Keeps (begun (cond (eqb (a .number) 0) s defaults)) t′
-start-keeps {s} p =
-    rw (p .tuner, p .answer) (by (inRange s) (λ e. rw e (begun-keeps s (eqb-true _ 0 e))) (λ e. rw e (begun-keeps defaults defaults-in-range)))
+default-keeps : Keeps (begun cdRate defaults) defaultTuner
+default-keeps = let r = unrefused-start defaults default-start in begun-keeps defaults (r .0) (r .1)
+
+start-keeps : {hertz : ℕ} {s : Settings} {t′ : Tuner} {a : Answer} → Started hertz s t′ a → Keeps (cond (eqb (a .number) 0) (begun hertz s) (begun cdRate defaults)) t′
+start-keeps {hertz} {s} p =
+    rw (p .tuner, p .answer)
+    (by (eqb (startNumber hertz s) 0) (λ e. let r = unrefused-start s (eqb-true _ 0 e) in rw e (begun-keeps s (r .0) (r .1))) (λ e. rw e default-keeps))
 
 -- ---- a block taken: the record after it, and the rules' take
 agree-then : {t u v : Take} → Agree t u → Agree u v → Agree t v
@@ -107,7 +113,7 @@ more-in-range (q ∷ ps) p h r = (h .0, more-in-range ps p (h .1) r)
 module _ {r : Received} {t : Tuner} (k : Keeps r t) where
   -- what is in force
   force-is : forceOf t ≡ forceNow r
-  force-is i = record { settings = k .settings i; key = k .keyboard i .key; hertz = cdRate }
+  force-is i = record { settings = k .settings i; key = k .keyboard i .key; hertz = k .hertz i }
 
   -- ---- a block taken
   module _ {n : ℕ} {xs ys ys′ : List ℤ} {t′ : Tuner} {a : Answer} (p : Took t n xs ys t′ a ys′) (z : a .number ≡ 0) where
@@ -159,6 +165,7 @@ module _ {r : Received} {t : Tuner} (k : Keeps r t) where
         good = left .0;
         lengths = left .1;
         settings = ap (λ (u : Tuner). u .settings) is ∙ k .settings;
+        hertz = ap (λ (u : Tuner). u .hertz) is ∙ k .hertz;
         keyboard = ap (λ (u : Tuner). u .keyboard) is ∙ k .keyboard;
         ranges = more-in-range (r .pieces) _ (k .ranges) (subst ForceIn force-is (good-force (k .good)));
         agree = rw (afterPieces-more, is) (agree-then (taken-alike p z .0) (block-agree t n xs (k .good) (k .lengths)));
@@ -169,13 +176,14 @@ module _ {r : Received} {t : Tuner} (k : Keeps r t) where
       (λ e. let some = eqb-false (a .number) 0 e in subst (Keeps r) (sym (untaken-unchanged p (omega arith))) k)
 
   -- settings and keyboard are others, and all else is as it was
-  force-keeps : {s : Settings} {b : Keyboard} {t′ : Tuner} → t′ ≡ record { settings = s; keyboard = b; heard = t .heard; pitch = t .pitch; head = t .head; last = t .last } → Good t′ → Lengths t′ → {c : Keyboard} → b ≡ c → Keeps (withForce r s c) t′
+  force-keeps : {s : Settings} {b : Keyboard} {t′ : Tuner} → t′ ≡ record { settings = s; hertz = t .hertz; keyboard = b; heard = t .heard; pitch = t .pitch; head = t .head; last = t .last } → Good t′ → Lengths t′ → {c : Keyboard} → b ≡ c → Keeps (withForce r s c) t′
   unfolding takeOf
   force-keeps is good lengths e =
       record {
         good = good;
         lengths = lengths;
         settings = ap (λ (u : Tuner). u .settings) is;
+        hertz = ap (λ (u : Tuner). u .hertz) is ∙ k .hertz;
         keyboard = ap (λ (u : Tuner). u .keyboard) is ∙ e;
         ranges = k .ranges;
         agree = subst (λ (u : Tuner). Agree (afterPieces freshTake (r .pieces)) (takeOf u)) (sym is) (k .agree);
@@ -206,10 +214,10 @@ module _ {r : Received} {t : Tuner} (k : Keeps r t) where
   reset-keeps : {t′ : Tuner} {a : Answer} → Reset t t′ a → Keeps (plus (reset a) r) t′
   unfolding plus
   reset-keeps {t′} p =
-      let first = freshTuner (t .settings) in
+      let first = freshTuner (t .hertz) (t .settings) in
       subst (λ (b : Answer). Keeps (plus (reset b) r) t′) (sym (p .answer))
       (cond-case (eqb (p .number) 0) _ r (λ (q : Received). Keeps q t′)
-      (λ e. rw (p .tuner ∙ cond-yes first t e, sym (k .settings)) (begun-keeps (t .settings) (k .good .settings)))
+      (λ e. rw (p .tuner ∙ cond-yes first t e, sym (k .settings), sym (k .hertz)) (begun-keeps (t .settings) (k .good .hertz) (k .good .settings)))
       (λ e. subst (Keeps r) (sym (p .tuner ∙ cond-no first t e)) k))
 
   call-keeps : {c : Call} {t′ : Tuner} → Leaves t c t′ → Keeps (plus c r) t′
@@ -223,7 +231,7 @@ module _ {r : Received} {t : Tuner} (k : Keeps r t) where
 
 series-keeps : {cs : List Call} {t : Tuner} → Series cs t → Keeps (received cs) t
 unfolding received
-series-keeps fresh-start = begun-keeps defaults defaults-in-range
+series-keeps fresh-start = default-keeps
 series-keeps (and-then h p) = call-keeps (series-keeps h) p
 
 -- ---- the account of what is kept
@@ -256,6 +264,7 @@ module _ {r : Received} {t : Tuner} (k : Keeps r t) where
       record {
         good = k .good;
         settings = k .settings;
+        hertz = k .hertz;
         keyboard = k .keyboard;
         count = sym (k .agree .count) ∙ pieces-count (r .pieces);
         sums = right-alike (λ i h. eighths-are i (omega arith)) (k .good .heard .sums);

@@ -24,9 +24,9 @@ use Rattle.account.specs.Holds.{holds, again-holds, never-nine}
 
 -- ---- definitions
 
--- the exported call over the record r keeps its promise and leaves r′; a start asks nothing of r, and the meter leaves it. The start with the defaults is a start like any other, with `defaults`
+-- the exported call over the record r keeps its promise and leaves r′; a start asks nothing of r, and the meter leaves it. The start with the defaults is a start like any other, with `defaults` at 44,100
 pub data HostLeaves (r : Record) : Call → Record → Type 0 where
-  host-start : {s : Settings} {n : ℕ} {r′ : Record} → HostStarted s r′ n → HostLeaves r (start s (plain n)) r′
+  host-start : {hertz : ℕ} {s : Settings} {n : ℕ} {r′ : Record} → HostStarted hertz s r′ n → HostLeaves r (start hertz s (plain n)) r′
   host-change : {s : Settings} {n : ℕ} {r′ : Record} → HostChanged r s r′ n → HostLeaves r (change s (plain n)) r′
   host-block : {k : ℕ} {xs ys ys′ : List ℤ} {a : Answer} {r′ : Record} → HostTook r k xs ys r′ a ys′ → HostLeaves r (block k xs ys a ys′) r′
   host-midi : {bytes : List ℕ} {n : ℕ} {r′ : Record} → HostKeyed r bytes r′ n → HostLeaves r (midi bytes (plain n)) r′
@@ -35,7 +35,7 @@ pub data HostLeaves (r : Record) : Call → Record → Type 0 where
 
 -- any exported calls over one record, the newest first, from a start on, whatever the record held before
 pub data HostSeries : List Call → Record → Type 0 where
-  first-start : {s : Settings} {n : ℕ} {r : Record} → HostStarted s r n → HostSeries (start s (plain n) ∷ []) r
+  first-start : {hertz : ℕ} {s : Settings} {n : ℕ} {r : Record} → HostStarted hertz s r n → HostSeries (start hertz s (plain n) ∷ []) r
   host-then : {cs : List Call} {c : Call} {r r′ : Record} → HostSeries cs r → HostLeaves r c r′ → HostSeries (c ∷ cs) r′
 
 -- no exported call over the record is answered 9

@@ -8,7 +8,6 @@ use native.Mathlib.Omega.{arith}
 use lib.IntN.{ℤ, pos, negℤ, natAbs}
 use lib.ListN.{length, take, drop, replicate}
 use Rattle.rules.specs.Rules.{cdRate, noNote, silence, heard, defaults, stepDue, listened, listenedIn, noTone, inputAt, cycleRepeated, cycleDropped, cycles, growth, sampleAt, curve, held, through, wholeOf, fractionOf, reading, freshTake, eighthDue, eighthsAfter, stepped, after, gives, samplesOut, gathered}
-use Rattle.rules.specs.Ranges.{defaults-in-range}
 use Rattle.rules.specs.Sane.{tracking-is-not-searching}
 use Rattle.rules.specs.History.{Piece, overPieces, givesPieces}
 use Rattle.rules.specs.Facts.{pitched, valueAt}
@@ -16,10 +15,10 @@ use Rattle.pitch.specs.declared.Pitch.{Pitch as KeptPitch}
 use Rattle.tuner.specs.declared.Tuner.{Tuner}
 use Rattle.answers.specs.declared.Answer.{Answer}
 use Rattle.record.specs.Records.{freshHeard, freshPitch, freshHead, noLast}
-use Rattle.tuner.specs.Tuners.{freshTuner, Good, takeOf, heardAfter, nextNumber, Verdict, taken, afterBlock, Took}
+use Rattle.tuner.specs.Tuners.{freshTuner, defaultTuner, Good, takeOf, heardAfter, nextNumber, Verdict, taken, afterBlock, Took}
 use Rattle.tuner.specs.Verdicts.{verdict-one, counted, tuner-taken}
 use Rattle.account.specs.Account.{block, Series, fresh-start, and-then, by-block, plus, plusBlock, received}
-use Rattle.account.specs.Calls.{still-silent, silent-right, good-fresh, fresh-lengths, took-good, took-number, took-keeps}
+use Rattle.account.specs.Calls.{default-good, still-silent, silent-right, took-good, took-number, took-keeps}
 use Rattle.account.specs.Holds.{holds}
 
 -- ---- programs
@@ -87,18 +86,18 @@ room = pos 0 ∷ pos 0 ∷ pos 0 ∷ []
 
 -- the tuner with another pitch
 abbrev pub withPitch : Tuner → KeptPitch → Tuner
-withPitch t v = record { settings = t .settings; keyboard = t .keyboard; heard = t .heard; pitch = v; head = t .head; last = t .last }
+withPitch t v = record { settings = t .settings; hertz = t .hertz; keyboard = t .keyboard; heard = t .heard; pitch = v; head = t .head; last = t .last }
 
 -- a good record, as a host may hand it in: fresh, but reading at twice the rate, so that the first sample repeats a cycle
 unfoldable pub ahead : Tuner
 ahead =
-    withPitch (freshTuner defaults)
+    withPitch defaultTuner
     (record { tracker = record { low = 16; last = 16; e = replicate 8 0; h = replicate 8 (pos 0) }; tone = record { period = 4096; note = 69; rate = 131072; kept = 0 }; tracking = 1 })
 
 -- the program keeps the promise on three calls: the whole case's first block, its second, and the first block to the record `ahead`
 pub record Tried (q : Program) : Type 0 where
-  pub first : Keeps q (freshTuner defaults) 0 firstBlock room
-  pub second : Keeps q (q (freshTuner defaults) 0 firstBlock room .tuner) 1 secondBlock room
+  pub first : Keeps q defaultTuner 0 firstBlock room
+  pub second : Keeps q (q defaultTuner 0 firstBlock room .tuner) 1 secondBlock room
   pub level : Keeps q ahead 0 firstBlock room
 
 -- it is none of the list
@@ -137,10 +136,10 @@ module _ {t t′ : Tuner} {k : ℕ} {xs ys zs : List ℤ} {a : Answer} (v : Verd
   gives-it = omega (arith, took-number p, number-zero)
 
 abbrev start : Tuner
-start = freshTuner defaults
+start = defaultTuner
 
 good-start : Good start
-good-start = good-fresh defaults defaults-in-range
+good-start = default-good .0
 
 first-taken : Verdict start 0 firstBlock 3 0
 unfolding freshTuner freshHeard noLast
@@ -174,6 +173,7 @@ unfolding ahead freshTuner freshHeard silence
 good-ahead =
     record {
       settings = good-start .settings;
+      hertz = good-start .hertz;
       keyboard = good-start .keyboard;
       heard = good-start .heard;
       pitch =
@@ -210,7 +210,7 @@ module _ {q : Program} (tried : Tried q) where
   first-tuner = tuner-is first-taken (tried .first)
 
   next-taken : Verdict (one .tuner) 1 secondBlock 3 0
-  next-taken = second-taken (took-good good-start (fresh-lengths defaults) (tried .first) .0) first-tuner
+  next-taken = second-taken (took-good good-start (default-good .1) (tried .first) .0) first-tuner
 
   -- by the account, what was written is the rules'
   first-series : Series (block 0 firstBlock room (counted 0 (one .tuner) firstBlock) (one .out) ∷ []) (one .tuner)

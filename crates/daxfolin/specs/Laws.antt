@@ -9,9 +9,8 @@ use lib.Dec.{ltb}
 use lib.ListN.{length, take, drop, length-append, length-take, length-drop}
 use lib.Seq.{take-all, take-add, drop-drop, length-take-le}
 use Rattle.whole.specs.Tests.{yes-and-no}
-use Rattle.rules.specs.Rules.{defaults}
 use Rattle.tuner.specs.declared.Tuner.{Tuner}
-use Rattle.tuner.specs.Tuners.{freshTuner}
+use Rattle.tuner.specs.Tuners.{defaultTuner}
 use Rattle.text.specs.Places.{put-none}
 use Rattle.lines.specs.Cutting.{all-said-then, room-left}
 use Rattle.lines.specs.Lines.{Answered, answered, no-room, NoEnd, AllSaid, no-line, line-more, AnsweredAll}
@@ -77,7 +76,7 @@ read-answered {t} {t′} {buf} held new {at} s k =
     (ap (λ (l : List ℕ). heldOf (drop at l)) (sym e) ∙ sym (k .bytes))
     (read-once (take new (drop held buf)) (subst (λ (l : List ℕ). AllServed t l t′ at (s .text)) e (s .served)))
 
-pub none-read : Working (freshTuner defaults) []
+pub none-read : Working defaultTuner []
 none-read = record { reads = []; text = []; so-far = no-read }
 
 pub one-turn-more : {t t′ : Tuner} {held held′ : List ℕ} {reads : List (List ℕ)} → Working t held → Turned t held reads t′ held′ → Working t′ held′

@@ -4,9 +4,8 @@ use mathlib.Core.Bool.{cond}
 use mathlib.Core.List.{List, [], _∷_, _++_}
 use Prim.Native.Nat.{ℕ, _≤_}
 use lib.ListN.{length, take, drop}
-use Rattle.rules.specs.Rules.{defaults}
 use Rattle.tuner.specs.declared.Tuner.{Tuner}
-use Rattle.tuner.specs.Tuners.{freshTuner}
+use Rattle.tuner.specs.Tuners.{defaultTuner}
 use Rattle.text.specs.Text.{Put}
 use Rattle.lines.specs.Serving.{heldOf, AllServed, Reads, Ended}
 use Rattle.daxfolin.specs.declared.Turn.{Turn}
@@ -41,7 +40,7 @@ pub record OneTurn (t : Tuner) (held : List ℕ) (r : Turn) (buf′ : List ℕ) 
 pub record Working (t : Tuner) (held : List ℕ) : Type 0 where
   pub reads : List (List ℕ)
   pub text : List ℕ
-  pub so-far : Reads (freshTuner defaults) reads t held text
+  pub so-far : Reads defaultTuner reads t held text
 
 -- what the end of the input answers stands at the front of the output
 pub record Finishes (t : Tuner) (held out : List ℕ) (n : ℕ) (out′ : List ℕ) : Type 0 where

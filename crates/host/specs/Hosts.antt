@@ -18,7 +18,7 @@ use Rattle.host.specs.declared.Shown.{Shown}
 
 -- the number of this layout: no other layout has it
 abbrev pub layoutNumber : ℕ
-layoutNumber = 20005
+layoutNumber = 20006
 
 -- the record of a tuner
 abbrev pub recordOf : Tuner → Record
@@ -48,9 +48,9 @@ abbrev pub HostKeyed : Record → List ℕ → Record → ℕ → Type 0
 HostKeyed r bytes r′ n = Lent (λ t t′ a. Keyed t bytes t′ a) Unit r r′ (plain n)
 
 -- a start, answered n, whatever the record held
-pub record HostStarted (s : Settings) (r′ : Record) (n : ℕ) : Type 0 where
+pub record HostStarted (hertz : ℕ) (s : Settings) (r′ : Record) (n : ℕ) : Type 0 where
   pub tuner : Tuner
-  pub started : Started s tuner (plain n)
+  pub started : Started hertz s tuner (plain n)
   pub left : r′ ≡ recordOf tuner
 
 -- ---- the meter

@@ -7,12 +7,12 @@ use borrow.Author.Tests.{ne-eqb}
 use lib.Dec.{eqb}
 use lib.IntN.{ℤ}
 use Rattle.whole.specs.Tests.{cond-no}
-use Rattle.rules.specs.Rules.{defaults}
+use Rattle.rules.specs.Rules.{defaults, cdRate}
 use Rattle.rules.specs.declared.Settings.{Settings}
 use Rattle.answers.specs.declared.Answer.{Answer}
 use Rattle.answers.specs.Numbering.{plain}
 use Rattle.tuner.specs.declared.Tuner.{Tuner}
-use Rattle.tuner.specs.Tuners.{freshTuner, answerBy, Took, Started}
+use Rattle.tuner.specs.Tuners.{defaultTuner, answerBy, Took, Started}
 use Rattle.tuner.specs.Starts.{one-meter, one-start, default-start-taken}
 use Rattle.tuner.specs.Verdicts.{tuner-kept, by-refused, took-one, changed-one, reset-one, keyed-one}
 use Rattle.host.specs.declared.Record.{Record}
@@ -33,8 +33,8 @@ module _ {Call : Tuner → Tuner → Answer → Type 0} {untouched : Type 0} {r 
   unheld-by h e l u = unheld h (ap (λ (x : Answer). plain (x .number)) e) l u
 
 -- a start's
-pub started-by : {s : Settings} {t : Tuner} {a a′ : Answer} {r′ : Record} → Started s t a → r′ ≡ recordOf t → a′ ≡ a → HostStarted s r′ (a′ .number)
-started-by {s} {t} p l f = record { tuner = t; started = subst (Started s t) (number-alone (p .answer) f) p; left = l }
+pub started-by : {hertz : ℕ} {s : Settings} {t : Tuner} {a a′ : Answer} {r′ : Record} → Started hertz s t a → r′ ≡ recordOf t → a′ ≡ a → HostStarted hertz s r′ (a′ .number)
+started-by {hertz} {s} {t} p l f = record { tuner = t; started = subst (Started hertz s t) (number-alone (p .answer) f) p; left = l }
 
 -- a record of this layout is its tuner's
 record-same : (r : Record) → r .layout ≡ layoutNumber → recordOf (r .tuner) ≡ r
@@ -72,11 +72,11 @@ module _ {r r₁ r₂ : Record} where
   pub host-keyed-one : {bytes : List ℕ} {n m : ℕ} → HostKeyed r bytes r₁ n → HostKeyed r bytes r₂ m → (r₁ ≡ r₂) × (n ≡ m)
   host-keyed-one {n = n} {m} p q = numbers n m (lent-one (λ t₁ t₂ p q. let (t, a) = keyed-one p q in (t, a, tt)) (λ u v. tt) p q)
 
-pub host-started-one : {s : Settings} {r₁ r₂ : Record} {n m : ℕ} → HostStarted s r₁ n → HostStarted s r₂ m → (r₁ ≡ r₂) × (n ≡ m)
+pub host-started-one : {hertz : ℕ} {s : Settings} {r₁ r₂ : Record} {n m : ℕ} → HostStarted hertz s r₁ n → HostStarted hertz s r₂ m → (r₁ ≡ r₂) × (n ≡ m)
 host-started-one {n = n} {m} p q = let (t, a) = one-start (p .started) (q .started) in numbers n m (p .left ∙ ap recordOf t ∙ sym (q .left), a, tt)
 
--- a start with the defaults is taken: the record of the fresh tuner, and 0
-pub host-default-start-taken : {r′ : Record} {n : ℕ} → HostStarted defaults r′ n → (r′ ≡ recordOf (freshTuner defaults)) × (n ≡ 0)
+-- a start with the defaults is taken: the record of the default tuner, and 0
+pub host-default-start-taken : {r′ : Record} {n : ℕ} → HostStarted cdRate defaults r′ n → (r′ ≡ recordOf defaultTuner) × (n ≡ 0)
 host-default-start-taken {n = n} p = let (t, a) = default-start-taken (p .started) in numbers n 0 (p .left ∙ ap recordOf t, a, tt)
 
 pub host-metered-one : {r : Record} {m m′ : Shown} → HostMetered r m → HostMetered r m′ → m ≡ m′

@@ -7,17 +7,17 @@ use tuner::Taken;
 use tuner::Tuner;
 ghost use mathlib.Core.Path.{_≡_};
 ghost use Rattle.whole.specs.Tests.{Decides};
-ghost use Rattle.rules.specs.Rules.{defaults};
+ghost use Rattle.rules.specs.Rules.{defaults, cdRate};
 ghost use Rattle.answers.specs.Numbering.{plain};
 ghost use Rattle.cutting.specs.Cuts.{Cut};
 ghost use Rattle.host.specs.Hosts.{layoutNumber, recordOf, bare, shownAs, HostStarted, HostChanged, HostTook, HostReset, HostKeyed, HostMetered};
 
 // The number of this layout of the record: they are counted from 20000, since a record of versions 1 and 2 of the calls began with the scale, at most
 // 4095, and so is never taken for one of this layout.
-const LAYOUT: u64 = 20005;
+const LAYOUT: u64 = 20006;
 
 // A tuner with the number of its layout before it: a record of another layout is answered 9, and never misread.
-// 6968 bytes, none of them padding.
+// 6976 bytes, none of them padding.
 #[repr(C)]
 pub struct Record {
     pub layout: u64,
@@ -72,14 +72,14 @@ fn unheld(r: Record) -> Done
     }
 }
 
-fn started(s: Settings) -> Done
-    ensures { λ d. ⌜ HostStarted s (d .left) (d .answer .number) ⌝ }
+fn started(hertz: u32, s: Settings) -> Done
+    ensures { λ d. ⌜ HostStarted hertz s (d .left) (d .answer .number) ⌝ }
 {
-    finished(tuner::start(s))
+    finished(tuner::start(hertz, s))
 }
 
 fn started_default() -> Done
-    ensures { λ d. ⌜ HostStarted defaults (d .left) (d .answer .number) ⌝ }
+    ensures { λ d. ⌜ HostStarted cdRate defaults (d .left) (d .answer .number) ⌝ }
 {
     finished(tuner::start_default())
 }
@@ -169,9 +169,9 @@ fn metered(r: Record) -> Shown
 // The version of these calls.
 #[no_mangle]
 pub extern "C" fn daxfolin_version() -> u32
-    ensures { λ r. ⌜ r ≡ 7 ⌝ }
+    ensures { λ r. ⌜ r ≡ 8 ⌝ }
 {
-    7
+    8
 }
 
 // Where the k-th stretch of 512 samples of a recording of so many lies: the last may be shorter, and past the end there is nothing.
@@ -182,20 +182,21 @@ pub extern "C" fn daxfolin_cut(length: usize, k: usize) -> Stretch
     cutting::place(length, k)
 }
 
-// A fresh tuner with these settings, or the default tuner beside the number of the first bad one. What the record held is not read.
+// A fresh tuner with these settings at this sample rate, or the default tuner beside the number of the first that is bad. What the record held is not
+// read.
 #[no_mangle]
-pub extern "C" fn daxfolin_start(lent: &mut Record, settings: Settings) -> u32
-    ensures { λ n. ⌜ HostStarted settings (now (lent .exit)) n ⌝ }
+pub extern "C" fn daxfolin_start(lent: &mut Record, hertz: u32, settings: Settings) -> u32
+    ensures { λ n. ⌜ HostStarted hertz settings (now (lent .exit)) n ⌝ }
 {
-    let d = started(settings);
+    let d = started(hertz, settings);
     *lent = d.left;
     d.answer.number
 }
 
-// A fresh tuner with the default settings, and 0. What the record held is not read.
+// A fresh tuner with the default settings at 44,100, and 0. What the record held is not read.
 #[no_mangle]
 pub extern "C" fn daxfolin_start_default(lent: &mut Record) -> u32
-    ensures { λ n. ⌜ HostStarted defaults (now (lent .exit)) n ⌝ }
+    ensures { λ n. ⌜ HostStarted cdRate defaults (now (lent .exit)) n ⌝ }
 {
     let d = started_default();
     *lent = d.left;
@@ -237,7 +238,7 @@ pub extern "C" fn daxfolin_midi(lent: &mut Record, bytes: &[u8]) -> u32
     d.answer.number
 }
 
-// Settings kept, everything else fresh.
+// Settings and sample rate kept, everything else fresh.
 #[no_mangle]
 pub extern "C" fn daxfolin_reset(lent: &mut Record) -> u32
     ensures { λ n. ⌜ HostReset (now (lent .entry)) (now (lent .exit)) n ⌝ }

@@ -11,7 +11,9 @@ use lib.Dec.{eqb}
 use lib.IntN.{ℤ}
 use lib.ListN.{length, take, drop, set, length-set, length-drop}
 use lib.Seq.{take-suc-set, length-take-le}
-use Rattle.whole.specs.Tests.{Decides, yes-and-no, and-left, and-right, by}
+use Rattle.whole.specs.Tests.{Decides, cond-yes, cond-no, yes-and-no, and-left, and-right, by}
+use Rattle.rules.specs.declared.Settings.{Settings}
+use Rattle.rules.specs.Rules.{cdRate}
 use Rattle.tuner.specs.declared.Tuner.{Tuner}
 use Rattle.answers.specs.declared.Answer.{Answer}
 use Rattle.tuner.specs.Tuners.{Verdict, record-out-of-range, block-empty, block-over-512, output-short, number-neither, other-samples, given-again, take-full, taken, answerBy, Took}
@@ -20,9 +22,10 @@ use Rattle.text.specs.Places.{optional, First}
 use Rattle.text.specs.Fields.{later, later-end, later-some, later-field}
 use Rattle.text.specs.Reading.{field-long}
 use Rattle.lines.specs.declared.NumberField.{NumberField}
+use Rattle.lines.specs.declared.FourSettings.{FourSettings}
 use Rattle.lines.specs.declared.Reply.{Reply}
-use Rattle.lines.specs.Lines.{Line, block, midi, unreadable, each, one, settingsIn, lineOf, startIn, changeIn, blockIn, resetIn, modeIn, channelIn, midiIn, recordIn, read, Said, Answered, answered, same, startWord, changeWord, blockWord, resetWord, modeWord, channelWord, midiWord}
-use Rattle.lines.specs.Steps.{NumberIn, no-field, no-number, a-number, NumberRead, FieldRead, FieldsRead, wordOf, keyboardWordOf, keyboardChosen, Replied}
+use Rattle.lines.specs.Lines.{Line, start, change, block, midi, unreadable, each, four, one, startOf, changeOf, settingsIn, lineOf, startIn, changeIn, blockIn, resetIn, modeIn, channelIn, midiIn, recordIn, read, Said, Answered, answered, same, startWord, changeWord, blockWord, resetWord, modeWord, channelWord, midiWord}
+use Rattle.lines.specs.Steps.{NumberIn, no-field, no-number, a-number, NumberRead, FieldRead, FieldsRead, FourRead, wordOf, keyboardWordOf, keyboardChosen, Replied}
 
 -- ---- a field is read, or not
 pub number-in : {most : ℕ} {fs more : List (List ℕ)} {f : List ℕ} (ok : Bool) (v : ℕ) → fs ≡ f ∷ more → optional ok v ≡ number most f → NumberIn most fs ok v more
@@ -94,6 +97,39 @@ unfolding each bind one
 one-extra m (no-field e) = rw e
 one-extra m (no-number e n) = rw (e, n)
 one-extra {more = more} {v = v} m (a-number e n) = setting-read one refl (a-number e n) ∙ setting-extra (λ (ns : List ℕ). one (v ∷ ns)) more m (λ n ns. refl)
+
+-- after the settings of a change there is no field more
+pub change-whole : (s : Settings) {fs : List (List ℕ)} → fs ≡ [] → settingsIn (changeOf s) fs ≡ some (change s)
+unfolding each bind changeOf
+change-whole s e = rw e
+
+pub change-extra : (s : Settings) (fs : List (List ℕ)) → 0 < length fs → settingsIn (changeOf s) fs ≡ none
+unfolding changeOf
+change-extra s fs h = setting-extra (changeOf s) fs h (λ n ns. refl)
+
+-- after those of a start there is none, or the sample rate alone
+pub start-whole : (s : Settings) {fs : List (List ℕ)} → fs ≡ [] → settingsIn (startOf s) fs ≡ some (start cdRate s)
+unfolding each bind startOf
+start-whole s e = rw e
+
+pub start-rated : (s : Settings) (fs : List (List ℕ)) (ok : Bool) (hertz : ℕ) → 0 < length fs → optional ok hertz ≡ settingsIn one fs → settingsIn (startOf s) fs ≡ optional ok (start hertz s)
+unfolding each bind startOf one
+start-rated s fs ok hertz h e = as-one fs h ∙ ap (Option·map (λ (n : ℕ). start n s)) (sym e) ∙ by-ok ok
+  where
+    by-ok : (b : Bool) → Option·map (λ (n : ℕ). start n s) (optional b hertz) ≡ optional b (start hertz s)
+    by-ok true = refl
+    by-ok false = refl
+
+    by-fields : (o : Option ℕ) (p : Option (List ℕ)) → bind (bind o (λ (n : ℕ). Option·map (λ (ns : List ℕ). n ∷ ns) p)) (startOf s)
+        ≡ Option·map (λ (n : ℕ). start n s) (bind (bind o (λ (n : ℕ). Option·map (λ (ns : List ℕ). n ∷ ns) p)) one)
+    by-fields none p = refl
+    by-fields (some n) none = refl
+    by-fields (some n) (some []) = refl
+    by-fields (some n) (some (m ∷ ms)) = refl
+
+    as-one : (fs : List (List ℕ)) → 0 < length fs → settingsIn (startOf s) fs ≡ Option·map (λ (n : ℕ). start n s) (settingsIn one fs)
+    as-one [] h = absurd (omega arith)
+    as-one (f ∷ fs) h = by-fields (number 4294967295 f) (each (number 4294967295) fs)
 
 -- ---- all fields from a place on, each read in one way: those read so far stand in front
 module _ {A : Type 0} (how : List ℕ → Option A) where
@@ -171,6 +207,15 @@ module _ {A : Type 0} (make : A → Line) {o : Option A} (ok : Bool) (v : A) (e 
   pub line-unread : ok ≡ false → lineOf (Option·map make o) ≡ unreadable
   unfolding lineOf
   line-unread y = rw (sym e, y)
+
+-- a start or a change, by whether its four settings could be read, and what is made of the fields after them
+module _ {line : List ℕ} {at : ℕ} {r : FourSettings} (f : FourRead line at r) (make : Settings → List ℕ → Option Line) where
+  pub four-unread : r .ok ≡ false → lineOf (settingsIn (four make) (later line at)) ≡ unreadable
+  unfolding lineOf
+  four-unread n = ap lineOf (f .read make ∙ cond-no _ _ n)
+
+  pub four-read : r .ok ≡ true → {o : Option Line} → settingsIn (make (r .settings)) (later line (r .to)) ≡ o → lineOf (settingsIn (four make) (later line at)) ≡ lineOf o
+  four-read y e = ap lineOf (f .read make ∙ cond-yes _ _ y ∙ e)
 
 pub reset-extra : (fs : List (List ℕ)) → 0 < length fs → resetIn fs ≡ unreadable
 unfolding resetIn

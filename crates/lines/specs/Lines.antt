@@ -10,7 +10,7 @@ use mathlib.Core.Logic.{_⊎_}
 use Prim.Native.Nat.{_+_}
 use lib.ListN.{length, getD, take, drop, replicate}
 use Rattle.rules.specs.declared.Settings.{Settings}
-use Rattle.rules.specs.Rules.{scaleMode, longestBlock}
+use Rattle.rules.specs.Rules.{scaleMode, cdRate, longestBlock}
 use Rattle.tuner.specs.declared.Tuner.{Tuner}
 use Rattle.answers.specs.declared.Answer.{Answer}
 use Rattle.tuner.specs.Tuners.{Took, Started, Changed, Reset, Keyed}
@@ -19,7 +19,7 @@ use Rattle.text.specs.Text.{fields, number, sample, decimal, sampleFields, Put}
 -- ---- what a line says
 
 pub data Line : Type 0 where
-  start : Settings → Line
+  start : ℕ → Settings → Line
   change : Settings → Line
   block : ℕ → List ℤ → Line
   reset : Line
@@ -33,14 +33,24 @@ unfoldable pub each : {A : Type 0} → (List ℕ → Option A) → List (List �
 each how [] = some []
 each {A} how (f ∷ fs) = bind (how f) (λ (x : A). Option·map (λ (xs : List A). x ∷ xs) (each how fs))
 
--- scale, eps, decay, floor: neither a missing nor an extra field; a start has mode scale and channel 0
-unfoldable pub four : List ℕ → Option Settings
-four [] = none
-four (a ∷ []) = none
-four (a ∷ b ∷ []) = none
-four (a ∷ b ∷ c ∷ []) = none
-four (a ∷ b ∷ c ∷ d ∷ []) = some (record { scale = a; eps = b; decay = c; floor = d; mode = scaleMode; channel = 0 })
-four (a ∷ b ∷ c ∷ d ∷ e ∷ more) = none
+-- scale, eps, decay, floor, none of them missing, and what is made of the fields after them; a start has mode scale and channel 0
+unfoldable pub four : (Settings → List ℕ → Option Line) → List ℕ → Option Line
+four make [] = none
+four make (a ∷ []) = none
+four make (a ∷ b ∷ []) = none
+four make (a ∷ b ∷ c ∷ []) = none
+four make (a ∷ b ∷ c ∷ d ∷ more) = make (record { scale = a; eps = b; decay = c; floor = d; mode = scaleMode; channel = 0 }) more
+
+-- a start: the sample rate comes last, 44,100 if missing, and no field more
+unfoldable pub startOf : Settings → List ℕ → Option Line
+startOf s [] = some (start cdRate s)
+startOf s (hertz ∷ []) = some (start hertz s)
+startOf s (hertz ∷ e ∷ more) = none
+
+-- a change: no field more
+unfoldable pub changeOf : Settings → List ℕ → Option Line
+changeOf s [] = some (change s)
+changeOf s (e ∷ more) = none
 
 -- a setting alone: neither a missing nor an extra field
 unfoldable pub one : List ℕ → Option ℕ
@@ -59,10 +69,10 @@ lineOf (some line) = line
 
 -- the fields after the first word
 unfoldable pub startIn : List (List ℕ) → Line
-startIn fs = lineOf (Option·map start (settingsIn four fs))
+startIn fs = lineOf (settingsIn (four startOf) fs)
 
 unfoldable pub changeIn : List (List ℕ) → Line
-changeIn fs = lineOf (Option·map change (settingsIn four fs))
+changeIn fs = lineOf (settingsIn (four changeOf) fs)
 
 -- a block number is at most 65535; without samples it is an empty block
 unfoldable pub blockIn : List (List ℕ) → Line
@@ -151,8 +161,8 @@ withChannel t c = let s = t .settings in record { scale = s .scale; eps = s .eps
 
 -- a line to the tuner t leaves t′ and is answered by this text
 pub data Said (t : Tuner) : Line → Tuner → List ℕ → Type 0 where
-  begun : {s : Settings} {t′ : Tuner} {a : Answer} → Started s t′ a → a .number ≡ 0 → Said t (start s) t′ (numberLine (a .number))
-  not-begun : {s : Settings} {t′ : Tuner} {a : Answer} → Started s t′ a → (a .number ≡ 0 → ⊥) → Said t (start s) t (numberLine (a .number))
+  begun : {hertz : ℕ} {s : Settings} {t′ : Tuner} {a : Answer} → Started hertz s t′ a → a .number ≡ 0 → Said t (start hertz s) t′ (numberLine (a .number))
+  not-begun : {hertz : ℕ} {s : Settings} {t′ : Tuner} {a : Answer} → Started hertz s t′ a → (a .number ≡ 0 → ⊥) → Said t (start hertz s) t (numberLine (a .number))
   changed : {s : Settings} {t′ : Tuner} {a : Answer} → Changed t (withFour t s) t′ a → Said t (change s) t′ (numberLine (a .number))
   taken : {k : ℕ} {xs ys : List ℤ} {t′ : Tuner} {a : Answer} → Took t k xs (replicate longestBlock (pos 0)) t′ a ys → Said t (block k xs) t′ (blockLine a ys)
   begun-again : {t′ : Tuner} {a : Answer} → Reset t t′ a → Said t reset t′ (numberLine (a .number))

@@ -10,13 +10,15 @@ use Rattle.rules.specs.declared.Settings.{Settings}
 use Rattle.answers.specs.declared.Answer.{Answer}
 use Rattle.tuner.specs.declared.Tuner.{Tuner}
 use Rattle.tuner.specs.Tuners.{Changed}
+use Rattle.text.specs.declared.Number.{Number}
 use Rattle.text.specs.Text.{number, Put}
 use Rattle.text.specs.Places.{optional}
 use Rattle.text.specs.Fields.{later}
 use Rattle.lines.specs.declared.Reply.{Reply}
 use Rattle.lines.specs.declared.NumberField.{NumberField}
+use Rattle.lines.specs.declared.FourSettings.{FourSettings}
 use Rattle.lines.specs.declared.Count.{Count}
-use Rattle.lines.specs.Lines.{Line, unreadable, each, modeIn, channelIn, midiIn, same, startWord, changeWord, blockWord, resetWord, modeWord, channelWord, midiWord, numberLine, Said}
+use Rattle.lines.specs.Lines.{Line, start, unreadable, each, four, startOf, settingsIn, modeIn, channelIn, midiIn, same, startWord, changeWord, blockWord, resetWord, modeWord, channelWord, midiWord, numberLine, Said}
 
 -- the first of some fields is read, and the fields after it
 pub data NumberIn (most : ℕ) (fs : List (List ℕ)) : Bool → ℕ → List (List ℕ) → Type 0 where
@@ -43,6 +45,15 @@ pub record FieldsRead {A : Type 0} (how : List ℕ → Option A) (line : List �
   pub many : r .value ≤ 4096
   pub long : length xs ≡ 4096
   pub values : optional (r .ok) (take (r .value) xs) ≡ each how (later line at)
+
+-- the four settings from a place on were read, and the place after them; whatever is made of what follows
+pub record FourRead (line : List ℕ) (at : ℕ) (r : FourSettings) : Type 0 where
+  pub within : r .to ≤ length line
+  pub read : (make : Settings → List ℕ → Option Line) → settingsIn (four make) (later line at) ≡ cond (r .ok) (settingsIn (make (r .settings)) (later line (r .to))) none
+
+-- the sample rate of a start was read from the fields after its settings
+pub record RateRead (fs : List (List ℕ)) (r : Number) : Type 0 where
+  pub read : (s : Settings) → settingsIn (startOf s) fs ≡ optional (r .ok) (start (r .value) s)
 
 -- the first word: 1 start, 2 change, 3 block, 4 reset, 5 mode, 6 channel, 7 midi, 0 another
 unfoldable pub keyboardWordOf : List ℕ → ℕ

@@ -1,4 +1,5 @@
 // The line program's lines: a line is read, answered by the tuner's calls, and the answer is written.
+use rules::CD_RATE;
 use rules::LONGEST_BLOCK;
 use rules::SCALE_MODE;
 use text::Number;
@@ -13,8 +14,8 @@ ghost use Rattle.rules.specs.Rules.{longestBlock};
 ghost use Rattle.text.specs.Text.{fields, number, sample, Put};
 ghost use Rattle.text.specs.Places.{optional};
 ghost use Rattle.text.specs.Fields.{later};
-ghost use Rattle.lines.specs.Lines.{settingsIn, four, one, recordIn, startIn, changeIn, blockIn, resetIn, modeIn, channelIn, midiIn, numberLine, blockLine, Answered, AnsweredAll, unreadable};
-ghost use Rattle.lines.specs.Steps.{NumberRead, FieldRead, FieldsRead, wordOf, keyboardWordOf, keyboardChosen, Replied, ChangeReplied};
+ghost use Rattle.lines.specs.Lines.{settingsIn, one, recordIn, startIn, changeIn, blockIn, resetIn, modeIn, channelIn, midiIn, numberLine, blockLine, Answered, AnsweredAll, unreadable};
+ghost use Rattle.lines.specs.Steps.{NumberRead, FieldRead, FieldsRead, FourRead, RateRead, wordOf, keyboardWordOf, keyboardChosen, Replied, ChangeReplied};
 
 // What a line is answered: the tuner after it, and how many bytes were written.
 pub struct Reply {
@@ -43,10 +44,11 @@ struct SampleField {
     to: usize,
 }
 
-// Settings, where ok.
+// Settings, where ok, and the place after their fields.
 struct FourSettings {
     ok: bool,
     settings: Settings,
+    to: usize,
 }
 
 // How many values were read, where ok.
@@ -94,7 +96,7 @@ fn sample_field(line: &[u8], at: usize) -> SampleField
 }
 
 fn no_settings() -> FourSettings
-    ensures { λ r. ⌜ r .ok ≡ false ⌝ }
+    ensures { λ r. ⌜ (r .ok ≡ false) × (r .to ≡ 0) ⌝ }
 {
     FourSettings {
         ok: false,
@@ -106,13 +108,14 @@ fn no_settings() -> FourSettings
             mode: SCALE_MODE,
             channel: 0,
         },
+        to: 0,
     }
 }
 
-// The four settings in the fields from a place on, and no field more.
+// The four settings in the fields from a place on.
 fn four_settings(line: &[u8], at: usize) -> FourSettings
     requires { ⌜ at ≤ length (now line) ⌝ }
-    ensures { λ r. ⌜ optional (r .ok) (r .settings) ≡ settingsIn four (later (now (line .entry)) at) ⌝ }
+    ensures { λ r. ⌜ FourRead (now (line .entry)) at r ⌝ }
 {
     let a = number_field(line, at, 4294967295);
     if !a.ok {
@@ -130,9 +133,6 @@ fn four_settings(line: &[u8], at: usize) -> FourSettings
     if !d.ok {
         return no_settings();
     }
-    if d.to < line.len() {
-        return no_settings();
-    }
     FourSettings {
         ok: true,
         settings: Settings {
@@ -143,6 +143,7 @@ fn four_settings(line: &[u8], at: usize) -> FourSettings
             mode: SCALE_MODE,
             channel: 0,
         },
+        to: d.to,
     }
 }
 
@@ -162,6 +163,20 @@ fn one_setting(line: &[u8], at: usize) -> Number
         ok: a.ok,
         value: a.value,
     }
+}
+
+// The sample rate in the field from a place on, 44,100 if it is missing, and no field more.
+fn rate_setting(line: &[u8], at: usize) -> Number
+    requires { ⌜ at ≤ length (now line) ⌝ }
+    ensures { λ r. ⌜ RateRead (later (now (line .entry)) at) r ⌝ }
+{
+    if line.len() == at {
+        return Number {
+            ok: true,
+            value: CD_RATE,
+        };
+    }
+    one_setting(line, at)
 }
 
 // The samples in the fields from a place on.
@@ -256,7 +271,11 @@ fn start_line(t: Tuner, line: &[u8], at: usize, out: &mut [u8]) -> Reply
     if !s.ok {
         return unreadable(t, out);
     }
-    let d = tuner::start(s.settings);
+    let rate = rate_setting(line, s.to);
+    if !rate.ok {
+        return unreadable(t, out);
+    }
+    let d = tuner::start(rate.value, s.settings);
     let number = d.answer.number;
     let n = say_number(out, number);
     if number == 0 {
@@ -293,6 +312,9 @@ fn change_line(t: Tuner, line: &[u8], at: usize, out: &mut [u8]) -> Reply
 {
     let s = four_settings(line, at);
     if !s.ok {
+        return unreadable(t, out);
+    }
+    if s.to < line.len() {
         return unreadable(t, out);
     }
     let mut asked = s.settings;

@@ -1,9 +1,10 @@
-// The wanted note of a scale, and the rate toward it.
+// The sample rates with their tables; the wanted note of a scale, and the rate toward it.
 use rules::CD_FIRST_NOTE;
 use rules::CD_NOTES;
 use rules::CD_RATE;
 use rules::FILM_FIRST_NOTE;
 use rules::FILM_NOTES;
+use rules::FILM_RATE;
 use rules::FRESH_RATE;
 use rules::GREATEST_RATE;
 use rules::Goal;
@@ -16,9 +17,20 @@ ghost use mathlib.Core.Path.{_≡_};
 ghost use mathlib.Core.Option.{some};
 ghost use lib.ListN.{getD};
 ghost use Prim.Native.Nat.{ℕ, _+_, _-_, _%_, _≤_, _<_};
+ghost use Rattle.whole.specs.Tests.{Decides};
 ghost use Rattle.rules.specs.Rules.{table, firstNote, notes, notePeriod, ofScale, wanted, noteOf, wantedPeriod, rawRate, rawToward, smoothRate, smoothKept, leastPeriod, greatestPeriod, greatestRate, goalOf, goal, tuned};
 ghost use Rattle.rules.specs.Facts.{SampleRate, ForceIn, OfTable, ToneIn};
 ghost use Rattle.notes.specs.Around.{Halving, Longer, LastOfScale, FirstOfScale};
+
+// One of the two sample rates.
+pub fn known_rate(hertz: u64) -> bool
+    ensures { λ r. ⌜ Decides r (SampleRate hertz) ⌝ }
+{
+    if hertz == CD_RATE as u64 {
+        return true;
+    }
+    hertz == FILM_RATE as u64
+}
 
 // Notes 32 to 100 at 44,100. Each use lays an array out anew: once a search.
 const CD_PERIODS: [u32; CD_NOTES] = [

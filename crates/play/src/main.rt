@@ -1,6 +1,6 @@
-// Plays a scripted take through the tuner's calls: records of 1050 bytes in, a line for each out.
-// Byte 0 is the call; 2, 4 and 6 a block's number, length and room, low byte first; from 8 on scale, eps, decay and floor; from 24 on the samples.
-// Where settings are given, 2 and 6 are mode and channel. Keyboard bytes stand from 24 on, as many as the length says.
+// Plays a scripted take through the tuner's calls: records of 1054 bytes in, a line for each out.
+// Byte 0 is the call; 2, 4 and 6 a block's number, length and room, low byte first; from 8 on a start's sample rate, then scale, eps, decay and floor;
+// from 28 on the samples. Where settings are given, 2 and 6 are mode and channel. Keyboard bytes stand from 28 on, as many as the length says.
 ghost use mathlib.Core.Path.{_≡_};
 ghost use Prim.Native.Nat.{_≤_, _<_, _*_, _+_};
 use libc::STDIN_FILENO;
@@ -18,15 +18,15 @@ fn wide(b: u8) -> u32
 }
 
 // The number in the bytes at and at + 1.
-fn word(b: &[u8; 1050], at: usize) -> u32
-    requires { ⌜ at < 1049 ⌝ }
+fn word(b: &[u8; 1054], at: usize) -> u32
+    requires { ⌜ at < 1053 ⌝ }
     ensures { λ r. ⌜ r < 65536 ⌝ }
 {
     wide(b[at]) + 256 * wide(b[at + 1])
 }
 
-fn long(b: &[u8; 1050], at: usize) -> u32
-    requires { ⌜ at < 1047 ⌝ }
+fn long(b: &[u8; 1054], at: usize) -> u32
+    requires { ⌜ at < 1051 ⌝ }
 {
     word(b, at) + 65536 * word(b, at + 2)
 }
@@ -42,12 +42,12 @@ fn level(x: i16) -> u64 {
     ((x as i32) + 32768) as u64
 }
 
-fn settings(b: &[u8; 1050]) -> Settings {
+fn settings(b: &[u8; 1054]) -> Settings {
     Settings {
-        scale: long(b, 8),
-        eps: long(b, 12),
-        decay: long(b, 16),
-        floor: long(b, 20),
+        scale: long(b, 12),
+        eps: long(b, 16),
+        decay: long(b, 20),
+        floor: long(b, 24),
         mode: word(b, 2),
         channel: word(b, 6),
     }
@@ -59,13 +59,13 @@ fn most(n: u32) -> usize
     if n < 513 { n as usize } else { 513 }
 }
 
-fn samples(b: &[u8; 1050], n: usize) -> [i16; 513]
+fn samples(b: &[u8; 1054], n: usize) -> [i16; 513]
     requires { ⌜ n ≤ 513 ⌝ }
 {
     let mut xs = [0i16; 513];
     let mut i: usize = 0;
     while i < n {
-        xs[i] = sample(word(b, 24 + 2 * i));
+        xs[i] = sample(word(b, 28 + 2 * i));
         i += 1;
     }
     xs
@@ -94,7 +94,7 @@ fn show(xs: &[i16; 513], n: usize)
 }
 
 // A block, with an output of so much room; all of the output is shown, what is not written too.
-fn block(t: Tuner, b: &[u8; 1050]) -> Tuner {
+fn block(t: Tuner, b: &[u8; 1054]) -> Tuner {
     let n = most(word(b, 4));
     let room = most(word(b, 6));
     let number = word(b, 2) as u16;
@@ -117,7 +117,7 @@ fn metered(t: Tuner) {
 }
 
 // A stretch of the samples of the record, by its number.
-fn stretch(b: &[u8; 1050]) {
+fn stretch(b: &[u8; 1054]) {
     let xs = samples(b, 513);
     let k = word(b, 2) as usize;
     let s = tuner::cut(&xs, k);
@@ -156,25 +156,25 @@ fn took(r: Taken) -> Tuner {
     r.tuner
 }
 
-fn keys(b: &[u8; 1050], n: usize) -> [u8; 513]
+fn keys(b: &[u8; 1054], n: usize) -> [u8; 513]
     requires { ⌜ n ≤ 513 ⌝ }
 {
     let mut ks = [0u8; 513];
     let mut i: usize = 0;
     while i < n {
-        ks[i] = b[24 + i];
+        ks[i] = b[28 + i];
         i += 1;
     }
     ks
 }
 
-fn midi(t: Tuner, b: &[u8; 1050]) -> Tuner {
+fn midi(t: Tuner, b: &[u8; 1054]) -> Tuner {
     let n = most(word(b, 4));
     let ks = keys(b, n);
     took(t.midi(&ks[..n]))
 }
 
-fn other(op: u8, t: Tuner, b: &[u8; 1050]) -> Tuner {
+fn other(op: u8, t: Tuner, b: &[u8; 1054]) -> Tuner {
     if op == 5 {
         metered(t);
         return t;
@@ -195,10 +195,10 @@ fn other(op: u8, t: Tuner, b: &[u8; 1050]) -> Tuner {
     midi(t, b)
 }
 
-fn one(t: Tuner, b: &[u8; 1050]) -> Tuner {
+fn one(t: Tuner, b: &[u8; 1054]) -> Tuner {
     let op = b[0];
     if op == 0 {
-        return took(tuner::start(settings(b)));
+        return took(tuner::start(long(b, 8), settings(b)));
     }
     if op == 1 {
         return took(tuner::start_default());
@@ -219,9 +219,9 @@ fn main() {
     let mut t = tuner::start_default().tuner;
     let mut turns = u64::MAX;
     while turns > 0 {
-        let mut b = [0u8; 1050];
+        let mut b = [0u8; 1054];
         let got = io::read_full(STDIN_FILENO, &mut b);
-        if got < 1050 {
+        if got < 1054 {
             return;
         }
         t = one(t, &b);

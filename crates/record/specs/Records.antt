@@ -1,4 +1,4 @@
--- The parts of a tuner's record: settings, what was heard, the pitch, the read head and the last block. When each is right, and fresh. Definitions only.
+-- The parts of a tuner's record: settings, sample rate, keyboard, what was heard, the pitch, the read head and the last block. When each is right, and fresh. Definitions only.
 use mathlib.Core.Path.{_≡_}
 use mathlib.Core.List.{List}
 use Prim.Native.Nat.{ℕ, _+_, _/_, _≤_, _<_}
@@ -6,7 +6,7 @@ use lib.IntN.{ℤ, pos}
 use lib.ListN.{replicate}
 use Rattle.rules.specs.declared.Settings.{Settings}
 use Rattle.rules.specs.Rules.{Sound, silence, heardAll, farthest, noTone, takeLimit, longestBlock, keptSamples, keptEighths, eighthLags}
-use Rattle.rules.specs.Facts.{InRange, valueAt, Right}
+use Rattle.rules.specs.Facts.{InRange, SampleRate, valueAt, Right}
 use Rattle.keyboard.specs.declared.Keyboard.{Keyboard}
 use Rattle.keyboard.specs.Keys.{KeyboardIn}
 use Rattle.pitch.specs.declared.Pitch.{Pitch as KeptPitch}
@@ -62,8 +62,9 @@ unfoldable pub noLast : Last
 noLast = record { number = 0; length = 0; repeated = 0; dropped = 0; out = replicate longestBlock (pos 0) }
 
 -- ---- all parts are right
-pub record AllRight (s : Settings) (k : Keyboard) (h : Heard) (v : KeptPitch) (d : Head) (l : Last) : Type 0 where
+pub record AllRight (s : Settings) (r : ℕ) (k : Keyboard) (h : Heard) (v : KeptPitch) (d : Head) (l : Last) : Type 0 where
   pub settings : InRange s
+  pub hertz : SampleRate r
   pub keyboard : KeyboardIn k
   pub heard : HeardRight h
   pub pitch : PitchRight (soundOf (h .store)) v

@@ -17,7 +17,7 @@ ghost use Prim.Native.Nat.{ℕ, _+_, _-_, _≤_, _<_};
 ghost use lib.IntN.{pos};
 ghost use lib.ListN.{length};
 ghost use Rattle.whole.specs.Tests.{Decides};
-ghost use Rattle.rules.specs.Rules.{settingsNumber, defaults, keptSamples};
+ghost use Rattle.rules.specs.Rules.{settingsNumber, startNumber, defaults, keptSamples};
 ghost use Rattle.rules.specs.Facts.{ToneIn, valueAt};
 ghost use Rattle.ages.specs.Ages.{Samples};
 ghost use Rattle.pitch.specs.Pitches.{PitchRight};
@@ -153,6 +153,16 @@ pub fn settings_number(s: Settings) -> u32
     0
 }
 
+// The number that a start is answered: an unknown sample rate is named before the settings.
+pub fn start_number(hertz: u32, s: Settings) -> u32
+    ensures { λ r. ⌜ r ≡ startNumber hertz s ⌝ }
+{
+    if !notes::known_rate(hertz as u64) {
+        return 16;
+    }
+    settings_number(s)
+}
+
 // The first n samples of a store are 0.
 fn silent(s: &[i16], n: usize) -> bool
     requires { ⌜ n ≤ length (now s) ⌝ }
@@ -261,9 +271,12 @@ fn last_right(l: Last, count: u64) -> bool
 }
 
 // A record is good.
-pub fn all_right(s: Settings, k: Keyboard, h: Heard, v: Pitch, d: Head, l: Last) -> bool
-    ensures { λ r. ⌜ Decides r (AllRight s k h v d l) ⌝ }
+pub fn all_right(s: Settings, hertz: u64, k: Keyboard, h: Heard, v: Pitch, d: Head, l: Last) -> bool
+    ensures { λ r. ⌜ Decides r (AllRight s hertz k h v d l) ⌝ }
 {
+    if !notes::known_rate(hertz) {
+        return false;
+    }
     if settings_number(s) != 0 {
         return false;
     }

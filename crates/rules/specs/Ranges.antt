@@ -1,13 +1,13 @@
--- Which number settings are answered, setting by setting; and the range of each where that number is 0.
+-- Which number settings are answered, setting by setting, and the range of each where that number is 0; and the same of a start.
 use mathlib.Core.Path.{_≡_, refl}
-use mathlib.Core.Bool.{Bool, true, false}
+use mathlib.Core.Bool.{Bool, true, false, _||_}
 use Prim.Native.Nat.{ℕ, _≤_}
-use borrow.Author.Tests.{leb-true, le-leb, eqb-false}
+use borrow.Author.Tests.{leb-true, le-leb, eqb-true, eqb-false, eq-eqb, ne-eqb}
 use lib.Dec.{leb, eqb}
-use Rattle.whole.specs.Tests.{by, and-left, and-right}
+use Rattle.whole.specs.Tests.{by, and-left, and-right, yes-and-no}
 use Rattle.rules.specs.declared.Settings.{Settings}
-use Rattle.rules.specs.Rules.{scaleMode, keyboardMode, within, refuse, settingsNumber, defaults}
-use Rattle.rules.specs.Facts.{InRange}
+use Rattle.rules.specs.Rules.{scaleMode, keyboardMode, within, refuse, settingsNumber, defaults, cdRate, filmRate, isRate, startNumber}
+use Rattle.rules.specs.Facts.{InRange, SampleRate, cd, film}
 
 -- ---- one test
 
@@ -82,3 +82,35 @@ module _ (s : Settings) where
 pub defaults-in-range : InRange defaults
 unfolding settingsNumber defaults
 defaults-in-range = refl
+
+-- ---- a start
+
+module _ {hertz : ℕ} where
+  -- a sample rate, and its test
+  rate-known : (a b : Bool) → eqb hertz cdRate ≡ a → eqb hertz filmRate ≡ b → a || b ≡ true → SampleRate hertz
+  rate-known true b e f h = cd (eqb-true hertz cdRate e)
+  rate-known false true e f h = film (eqb-true hertz filmRate f)
+  rate-known false false e f h = absurd (yes-and-no h refl)
+
+  pub not-cd : (hertz ≡ cdRate → ⊥) → SampleRate hertz → hertz ≡ filmRate
+  not-cd n (cd e) = absurd (n e)
+  not-cd n (film e) = e
+
+  pub known : SampleRate hertz → isRate hertz ≡ true
+  known (cd e) = rw (eq-eqb hertz cdRate e)
+  known (film e) = rw e
+
+  pub unknown : (SampleRate hertz → ⊥) → isRate hertz ≡ false
+  unknown n = rw (ne-eqb hertz cdRate (λ e. n (cd e)), ne-eqb hertz filmRate (λ e. n (film e)))
+
+  -- a start that is not refused: the sample rate is one of the two, and the settings are in range
+  pub unrefused-start : (s : Settings) → startNumber hertz s ≡ 0 → SampleRate hertz × InRange s
+  unfolding startNumber
+  unrefused-start s e =
+      let rate = unrefused 16 refl (isRate hertz) e in
+      (rate-known _ _ refl refl (rate .0), rate .1)
+
+-- a start with the defaults at 44,100 is not refused
+pub default-start : startNumber cdRate defaults ≡ 0
+unfolding startNumber
+default-start = defaults-in-range

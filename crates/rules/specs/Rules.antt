@@ -1,6 +1,6 @@
 -- Document 01's rules, in its order and words. Definitions only: the laws about them stand in the files beside this one.
 -- Samples and correlations are signed numbers; counts, lags, energies, periods and rates are natural numbers.
-use mathlib.Core.Bool.{Bool, true, false, not, cond, _&&_}
+use mathlib.Core.Bool.{Bool, true, false, not, cond, _&&_, _||_}
 use mathlib.Core.List.{List, [], _∷_, _++_}
 use mathlib.Core.Option.{Option, none, some}
 use Prim.Native.Nat.{ℕ, zero, suc, _+_, _-_, _*_, _/_, _%_, _^_, min, max}
@@ -14,7 +14,7 @@ use Rattle.rules.specs.declared.Tone.{Tone}
 use Rattle.rules.specs.declared.Goal.{Goal}
 use Rattle.whole.specs.Numbers.{sum, total, floorDiv, nearestDiv}
 
--- ---- Settings: scale, eps, decay, floor, mode and channel, as src/lib.rt declares them, with what is in force at a sample, a tone and a goal
+-- ---- Settings: scale, eps, decay, floor, mode and channel, as src/lib.rt declares them, with what is in force at a sample, a tone and a goal; and the sample rate
 
 -- the modes: the wanted note is of the scale, or the key held
 abbrev pub scaleMode : ℕ
@@ -48,6 +48,21 @@ settingsNumber s =
 -- settings are in range where that number is 0
 abbrev pub inRange : Settings → Bool
 inRange s = eqb (settingsNumber s) 0
+
+-- the sample rates: of discs, and of film
+abbrev pub cdRate : ℕ
+cdRate = 44100
+
+abbrev pub filmRate : ℕ
+filmRate = 48000
+
+-- one of them
+abbrev pub isRate : ℕ → Bool
+isRate hertz = eqb hertz cdRate || eqb hertz filmRate
+
+-- the number that a start is answered: an unknown sample rate is named before the settings
+unfoldable pub startNumber : ℕ → Settings → ℕ
+startNumber hertz s = refuse 16 (isRate hertz) (settingsNumber s)
 
 -- ---- Energies and correlations
 
@@ -191,13 +206,6 @@ moved low at =
     (cond (ltb 4 at) (cond (eqb (low + 7) highestLag) low (low + 1)) low)
 
 -- ---- Note and rate
-
--- the sample rates: of discs, and of film
-abbrev pub cdRate : ℕ
-cdRate = 44100
-
-abbrev pub filmRate : ℕ
-filmRate = 48000
 
 -- the tables: the periods of MIDI notes 32 to 100 at 44,100, and of 33 to 102 at 48,000, in 1/256 sample; their rule is `Nearest` in Table
 unfoldable pub cdTable : List ℕ

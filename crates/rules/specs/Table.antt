@@ -41,6 +41,10 @@ module _ (hertz : ℕ) where
   unfolding table firstNote notes
   at-film n = rw (ne-eqb hertz cdRate n) (refl, refl, refl)
 
+-- no sample rate is greater than film's
+pub rate-upto : {hertz : ℕ} → SampleRate hertz → hertz ≤ filmRate
+rate-upto = at-any (λ (hertz : ℕ). hertz ≤ filmRate) (omega arith, omega arith)
+
 -- where a table begins and ends
 pub record Span (hertz : ℕ) : Type 0 where
   pub first : (32 ≤ firstNote hertz) × (firstNote hertz ≤ 33)

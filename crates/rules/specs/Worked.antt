@@ -6,7 +6,7 @@ use mathlib.Core.Option.{Option, none, some}
 use Prim.Native.Nat.{ℕ, _+_, _*_, _/_}
 use lib.IntN.{ℤ, pos, negsuc, negℤ, _+ℤ_}
 use Rattle.whole.specs.Numbers.{fold}
-use Rattle.rules.specs.Rules.{Sound, silence, heard, heardAll, E, H, D, eighthSample, eighthDue, meetsEps, meetsFloor, offset, cdRate, filmRate, cdTable, filmTable, table, firstNote, notes, notePeriod, ofScale, nearer, wantedOf, wanted, scaleMode, noNote, wantedPeriod, rawRate, rawToward, goalOf, smoothTotal, smoothRate, smoothKept, curve, held, through, inputAt, cycleRepeated, cycleDropped, cycles, growth, Take, freshTake, Given, noTone, listened, listenedIn, sampleAt, wholeOf, fractionOf, reading, eighthsAfter, stepped, gives, samplesOut}
+use Rattle.rules.specs.Rules.{Sound, silence, heard, heardAll, E, H, D, eighthSample, eighthDue, meetsEps, meetsFloor, offset, settingsNumber, startNumber, cdRate, filmRate, cdTable, filmTable, table, firstNote, notes, notePeriod, ofScale, nearer, wantedOf, wanted, scaleMode, noNote, wantedPeriod, rawRate, rawToward, goalOf, smoothTotal, smoothRate, smoothKept, curve, held, through, inputAt, cycleRepeated, cycleDropped, cycles, growth, Take, freshTake, Given, noTone, listened, listenedIn, sampleAt, wholeOf, fractionOf, reading, eighthsAfter, stepped, gives, samplesOut}
 
 -- the sound of some samples alone, the oldest first, as document 01 prints them
 abbrev soundOf : List ℤ → Sound
@@ -27,6 +27,8 @@ pub data Worked : Type 0 where
   -- the raw rate of the period p while the key n is wanted
   wantsKey : (hertz p n r : ℕ) → Worked
   reads : (p a b q : ℤ) (f : ℕ) (out : ℤ) → Worked
+  -- the number that a start is answered
+  starts : (hertz scale eps decay floor number : ℕ) → Worked
   -- after sample n, with the position grown to `grown` and a period, the position is `at`
   turns : (n p : ℕ) (grown at : ℤ) → Worked
 
@@ -42,6 +44,7 @@ Holds (raw hertz p n r) = rawRate p (notePeriod hertz n) ≡ r
 Holds (smooths decay rate kept goal new left) = (smoothRate decay rate kept goal ≡ new) × (smoothKept decay rate kept goal ≡ left)
 Holds (wantsKey hertz p n r) = goalOf hertz p n ≡ record { note = n; raw = r }
 Holds (reads p a b q f out) = through p a b q (f / 16) ≡ out
+Holds (starts hertz scale eps decay floor number) = startNumber hertz (record { scale = scale; eps = eps; decay = decay; floor = floor; mode = scaleMode; channel = 0 }) ≡ number
 Holds (turns n p grown at) = growth n 0 p grown .position ≡ at
 
 unfoldable pub AllHold : List Worked → Type 0
@@ -116,12 +119,16 @@ numbers =
     ∷ wantsKey filmRate 8302 102 131072
     ∷ wantsKey filmRate 25600 32 65536
     ∷ wantsKey filmRate 25600 103 65536
+    -- an unknown sample rate is refused before anything else
+    ∷ starts filmRate 4095 100 0 100 0
+    ∷ starts 1 0 410 256 0 16
+    ∷ starts filmRate 0 410 256 0 8
     ∷ []
 
 pub numbers-hold : AllHold numbers
-unfolding numbers AllHold Holds silence heard heardAll fold E H D eighthSample meetsEps meetsFloor offset cdTable filmTable table firstNote notes notePeriod wanted wantedOf ofScale nearer rawRate rawToward wantedPeriod goalOf smoothTotal smoothRate smoothKept curve held through growth cycleRepeated cycleDropped cycles inputAt
+unfolding numbers AllHold Holds settingsNumber startNumber silence heard heardAll fold E H D eighthSample meetsEps meetsFloor offset cdTable filmTable table firstNote notes notePeriod wanted wantedOf ofScale nearer rawRate rawToward wantedPeriod goalOf smoothTotal smoothRate smoothKept curve held through growth cycleRepeated cycleDropped cycles inputAt
 numbers-hold =
-    ((refl, refl, refl), ((refl, refl, refl), ((refl, refl, refl), (refl, (refl, (refl, (refl, (refl, (refl, (refl, (refl, (refl, (refl, (refl, (refl, (refl, ((refl, refl), ((refl, refl), ((refl, refl), (refl, (refl, (refl, (refl, (refl, (refl, (refl, (refl, (refl, (refl, (refl, (refl, (refl, (refl, (refl, (refl, (refl, (refl, (refl, (refl, (refl, (refl, (refl, tt))))))))))))))))))))))))))))))))))))))))))
+    ((refl, refl, refl), ((refl, refl, refl), ((refl, refl, refl), (refl, (refl, (refl, (refl, (refl, (refl, (refl, (refl, (refl, (refl, (refl, (refl, (refl, ((refl, refl), ((refl, refl), ((refl, refl), (refl, (refl, (refl, (refl, (refl, (refl, (refl, (refl, (refl, (refl, (refl, (refl, (refl, (refl, (refl, (refl, (refl, (refl, (refl, (refl, (refl, (refl, (refl, (refl, (refl, (refl, tt)))))))))))))))))))))))))))))))))))))))))))))
 
 -- the whole case of document 01: until a period is tracked, output is the input four samples late
 pub whole-case : samplesOut (gives (record { settings = record { scale = 4095; eps = 200; decay = 0; floor = 100; mode = scaleMode; channel = 0 }; key = noNote; hertz = cdRate }) freshTake (pos 1000 ∷ minus 1000 ∷ pos 500 ∷ pos 8 ∷ pos 9 ∷ pos 10 ∷ []))

@@ -11,8 +11,8 @@ use Rattle.tuner.specs.declared.Tuner.{Tuner}
 use Rattle.tuner.proofs.Tuner.{the-row}
 
 pub stores : (t : Tuner) (vs : List Val) → Is the-row t vs → Stores (t .heard)
-stores t vs p = parts.stores (t .heard) _ (p .1 .1 .1 .1 .0)
+stores t vs p = parts.stores (t .heard) _ (p .1 .1 .1 .1 .1 .0)
 
 -- the kept output
 pub out-long : (t : Tuner) (vs : List Val) → Is the-row t vs → length (t .last .out) ≡ 512
-out-long t vs p = parts.out-long (t .last) _ (p .1 .1 .1 .1 .1 .1 .1 .0)
+out-long t vs p = parts.out-long (t .last) _ (p .1 .1 .1 .1 .1 .1 .1 .1 .0)

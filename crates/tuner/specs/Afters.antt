@@ -138,6 +138,7 @@ module _ (t : Tuner) (g : Good t) (st : Stores (t .heard)) {xs s y : List ℤ} (
         → ((x : Sound) → PitchRight x (q .pitch) → w ≡ keptOf (pitchOf (q .pitch)) x)
         → record {
           settings = t .settings;
+          hertz = t .hertz;
           keyboard = t .keyboard;
           heard = record { count = q .count; energies = e; correlations = h; store = store; eighths = eighths };
           pitch = w;
@@ -150,6 +151,7 @@ module _ (t : Tuner) (g : Good t) (st : Stores (t .heard)) {xs s y : List ℤ} (
         c (soundOf (keeping (t .heard .store) xs)) end-right ∙ ap (λ (u : Take). keptOf (u .pitch) (soundOf (keeping (t .heard .store) xs))) end-take in
         λ i. record {
           settings = t .settings;
+          hertz = t .hertz;
           keyboard = t .keyboard;
           heard =
               record {

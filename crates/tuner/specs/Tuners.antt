@@ -8,7 +8,7 @@ use lib.IntN.{ℤ, pos, natAbs, _-ℤ_}
 use lib.ListN.{length, take, drop, replicate}
 use Rattle.rules.specs.declared.Settings.{Settings}
 use Rattle.rules.specs.declared.InForce.{InForce}
-use Rattle.rules.specs.Rules.{Sound, heard, eighthDue, eighthSample, Take, Given, inputAt, settingsNumber, inRange, defaults, cdRate, after, gives, samplesOut, allRepeated, allDropped, takeLimit, longestBlock, keptSamples, eighthLags}
+use Rattle.rules.specs.Rules.{Sound, heard, eighthDue, eighthSample, Take, Given, inputAt, settingsNumber, startNumber, defaults, cdRate, after, gives, samplesOut, allRepeated, allDropped, takeLimit, longestBlock, keptSamples, eighthLags}
 use Rattle.rules.specs.Facts.{energiesOf, correlationsOf, keeping}
 use Rattle.keyboard.specs.Keys.{fresh, played, onChannel}
 use Rattle.pitch.specs.Pitches.{pitchOf, keptOf}
@@ -35,15 +35,18 @@ takeOf t =
     }
 
 abbrev pub forceOf : Tuner → InForce
-forceOf t = record { settings = t .settings; key = t .keyboard .key; hertz = cdRate }
+forceOf t = record { settings = t .settings; key = t .keyboard .key; hertz = t .hertz }
 
 -- ---- a good record: each of its parts is right
 abbrev pub Good : Tuner → Type 0
-Good t = AllRight (t .settings) (t .keyboard) (t .heard) (t .pitch) (t .head) (t .last)
+Good t = AllRight (t .settings) (t .hertz) (t .keyboard) (t .heard) (t .pitch) (t .head) (t .last)
 
--- ---- a fresh tuner
-unfoldable pub freshTuner : Settings → Tuner
-freshTuner s = record { settings = s; keyboard = fresh; heard = freshHeard; pitch = freshPitch; head = freshHead; last = noLast }
+-- ---- a fresh tuner at a sample rate, and the default one
+unfoldable pub freshTuner : ℕ → Settings → Tuner
+freshTuner hertz s = record { settings = s; hertz = hertz; keyboard = fresh; heard = freshHeard; pitch = freshPitch; head = freshHead; last = noLast }
+
+abbrev pub defaultTuner : Tuner
+defaultTuner = freshTuner cdRate defaults
 
 -- ---- a tuner after a block
 
@@ -88,6 +91,7 @@ afterBlock t k xs =
     let heard = heardAfter (t .heard) xs in
     record {
       settings = t .settings;
+      hertz = t .hertz;
       keyboard = t .keyboard;
       heard = heard;
       pitch = keptOf (then .pitch) (soundOf (heard .store));
@@ -155,15 +159,15 @@ pub record Took (t : Tuner) (k : ℕ) (xs ys : List ℤ) (t′ : Tuner) (a : Ans
 
 -- ---- start, change, reset
 
--- the promise of a start: taken where no setting is refused, else the default tuner beside the number of the first bad one
-pub record Started (s : Settings) (t′ : Tuner) (a : Answer) : Type 0 where
-  pub tuner : t′ ≡ freshTuner (cond (inRange s) s defaults)
-  pub answer : a ≡ plain (settingsNumber s)
+-- the promise of a start: taken where neither sample rate nor setting is refused, else the default tuner beside the number of the first bad one
+pub record Started (hertz : ℕ) (s : Settings) (t′ : Tuner) (a : Answer) : Type 0 where
+  pub tuner : t′ ≡ cond (eqb (startNumber hertz s) 0) (freshTuner hertz s) defaultTuner
+  pub answer : a ≡ plain (startNumber hertz s)
 
 -- the tuner with other settings; another channel forgets the key, the running status and any half message
 abbrev pub withSettings : Tuner → Settings → Tuner
 withSettings t s =
-    record { settings = s; keyboard = onChannel (t .settings .channel) (s .channel) (t .keyboard); heard = t .heard; pitch = t .pitch; head = t .head; last = t .last }
+    record { settings = s; hertz = t .hertz; keyboard = onChannel (t .settings .channel) (s .channel) (t .keyboard); heard = t .heard; pitch = t .pitch; head = t .head; last = t .last }
 
 -- the number of the answer to a change: 9, then that of the settings
 pub data ChangeVerdict (t : Tuner) (s : Settings) : ℕ → Type 0 where
@@ -182,11 +186,11 @@ pub data NineOnly (t : Tuner) : ℕ → Type 0 where
   record-out-of-range : (Good t → ⊥) → NineOnly t 9
   record-good : Good t → NineOnly t 0
 
--- the promise of a reset: settings kept, everything else fresh
+-- the promise of a reset: settings and sample rate kept, everything else fresh
 pub record Reset (t : Tuner) (t′ : Tuner) (a : Answer) : Type 0 where
   pub number : ℕ
   pub verdict : NineOnly t number
-  pub tuner : t′ ≡ cond (eqb number 0) (freshTuner (t .settings)) t
+  pub tuner : t′ ≡ cond (eqb number 0) (freshTuner (t .hertz) (t .settings)) t
   pub answer : a ≡ plain number
 
 -- ---- the keyboard
@@ -194,7 +198,7 @@ pub record Reset (t : Tuner) (t′ : Tuner) (a : Answer) : Type 0 where
 -- the tuner after bytes from the keyboard, on the channel of its settings
 abbrev pub withBytes : Tuner → List ℕ → Tuner
 withBytes t bytes =
-    record { settings = t .settings; keyboard = played (t .settings .channel) (t .keyboard) bytes; heard = t .heard; pitch = t .pitch; head = t .head; last = t .last }
+    record { settings = t .settings; hertz = t .hertz; keyboard = played (t .settings .channel) (t .keyboard) bytes; heard = t .heard; pitch = t .pitch; head = t .head; last = t .last }
 
 -- the promise of keyboard bytes: the keyboard alone is another; period, wanted note and rate stay until the next tracking step
 pub record Keyed (t : Tuner) (bytes : List ℕ) (t′ : Tuner) (a : Answer) : Type 0 where
@@ -208,4 +212,4 @@ pub record Keyed (t : Tuner) (bytes : List ℕ) (t′ : Tuner) (a : Answer) : Ty
 -- the promise of a read of the meter: refused where the record is not good, else what `shownOf` says, each figure exact
 pub data Metered (t : Tuner) (r : Meter) : Type 0 where
   record-out-of-range : (Good t → ⊥) → r ≡ Meter.Refused → Metered t r
-  read : Good t → r ≡ shownOf cdRate (t .pitch) → Exact cdRate (t .pitch) r → Metered t r
+  read : Good t → r ≡ shownOf (t .hertz) (t .pitch) → Exact (t .hertz) (t .pitch) r → Metered t r

@@ -171,7 +171,7 @@ module _ {t : Tuner} where
   pub reset-one : {t₁ t₂ : Tuner} {a₁ a₂ : Answer} → Reset t t₁ a₁ → Reset t t₂ a₂ → (t₁ ≡ t₂) × (a₁ ≡ a₂)
   reset-one p q =
       let e = nine-one (p .verdict) (q .verdict) in (
-        p .tuner ∙ ap (λ (v : ℕ). cond (eqb v 0) (freshTuner (t .settings)) t) e ∙ sym (q .tuner),
+        p .tuner ∙ ap (λ (v : ℕ). cond (eqb v 0) (freshTuner (t .hertz) (t .settings)) t) e ∙ sym (q .tuner),
         p .answer ∙ ap plain e ∙ sym (q .answer),
       )
 

@@ -19,13 +19,14 @@ ghost use mathlib.Core.Path.{_≡_};
 ghost use Prim.Native.Nat.{_+_, _≤_, _<_};
 ghost use lib.ListN.{length};
 ghost use Rattle.whole.specs.Tests.{Decides};
-ghost use Rattle.rules.specs.Rules.{defaults, takeLimit, longestBlock};
+ghost use Rattle.rules.specs.Rules.{defaults, cdRate, takeLimit, longestBlock};
 ghost use Rattle.tuner.specs.Tuners.{Good, freshTuner, afterBlock, Verdict, Took, Started, Changed, Reset, Keyed, Metered};
 
 // The record, in its parts.
 #[repr(C)]
 pub struct Tuner {
     pub settings: Settings,
+    pub hertz: u64,
     pub keyboard: Keyboard,
     pub heard: Heard,
     pub pitch: Pitch,
@@ -43,19 +44,21 @@ fn good(t: Tuner) -> bool
     ensures { λ r. ⌜ Decides r (Good t) ⌝ }
 {
     let settings = t.settings;
+    let hertz = t.hertz;
     let keys = t.keyboard;
     let heard = t.heard;
     let pitch = t.pitch;
     let head = t.head;
     let last = t.last;
-    record::all_right(settings, keys, heard, pitch, head, last)
+    record::all_right(settings, hertz, keys, heard, pitch, head, last)
 }
 
-fn fresh_tuner(s: Settings) -> Tuner
-    ensures { λ r. ⌜ r ≡ freshTuner s ⌝ }
+fn fresh_tuner(hertz: u64, s: Settings) -> Tuner
+    ensures { λ r. ⌜ r ≡ freshTuner hertz s ⌝ }
 {
     Tuner {
         settings: s,
+        hertz: hertz,
         keyboard: keyboard::fresh(),
         heard: record::fresh_heard(),
         pitch: record::fresh_pitch(),
@@ -64,29 +67,29 @@ fn fresh_tuner(s: Settings) -> Tuner
     }
 }
 
-// The fresh tuner with these settings, or the default tuner beside the number of the first bad one.
-pub fn start(s: Settings) -> Taken
-    ensures { λ r. ⌜ Started s (r .tuner) (r .answer) ⌝ }
+// The fresh tuner with these settings at this sample rate, or the default tuner beside the number of the first that is bad.
+pub fn start(hertz: u32, s: Settings) -> Taken
+    ensures { λ r. ⌜ Started hertz s (r .tuner) (r .answer) ⌝ }
 {
-    let number = record::settings_number(s);
+    let number = record::start_number(hertz, s);
     if number == 0 {
         return Taken {
-            tuner: fresh_tuner(s),
+            tuner: fresh_tuner(hertz as u64, s),
             answer: answers::plain(0),
         };
     }
     let d = record::default_settings();
     Taken {
-        tuner: fresh_tuner(d),
+        tuner: fresh_tuner(CD_RATE as u64, d),
         answer: answers::plain(number),
     }
 }
 
-// A start with the default settings.
+// A start with the default settings at 44,100.
 pub fn start_default() -> Taken
-    ensures { λ r. ⌜ Started defaults (r .tuner) (r .answer) ⌝ }
+    ensures { λ r. ⌜ Started cdRate defaults (r .tuner) (r .answer) ⌝ }
 {
-    start(record::default_settings())
+    start(CD_RATE, record::default_settings())
 }
 
 // The number of the answer to a block, with so much room for the output.
@@ -123,11 +126,12 @@ fn after_block(t: Tuner, number: u16, samples: &[i16]) -> Tuner
     ensures { λ r. ⌜ r ≡ afterBlock t number (now (samples .entry)) ⌝ }
 {
     let g = t.settings;
+    let hertz = t.hertz;
     let keys = t.keyboard;
     let f = InForce {
         settings: g,
         key: keys.key,
-        hertz: CD_RATE,
+        hertz: hertz as u32,
     };
     let n = samples.len();
     let store = t.heard.store;
@@ -176,6 +180,7 @@ fn after_block(t: Tuner, number: u16, samples: &[i16]) -> Tuner
     let dropped = q.dropped as u16;
     Tuner {
         settings: g,
+        hertz: hertz,
         keyboard: keys,
         heard: Heard {
             count: counted,
@@ -246,14 +251,14 @@ impl Tuner {
         }
     }
 
-    // Settings kept, everything else fresh.
+    // Settings and sample rate kept, everything else fresh.
     pub fn reset(self) -> Taken
         ensures { λ r. ⌜ Reset self (r .tuner) (r .answer) ⌝ }
     {
         if good(self) {
             let g = self.settings;
             return Taken {
-                tuner: fresh_tuner(g),
+                tuner: fresh_tuner(self.hertz, g),
                 answer: answers::plain(0),
             };
         }
@@ -300,7 +305,7 @@ impl Tuner {
             return Meter::Refused;
         }
         let v = self.pitch;
-        meters::shown(CD_RATE, v)
+        meters::shown(self.hertz as u32, v)
     }
 }
 

@@ -26,7 +26,7 @@ use denote.Triple.Statement.{Contract, Triple}
 use denote.Triple.Call.{calls-at}
 use denote.Triple.Clauses.{ensured, lasts}
 use denote.Triple.Walked.{Stays, stay-ref, walkOf, goes-ref, walked}
-use Rattle.rules.specs.Rules.{defaults}
+use Rattle.rules.specs.Rules.{defaults, cdRate}
 use Rattle.host.specs.Hosts.{HostStarted}
 use Rattle.host.specs.declared.Record.{Record}
 use Rattle.host.specs.declared.Done.{Done}
@@ -66,8 +66,8 @@ module _ {M : Type 1} (𝓤 : URA M) (H : Heap 𝓤) (A : Atoms 𝓤) (W : Given
   asked : ent 𝓤 (onEntry 𝓤 H A started-default.signature tt tt tt tt) (Called 𝓤 H A mem run .pre to-callee)
   asked = qed W (‵ ftrue ∷ ‵ (owns [] tt tt) ∷ []) ∵ join ! $ frame ! $ done !
 
-  got : (r : Done) → ent 𝓤 (ensured 𝓤 H A started-default.ended (started-default.clauses 𝓤 H A mem run) tt tt tt r) (fact 𝓤 (HostStarted defaults (r .left) (r .answer .number)))
-  got r = exE 𝓤 _ (λ ws. snd∗ 𝓤 (sem 𝓤 H A (lasts started-default.ended tt tt ws)) (fact 𝓤 (HostStarted defaults (r .left) (r .answer .number))))
+  got : (r : Done) → ent 𝓤 (ensured 𝓤 H A started-default.ended (started-default.clauses 𝓤 H A mem run) tt tt tt r) (fact 𝓤 (HostStarted cdRate defaults (r .left) (r .answer .number)))
+  got r = exE 𝓤 _ (λ ws. snd∗ 𝓤 (sem 𝓤 H A (lasts started-default.ended tt tt ws)) (fact 𝓤 (HostStarted cdRate defaults (r .left) (r .answer .number))))
 
   module _ (C : Calls 𝓤 H) (Λ : Loops 𝓤 H) (fm : FmC 𝓤 H (W .laws) C) (known : Triple 𝓤 (C #host·started-default) (Called 𝓤 H A mem run)) where
     walk : ent 𝓤 (onEntry 𝓤 H A self.signature (κ, tt) (q, tt) a vals) (WpFn 𝓤 H C Λ code.function (vptr b o ∷ []) Post)
@@ -80,12 +80,12 @@ module _ {M : Type 1} (𝓤 : URA M) (H : Heap 𝓤) (A : Atoms 𝓤) (W : Given
         move ! (4 ∷ 5 ∷ []) $ use2 W (raw (Called 𝓤 H A mem run .pre to-callee)) asked $
         -- [what the callee asks; the record's cell; the open borrow; obs; auth; room for _2; …]
         calls-at ! fm (Called 𝓤 H A mem run) known to-callee (no-more !) (λ w.
-        answered ! tt K.the-row (ensured 𝓤 H A started-default.ended (started-default.clauses 𝓤 H A mem run) tt tt tt) (λ (r : Done). HostStarted defaults (r .left) (r .answer .number)) w (id⊢ 𝓤 _) got (λ r e is.
+        answered ! tt K.the-row (ensured 𝓤 H A started-default.ended (started-default.clauses 𝓤 H A mem run) tt tt tt) (λ (r : Done). HostStarted cdRate defaults (r .left) (r .answer .number)) w (id⊢ 𝓤 _) got (λ r e is.
         -- [what the result owns; the record's cell; the open borrow; obs; auth; room for _2; …; _1; …; room for _0; …]
         move ! (0 ∷ 1 ∷ 2 ∷ 3 ∷ 4 ∷ 5 ∷ 7 ∷ 9 ∷ []) $ stored ! refl refl refl r w is $
         -- [obs; the borrow; its token; what the result owns; _2; _1; _0; …]
         returns ! (look ! 6 refl) $ forget ! 4 refl $ forget ! 5 refl $ forget ! 6 refl $ move ! (6 ∷ 9 ∷ []) $ free1 ! $ move ! (5 ∷ 7 ∷ []) $ free1 ! $ move ! (4 ∷ 5 ∷ []) $ free1 ! $ free0 ! $
-        keep ! (0 ∷ 1 ∷ 2 ∷ []) $ by ! (exits-alone 𝓤 H A W (λ _. HostStarted defaults) κ q b o γ h r w is e)))))))
+        keep ! (0 ∷ 1 ∷ 2 ∷ []) $ by ! (exits-alone 𝓤 H A W (λ _. HostStarted cdRate defaults) κ q b o γ h r w is e)))))))
 
 pub daxfolin-start-default-spec : {M : Type 1} → stated.statement M
 unfolding code.routine

@@ -1,9 +1,15 @@
 -- `lines::start_line` meets its contract: the call's own promise, and the number that it answers.
 -- Assumes nothing.
+use mathlib.Core.Path.{_≡_, _∙_}
+use mathlib.Core.List.{List}
+use Prim.Native.Nat.{ℕ}
 use borrow.Author.Needs.{needs}
 use borrow.Author.Tests.{not-true, not-false}
-use Rattle.lines.specs.Lines.{start, startIn, numberLine, begun, not-begun}
-use Rattle.lines.specs.Laws.{line-read, line-unread}
+use Rattle.whole.specs.Tests.{cond-yes, cond-no}
+use Rattle.rules.specs.declared.Settings.{Settings}
+use Rattle.text.specs.Fields.{later}
+use Rattle.lines.specs.Lines.{start, startOf, startIn, lineOf, numberLine, begun, not-begun}
+use Rattle.lines.specs.Laws.{four-read, four-unread}
 use Rattle.lines.specs.Steps.{replied-as}
 use Rattle.lines.proofs.start_line.Statement.{statement}
 use Rattle.lines.proofs.start_line.Tie as tie
@@ -22,7 +28,44 @@ unfolding startIn
 returns c =
     let q = c .before .before in
     let f = q .before .before .before .before .four-settings in
-    replied-as (line-unread start (f .result .ok) (f .result .settings) (f .ensures) (not-true (f .result .ok) (q .before .before .if1 .taken))) (q .unreadable .ensures)
+    replied-as (four-unread (f .ensures) startOf (not-true (f .result .ok) (q .before .before .if1 .taken))) (q .unreadable .ensures)
+
+rate-setting-requires : tie.Need-rate-setting-requires
+rate-setting-requires c κs = c .before .before .four-settings .ensures .within
+
+unreadable-requires-2 : tie.Need-unreadable-requires-2
+unreadable-requires-2 c κs = search needs
+
+same-length-2 : tie.Need-same-length-2
+same-length-2 c = search needs
+
+returns-2 : tie.Need-returns-2
+unfolding startIn lineOf
+returns-2 c =
+    let e = c .before .before .before .before in
+    let r = e .before .before .rate-setting in
+    let s = e .before .before .before in
+    let f = s .before .before .four-settings in
+    replied-as (four-read (f .ensures) startOf (not-false (f .result .ok) (s .if1 .left)) (r .ensures .read (f .result .settings) ∙ cond-no _ _ (not-true (r .result .ok) (e .if2 .taken)))) (c .before .before .unreadable2 .ensures)
+
+-- sample rate and settings were read
+module _ (c : tie.Else2) where
+  abbrev rate : ℕ
+  rate = c .before .before .rate-setting .result .value
+
+  abbrev settings : Settings
+  settings = c .before .before .before .before .before .four-settings .result .settings
+
+  abbrev fields : List (List ℕ)
+  fields = let s = c .before .before .before .before .before .before .before .before in later (s .args .line .now) (s .args .at)
+
+  read : startIn fields ≡ start rate settings
+  unfolding startIn lineOf
+  read =
+      let r = c .before .before .rate-setting in
+      let s = c .before .before .before in
+      let f = s .before .before .four-settings in
+      four-read (f .ensures) startOf (not-false (f .result .ok) (s .if1 .left)) (r .ensures .read settings ∙ cond-yes _ _ (not-false (r .result .ok) (c .if2 .left)))
 
 start-requires : tie.Need-start-requires
 start-requires c κs = search needs
@@ -30,29 +73,23 @@ start-requires c κs = search needs
 say-number-requires : tie.Need-say-number-requires
 say-number-requires c κs = search needs
 
-same-length-2 : tie.Need-same-length-2
-same-length-2 c = search needs
-
-returns-2 : tie.Need-returns-2
-unfolding startIn
-returns-2 c =
-    let q = c .before .before .before .before in
-    let s = q .before .before in
-    let f = s .before .before .before .four-settings in
-    replied-as (line-read start (f .result .ok) (f .result .settings) (f .ensures) (not-false (f .result .ok) (s .before .if1 .left)))
-    (record { text = numberLine (s .start .result .answer .number); said = begun (s .start .ensures) (c .before .if2 .taken); put = q .say-number .ensures })
-
 same-length-3 : tie.Need-same-length-3
 same-length-3 c = search needs
 
 returns-3 : tie.Need-returns-3
-unfolding startIn
 returns-3 c =
+    let q = c .before .before .before .before in
+    let s = q .before .before in
+    replied-as (read (s .before)) (record { text = numberLine (s .start .result .answer .number); said = begun (s .start .ensures) (c .before .if3 .taken); put = q .say-number .ensures })
+
+same-length-4 : tie.Need-same-length-4
+same-length-4 c = search needs
+
+returns-4 : tie.Need-returns-4
+returns-4 c =
     let q = c .before .before .before in
     let s = q .before .before in
-    let f = s .before .before .before .four-settings in
-    replied-as (line-read start (f .result .ok) (f .result .settings) (f .ensures) (not-false (f .result .ok) (s .before .if1 .left)))
-    (record { text = numberLine (s .start .result .answer .number); said = not-begun (s .start .ensures) (c .if2 .left); put = q .say-number .ensures })
+    replied-as (read (s .before)) (record { text = numberLine (s .start .result .answer .number); said = not-begun (s .start .ensures) (c .if3 .left); put = q .say-number .ensures })
 
 pub start-line-spec : {M : Type 1} → statement M
 start-line-spec =
@@ -62,9 +99,13 @@ start-line-spec =
     unreadable-requires
     same-length
     returns
-    start-requires
-    say-number-requires
+    rate-setting-requires
+    unreadable-requires-2
     same-length-2
     returns-2
+    start-requires
+    say-number-requires
     same-length-3
-    returns-3)
+    returns-3
+    same-length-4
+    returns-4)

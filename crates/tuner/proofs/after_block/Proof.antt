@@ -5,7 +5,7 @@ use Prim.Native.Nat.{_≤_}
 use native.Mathlib.Omega.{arith}
 use borrow.Author.Needs.{needs}
 use lib.ListN.{length}
-use Rattle.rules.specs.Facts.{cd}
+use Rattle.rules.specs.Table.{rate-upto}
 use Rattle.record.specs.Parts.{Stores}
 use Rattle.tuner.specs.Afters.{begin-long, begin-ready, end-places-few, after-is}
 use Rattle.tuner.proofs.Fields.{stores}
@@ -21,6 +21,9 @@ arrays c = stores (c .args .t) _ (c .good .0)
 
 abbrev opening : tie.After-run → tie.After-opened
 opening r = r .before .before .before .before .before .before .before .before .before .before .before
+
+cast-t31 : tie.Need-cast-t31
+cast-t31 c = let g = c .before .before .pre .0 in omega (arith, rate-upto (g .hertz))
 
 joined-requires : tie.Need-joined-requires
 joined-requires c κs = search needs
@@ -43,7 +46,7 @@ run-requires c κs =
     let s = start o in
     let p = s .pre in
     let t = s .args .t in (
-      record { settings = p .0 .settings; key = p .0 .keyboard .key; hertz = cd refl },
+      record { settings = p .0 .settings; key = p .0 .keyboard .key; hertz = p .0 .hertz },
       begin-long t (p .0) (arrays s) (o .before .joined .ensures) (o .opened .ensures),
       omega (arith, o .before .joined .ensures .long, p .2),
       p .2,
@@ -115,6 +118,7 @@ pub after-block-spec : {M : Type 1} → statement M
 after-block-spec =
     tie.close
     (tie.spec
+    cast-t31
     joined-requires
     opened-requires
     cast-count

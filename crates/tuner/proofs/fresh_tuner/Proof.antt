@@ -28,7 +28,7 @@ returns c =
     let v = d .before in
     let h = v .before in
     let k = h .before in
-    λ i. record { settings = k .before .args .s; keyboard = k .fresh .ensures i; heard = h .fresh-heard .ensures i; pitch = v .fresh-pitch .ensures i; head = d .fresh-head .ensures i; last = c .no-last .ensures i }
+    λ i. record { settings = k .before .args .s; hertz = k .before .args .hertz; keyboard = k .fresh .ensures i; heard = h .fresh-heard .ensures i; pitch = v .fresh-pitch .ensures i; head = d .fresh-head .ensures i; last = c .no-last .ensures i }
 
 pub fresh-tuner-spec : {M : Type 1} → statement M
 fresh-tuner-spec = tie.close (tie.spec fresh-requires fresh-heard-requires fresh-pitch-requires fresh-head-requires no-last-requires returns)

@@ -61,7 +61,7 @@ returns-3 c =
     record {
       number = _;
       verdict = by-settings (good-here g);
-      tuner = rw e (ap (λ (k : Keyboard). record { settings = a .s; keyboard = k; heard = a .self .heard; pitch = a .self .pitch; head = a .self .head; last = a .self .last }) (k .on-channel .ensures));
+      tuner = rw e (ap (λ (k : Keyboard). record { settings = a .s; hertz = a .self .hertz; keyboard = k; heard = a .self .heard; pitch = a .self .pitch; head = a .self .head; last = a .self .last }) (k .on-channel .ensures));
       answer = c .plain3 .ensures ∙ ap plain (sym e);
     }
 

@@ -24,7 +24,7 @@ returns c =
     record {
       number = 0;
       verdict = record-good (g .before .good2 .ensures .yes (g .if1 .taken));
-      tuner = ap (λ (k : Keyboard). record { settings = t .settings; keyboard = k; heard = t .heard; pitch = t .pitch; head = t .head; last = t .last }) (k .played .ensures);
+      tuner = ap (λ (k : Keyboard). record { settings = t .settings; hertz = t .hertz; keyboard = k; heard = t .heard; pitch = t .pitch; head = t .head; last = t .last }) (k .played .ensures);
       answer = c .plain .ensures;
     }
 
