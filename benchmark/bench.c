@@ -39,9 +39,11 @@ typedef struct {
     answer (*block)(uint16_t, const int16_t *, size_t, int16_t *, size_t);
 } program;
 
+/* The settings that are measured: the default ones, but corrected at once, as the figures have always been taken and as the other tuners do. */
 static uint32_t library_start(uint32_t hertz)
 {
     daxfolin_settings settings = DAXFOLIN_DEFAULTS;
+    settings.decay = 0;
     return daxfolin_start(&tuner, hertz, settings);
 }
 

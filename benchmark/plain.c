@@ -245,7 +245,7 @@ static int16_t take(plain_tuner *t, int16_t sample)
 
 uint32_t plain_start(plain_tuner *t, uint32_t hertz)
 {
-    *t = (plain_tuner){.hertz = known(hertz) ? hertz : CD, .scale = 4095, .eps = 100, .floor = 100, .rate = LEVEL};
+    *t = (plain_tuner){.hertz = known(hertz) ? hertz : CD, .scale = 4095, .eps = 100, .decay = 0, .floor = 100, .rate = LEVEL};
     return known(hertz) ? 0 : 16;
 }
 

@@ -36,7 +36,8 @@ typedef struct {
     uint16_t written, repeated, dropped;
 } plain_answer;
 
-/* A fresh tuner at this sample rate with the default settings, and 0; or, where the rate is unknown, at 44,100, and 16. */
+/* A fresh tuner at this sample rate with the settings that are measured, the default ones but for decay 0, and 0; or, where the rate is
+   unknown, at 44,100, and 16. */
 uint32_t plain_start(plain_tuner *, uint32_t hertz);
 plain_answer plain_block(plain_tuner *, uint16_t number, const int16_t *samples, size_t n, int16_t *out, size_t room);
 #endif

@@ -3,8 +3,8 @@
      plugins FILE SOUND BLOCK COUNT   takes COUNT samples in blocks of BLOCK; prints a sum over the output and the user time in microseconds.
                                       FILE: fat1.so (LV2, of Debian's x42-plugins) or autotalent.so (LADSPA, of Debian's autotalent)
 
-   Both correct wholly and at once, to all twelve notes, as the tuner's default settings do. The declarations are those of the public interfaces
-   of LV2 and LADSPA. */
+   Both correct wholly and at once, to all twelve notes, as the tuner does with the settings that are measured. The declarations are those of
+   the public interfaces of LV2 and LADSPA. */
 #include "sounds.h"
 #include <dlfcn.h>
 #include <math.h>

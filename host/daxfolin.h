@@ -61,14 +61,14 @@ enum { DAXFOLIN_SCALE_MODE = 0, DAXFOLIN_KEYBOARD_MODE = 1 };
 typedef struct daxfolin_settings {
     uint32_t scale;   /* 1 to 4095: a mask of 12 bits, bit = note number mod 12 */
     uint32_t eps;     /* 0 to 409, in 1/1024 */
-    uint32_t decay;   /* 0 to 255, in 1/256 */
+    uint32_t decay;   /* 0 to 255, in 1/256: how much of the old rate is kept at a step; at 0 a note is at its goal at once */
     uint32_t floor;   /* 1 to 1,000,000: a mean square */
     uint32_t mode;    /* 0: the nearest note of the scale is wanted; 1: the key that is held on the keyboard */
     uint32_t channel; /* 0 to 15: the keyboard's */
 } daxfolin_settings;
 
 /* What daxfolin_start_default starts with, at 44,100: `daxfolin_settings settings = DAXFOLIN_DEFAULTS;`. */
-#define DAXFOLIN_DEFAULTS {4095, 100, 0, 100, 0, 0}
+#define DAXFOLIN_DEFAULTS {4095, 100, 230, 100, 0, 0}
 
 /* What the keyboard's bytes left. */
 typedef struct daxfolin_keyboard {

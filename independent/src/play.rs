@@ -23,7 +23,8 @@ const SAMPLES: usize = 28;
 
 /// A sample rate, then scale, eps, decay and floor.
 type Numbers = [u32; 5];
-/// All twelve notes, at 44,100.
+/// All twelve notes, at 44,100 and decay 0. The take opens with the defaults, and
+/// sends this later.
 const ALL: Numbers = [CD, 4095, 100, 0, 100];
 
 /// What is asked of the tuner.

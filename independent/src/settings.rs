@@ -23,7 +23,14 @@ pub const SCALE: u32 = 0;
 pub const KEYBOARD: u32 = 1;
 
 impl Settings {
-    pub const DEFAULT: Settings = Settings::of([4095, 100, 0, 100]);
+    pub const DEFAULT: Settings = Settings::of([4095, 100, 230, 100]);
+
+    /// The default settings without their decay, under which a rate glides: here
+    /// it is the raw rate at once.
+    pub const AT_ONCE: Settings = Settings {
+        decay: 0,
+        ..Settings::DEFAULT
+    };
 
     /// Scale, eps, decay and floor; mode and channel are those that hold
     /// unless others are given.

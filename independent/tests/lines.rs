@@ -262,10 +262,10 @@ fn change_keeps_mode_and_channel() {
     let played = sung_after("mode 1\nmidi 144 69 100\n");
     assert_ne!(played, plain);
     let keeping = [
-        "mode 1\nmidi 144 69 100\nchange 1 100 0 100\n",
-        "mode 1\nchange 4095 100 0 100\nmidi 144 69 100\n",
+        "mode 1\nmidi 144 69 100\nchange 1 100 230 100\n",
+        "mode 1\nchange 4095 100 230 100\nmidi 144 69 100\n",
         "midi 144 69 100\nmode 1\nchannel 0\n",
-        "mode 1\nchannel 7\nmidi 151 69 100\nchange 1 100 0 100\n",
+        "mode 1\nchannel 7\nmidi 151 69 100\nchange 1 100 230 100\n",
         // One unreadable byte and none is taken; refusals change nothing.
         "mode 1\nmidi 144 69 100\nmidi 69 0 256\nmode 2\nchannel 16\nchange 0 0 0 0\n",
         "mode 1\nmidi 144 69 100\nstart 0 0 0 0\n",
@@ -296,7 +296,7 @@ fn change_keeps_mode_and_channel() {
 fn starts_and_resets_in_keyboard_mode() {
     let played = sung_from("mode 1\nmidi 144 69 100\n");
     assert_ne!(played, sung_from(""));
-    let anew = "mode 1\nchannel 9\nstart 4095 100 0 100\n";
+    let anew = "mode 1\nchannel 9\nstart 4095 100 230 100\n";
     assert_eq!(sung_from(anew), sung_from(""));
     let again = format!("{anew}mode 1\nmidi 144 69 100\n");
     assert_eq!(sung_from(&again), played);
@@ -306,11 +306,27 @@ fn starts_and_resets_in_keyboard_mode() {
     assert_eq!(sung_from(&again), played);
 }
 
+/// The program opens with the default settings, and so at decay 230. Who needs
+/// decay 0 sends it, by a start or a change at the head.
+#[test]
+fn the_opening_is_gentle() {
+    let opening = sung_from("");
+    assert_eq!(sung_from("start 4095 100 230 100\n"), opening);
+    assert_eq!(sung_from("change 4095 100 230 100\n"), opening);
+    assert_eq!(sung_from("start 4095 100 256 100\n"), opening);
+    let at_once = sung_from("start 4095 100 0 100\n");
+    assert_ne!(at_once, opening);
+    assert_eq!(sung_from("change 4095 100 0 100\n"), at_once);
+    // A reset keeps what is in force, and does not fall back to the defaults.
+    assert_eq!(sung_from("change 4095 100 0 100\nreset\n"), at_once);
+    assert_eq!(sung_from("reset\n"), opening);
+}
+
 /// A start without a rate is at 44,100, also after 48,000; a change, a reset and
 /// lines of the keyboard keep the rate, and so does a start that is refused.
 #[test]
 fn rates_change_by_a_start_alone() {
-    let start = "start 4095 100 0 100";
+    let start = "start 4095 100 230 100";
     let (at_cd, at_film) = (sung_from(""), sung_from(&format!("{start} 48000\n")));
     assert_ne!(at_cd, at_film);
     let lowered = [
@@ -327,7 +343,7 @@ fn rates_change_by_a_start_alone() {
     }
     let kept = [
         "reset\n",
-        "change 1 200 0 100\nchange 4095 100 0 100\n",
+        "change 1 200 0 100\nchange 4095 100 230 100\n",
         "mode 1\nmode 0\nchannel 3\nmidi 147 69 100\n",
         "start 4095 100 0 100 44101\n",
         "start 0 100 0 100 44100\n",

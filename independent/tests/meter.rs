@@ -1,7 +1,7 @@
 //! The meter through a take: searching, locking, pitched, lost; drawn to the
 //! keyboard; and at either sample rate.
 
-use independent::rules::raw_rate;
+use independent::rules::{raw_rate, smoothed_rate};
 use independent::settings::{Settings, KEYBOARD, SCALE};
 use independent::statistics::Statistics;
 use independent::table::{CD, FILM};
@@ -50,7 +50,7 @@ fn square(at: usize) -> i16 {
 
 #[test]
 fn searching_locking_pitched_lost() {
-    let mut take = Take::begin(Settings::DEFAULT);
+    let mut take = Take::begin(Settings::AT_ONCE);
     let meters: Vec<Meter> = (0..600).map(|at| take.hear(square(at))).collect();
     let locking = meters
         .iter()
@@ -72,7 +72,7 @@ fn searching_locking_pitched_lost() {
     });
     assert_eq!(meters[599], pitched);
     // Other settings show at the next step, not before.
-    let mut settings = Settings::DEFAULT;
+    let mut settings = Settings::AT_ONCE;
     settings.scale = 1 << (69 % 12);
     settings.decay = 128;
     assert_eq!(take.tuner.change(settings), Answer::Taken);
@@ -159,7 +159,7 @@ fn pitched_at(hertz: u32, settings: Settings) -> Take {
 
 /// Settings in keyboard mode.
 fn played() -> Settings {
-    let mut settings = Settings::DEFAULT;
+    let mut settings = Settings::AT_ONCE;
     settings.mode = KEYBOARD;
     settings
 }
@@ -222,7 +222,7 @@ fn the_rate_glides_where_no_key_is_held() {
 /// Keys are followed in scale mode, and count when the mode does.
 #[test]
 fn changes_of_mode_and_channel() {
-    let mut settings = Settings::DEFAULT;
+    let mut settings = Settings::AT_ONCE;
     let mut take = pitched(settings);
     take.play(&[144, 69, 100]);
     take.is_drawn_to(24_218);
@@ -262,8 +262,8 @@ fn a_reset_forgets_the_key() {
 /// Period 96 is nearest to note 70 at 44,100, and to note 71 at 48,000.
 #[test]
 fn drawn_to_the_notes_of_the_rate() {
-    pitched_at(CD, Settings::DEFAULT).is_drawn_to(24_218);
-    let mut take = pitched_at(FILM, Settings::DEFAULT);
+    pitched_at(CD, Settings::AT_ONCE).is_drawn_to(24_218);
+    let mut take = pitched_at(FILM, Settings::AT_ONCE);
     take.is_drawn_to(24_880);
     let figures = Figures {
         period: 96.0,
@@ -276,7 +276,7 @@ fn drawn_to_the_notes_of_the_rate() {
 /// A change, bytes of the keyboard and a reset keep the rate; a start does not.
 #[test]
 fn the_rate_changes_by_a_start_alone() {
-    let mut settings = Settings::DEFAULT;
+    let mut settings = Settings::AT_ONCE;
     let mut take = pitched_at(FILM, settings);
     take.change(|settings| settings.scale = 1 << (69 % 12), &mut settings);
     take.is_drawn_to(27_927);
@@ -314,10 +314,34 @@ fn keys_at_the_ends_of_the_tables() {
     }
 }
 
+/// A tuner started without settings glides to its goal, and is there after some
+/// steps; decay 0 has to be sent.
+#[test]
+fn the_default_start_glides() {
+    let mut take = Take::begin(Settings::DEFAULT);
+    assert!(take.tuner == Tuner::default_start());
+    while !matches!(take.tuner.meter(), Meter::Locking(_)) {
+        take.hear_next();
+    }
+    while !take.number.is_multiple_of(5) {
+        take.hear_next();
+    }
+    // Toward 66505: (230 x 65536 + 26 x 66505) / 256 is 65634.4.
+    let (first, kept) = smoothed_rate(230, 65_536, 66_505, 0);
+    assert_eq!(first, 65_634);
+    let (second, _) = smoothed_rate(230, first, 66_505, kept);
+    assert_eq!(take.step()[1..], [24_218, second]);
+    let steps = (0..200).position(|_| take.step()[2] == 66_505);
+    assert!(steps.is_some_and(|steps| steps > 20), "{steps:?} steps");
+    let mut take = Take::begin(Settings::DEFAULT);
+    assert_eq!(take.tuner.change(Settings::AT_ONCE), Answer::Taken);
+    assert!(take.tuner == Take::begin(Settings::AT_ONCE).tuner);
+}
+
 /// Silence, where D = E = 0, never passes.
 #[test]
 fn silence_is_never_found() {
-    let mut settings = Settings::DEFAULT;
+    let mut settings = Settings::AT_ONCE;
     (settings.eps, settings.floor) = (409, 1);
     let mut take = Take::begin(settings);
     assert!((0..3_000).all(|_| take.hear(0) == Meter::Searching));
@@ -327,7 +351,7 @@ fn silence_is_never_found() {
 /// A soft tail after a loud passage is found as it would be alone.
 #[test]
 fn soft_after_loud() {
-    let mut settings = Settings::DEFAULT;
+    let mut settings = Settings::AT_ONCE;
     settings.floor = 1;
     let mut take = Take::begin(settings);
     for at in 0..3_000 {

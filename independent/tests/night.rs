@@ -1,8 +1,7 @@
 //! The night: what it is put together from, and that it can be stored.
 
-use independent::generator::kinds::{kind_named, KINDS};
-use independent::generator::night::{write_night, NIGHT};
-use independent::generator::script::script;
+use independent::generator::kinds::KINDS;
+use independent::generator::night::{script_of, write_night, AT_ONCE, NIGHT};
 use independent::lines::answers_to;
 
 fn night() -> Vec<u8> {
@@ -21,29 +20,46 @@ fn it_has_every_kind_in_order() {
 
 const WHOLE_CASE: &[u8] = include_bytes!("../../examples/whole_case.txt");
 
-/// The whole case, then each script as the generator writes it, a line's end
-/// and a new take between them, then a line without its end.
+/// The first script, then the whole case, then each other script as the generator
+/// writes it, a start before it where it has none, then a line without its end.
 #[test]
-fn it_is_the_whole_case_and_the_scripts() {
+fn it_is_the_opening_the_whole_case_and_the_scripts() {
     let night = night();
-    let mut rest = night.strip_prefix(WHOLE_CASE).unwrap();
-    for &(name, seed, samples) in NIGHT {
-        let after_reset = rest.strip_prefix(b"reset\n");
-        let begins_anew = after_reset.is_some() || rest.starts_with(b"start\t");
-        assert!(begins_anew, "{name}");
-        let script = script(kind_named(name).unwrap(), seed, samples);
-        rest = after_reset.unwrap_or(rest);
-        rest = rest.strip_prefix(&script[..]).expect(name);
-        rest = rest.strip_prefix(b"\n").unwrap_or(rest);
+    let (opening, others) = NIGHT.split_first().unwrap();
+    let rest = night.strip_prefix(&script_of(opening)[..]).unwrap();
+    let mut rest = rest.strip_prefix(WHOLE_CASE).unwrap();
+    for row in others {
+        let script = script_of(row);
+        if !script.starts_with(b"start\t") {
+            rest = rest.strip_prefix(AT_ONCE.as_bytes()).unwrap();
+        }
+        rest = rest.strip_prefix(&script[..]).unwrap();
     }
     assert_eq!(rest, b"reset\nblock\t0\t5\t-6\t7");
+}
+
+/// The first script is sung under the defaults: as after a start that has them,
+/// and not as at decay 0.
+#[test]
+fn it_opens_without_a_start() {
+    let opening = script_of(&NIGHT[0]);
+    assert!(opening.starts_with(b"block\t0\t"));
+    let (answers, _) = answers_to(&opening);
+    let after = |start: &[u8]| answers_to(&[start, &opening].concat()).0;
+    assert_eq!(
+        after(b"start\t4095\t100\t230\t100\n"),
+        [b"0\n", &answers[..]].concat()
+    );
+    assert_ne!(after(AT_ONCE.as_bytes()), [b"0\n", &answers[..]].concat());
 }
 
 #[test]
 fn it_is_answered_to_its_last_line() {
     let night = night();
     let (answers, _) = answers_to(&night);
-    assert!(answers.starts_with(&answers_to(WHOLE_CASE).0));
+    let (opening, _) = answers_to(&script_of(&NIGHT[0]));
+    let whole_case = answers.strip_prefix(&opening[..]).unwrap();
+    assert!(whole_case.starts_with(&answers_to(WHOLE_CASE).0));
     assert!(answers.ends_with(b"\n0\n0\t3\t0\t0\t0\t0\t0\n"));
     let lines = |bytes: &[u8]| bytes.iter().filter(|&&byte| byte == b'\n').count();
     assert_eq!(lines(&answers), lines(&night) + 1);

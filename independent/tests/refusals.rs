@@ -182,7 +182,7 @@ fn settings_keep_their_ranges() {
         (14, settings(1, 0, 0, 1, most, most)),
         (15, settings(1, 0, 0, 1, most, 15)),
     ];
-    assert_eq!(Settings::DEFAULT, settings(4_095, 100, 0, 100, 0, 0));
+    assert_eq!(Settings::DEFAULT, settings(4_095, 100, 230, 100, 0, 0));
     for (hertz, settings) in good.into_iter().flat_map(|good| [(CD, good), (FILM, good)]) {
         assert_eq!(Tuner::start(hertz, settings).0, Answer::Taken);
         assert_eq!(Tuner::default_start().change(settings), Answer::Taken);

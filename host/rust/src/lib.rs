@@ -83,7 +83,7 @@ pub struct Settings {
     pub scale: u32,
     /// 0 to 409, in 1/1024.
     pub eps: u32,
-    /// 0 to 255, in 1/256.
+    /// 0 to 255, in 1/256: how much of the old rate is kept at a step; at 0 a note is at its goal at once.
     pub decay: u32,
     /// 1 to 1,000,000: a mean square.
     pub floor: u32,
@@ -98,7 +98,7 @@ impl Default for Settings {
         Settings {
             scale: 4095,
             eps: 100,
-            decay: 0,
+            decay: 230,
             floor: 100,
             mode: SCALE_MODE,
             channel: 0,

@@ -264,6 +264,28 @@ fn each_rate_has_its_own_table() {
     }
 }
 
+/// A tuner started without settings glides to its goal; at decay 0 it is there at once.
+#[test]
+fn the_default_start_glides() {
+    let first_rate = |mut record: Record| {
+        let samples: Vec<i16> = (0..600).map(|at| 9_000 * (at / 48 % 2) - 4_500).collect();
+        (0..).zip(samples.chunks(5)).find_map(|(number, five)| {
+            assert_eq!(record.block(number, five, &mut [0; 5]).number, TAKEN);
+            match record.meter() {
+                Meter::Pitched { rate, .. } => Some(rate * 65_536.0),
+                _ => None,
+            }
+        })
+    };
+    assert_eq!(Settings::default().decay, 230);
+    assert_eq!(first_rate(Record::default()), Some(65_634.0));
+    let at_once = Settings {
+        decay: 0,
+        ..Settings::default()
+    };
+    assert_eq!(first_rate(Record::start(CD, at_once).1), Some(66_505.0));
+}
+
 /// A held note that is flat: at the highest decay too the rate comes all the way up, and stays there.
 #[test]
 fn a_held_note_reaches_its_goal() {

@@ -271,9 +271,9 @@ fn alone(record: &mut Record, alter: Alter) {
     alter(record);
 }
 
-/// A record that is pitched, after 2,400 samples of a square wave.
+/// A record that is pitched, after 2,400 samples of a square wave, at decay 0: it is at its goal, and nothing was kept on the way.
 fn pitched() -> Record {
-    let mut bytes = Record::default_start().bytes();
+    let mut bytes = Record::fresh(CD, Settings::AT_ONCE).bytes();
     let samples: Vec<i16> = (0..480).map(|at| 9_000 * (at / 48 % 2) - 4_500).collect();
     for number in 0..5 {
         let call = Call::Block {

@@ -1,5 +1,5 @@
-//! The night: one script through document 01's whole case and all kinds,
-//! short enough to be stored.
+//! The night: one script through the program's opening, document 01's whole case
+//! and all kinds, short enough to be stored.
 
 use super::kinds::kind_named;
 use super::script::script;
@@ -48,19 +48,31 @@ pub const NIGHT: &[(&str, u64, usize)] = &[
     ("hostile", 29, 9_400),
 ];
 
-/// Each script begins anew, and the last line lacks its end.
+/// Stands before a script that does not start by itself: such a one was written
+/// for decay 0, with which the program no longer opens, and so sends it.
+pub const AT_ONCE: &str = "start\t4095\t100\t0\t100\n";
+
+/// The script of a row, the last line with its end.
+pub fn script_of(&(name, seed, samples): &(&str, u64, usize)) -> Vec<u8> {
+    let kind = kind_named(name).expect("the night has kinds alone");
+    let mut script = script(kind, seed, samples);
+    if !script.ends_with(b"\n") {
+        script.push(b'\n');
+    }
+    script
+}
+
+/// The first script has no start: it is sung under the settings with which the
+/// program opens. Each of the others begins anew, and the last line lacks its end.
 pub fn write_night(mut to: impl Write) -> io::Result<()> {
+    let (opening, others) = NIGHT.split_first().expect("the night has an opening");
+    to.write_all(&script_of(opening))?;
     to.write_all(WHOLE_CASE)?;
-    for &(name, seed, samples) in NIGHT {
-        let kind = kind_named(name).expect("the night has kinds alone");
-        let script = script(kind, seed, samples);
+    for script in others.iter().map(script_of) {
         if !script.starts_with(b"start\t") {
-            writeln!(to, "reset")?;
+            to.write_all(AT_ONCE.as_bytes())?;
         }
         to.write_all(&script)?;
-        if !script.ends_with(b"\n") {
-            writeln!(to)?;
-        }
     }
     write!(to, "reset\nblock\t0\t5\t-6\t7")?;
     to.flush()
