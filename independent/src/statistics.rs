@@ -116,6 +116,8 @@ counters! {
     raw_rates_rounded_to_32768,
     raw_rates_of_131072,
     raw_rates_of_131073,
+    /// At the decay of a start without settings.
+    steps_at_default_decay,
     /// Something was kept and is added; and the rate is one higher for it.
     remainders_added,
     rates_raised_by_remainder,
@@ -311,6 +313,7 @@ impl Statistics {
         new_note: bool,
     ) {
         let (without, _) = smoothed_rate(decay, rate, raw, 0);
+        self.steps_at_default_decay += u64::from(decay == Settings::DEFAULT.decay);
         self.remainders_added += u64::from(kept > 0);
         self.rates_raised_by_remainder += u64::from(after.0 > without);
         self.notes_changed_over_remainder += u64::from(kept > 0 && new_note);

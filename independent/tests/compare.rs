@@ -38,12 +38,12 @@ fn the_program_is_equal_to_itself() {
     assert!(said[0].starts_with("seed 7: "));
     assert!(said[1].starts_with("seed 8: "));
     assert!(said[2].starts_with("equal: "));
-    assert!(said[2].contains("; 37 kinds, seeds 7 to 8, "));
+    assert!(said[2].contains("; 38 kinds, seeds 7 to 8, "));
     assert_eq!(said.len(), 3);
     let words: Vec<&str> = said[2].split(' ').collect();
     let (lines, samples): (u64, u64) = (words[1].parse().unwrap(), words[3].parse().unwrap());
     assert!(lines > 5_000, "{lines} lines");
-    assert!(samples > 2 * 34 * 2_000, "{samples} samples out");
+    assert!(samples > 2 * 35 * 2_000, "{samples} samples out");
 }
 
 /// A program that answers once its input has ended is equal, and nothing
@@ -55,7 +55,7 @@ fn a_program_that_holds_its_answers_back() {
     assert_eq!(status, Some(0), "{said}");
     let (status, said) = compare_with(late, &["--waiting"]);
     assert_eq!(status, Some(1), "{said}");
-    assert!(said.contains("kind tones, seed 1, line 1: no answer within 10 s"));
+    assert!(said.contains("kind opening, seed 1, line 1: no answer within 10 s"));
 }
 
 #[test]
@@ -83,12 +83,12 @@ fn wrong_programs_are_found() {
     // The last sample of a long block.
     assert_unequal(
         "lines | sed '/^0\\t5../s/.$/x/'",
-        &["kind tones, seed 1, line ", "x\\n\n", "\n  expected  .."],
+        &["kind opening, seed 1, line ", "x\\n\n", "\n  expected  .."],
     );
     // A carriage return.
     assert_unequal(
         "lines | sed '1s/$/\\r/'",
-        &["line 1, from byte 2 ", "  got       0\\r\\n\n"],
+        &["line 1, from byte 586 ", "\\n\n  got       ..", "\\r\\n\n"],
     );
     // Fewer answers, and more.
     assert_unequal(
@@ -100,7 +100,7 @@ fn wrong_programs_are_found() {
         &["\n  expected  nothing\n  got       10\\n\n"],
     );
     // The last line's end, which an answer has even if its line lacks it.
-    assert_unequal("lines | head -c -1", &["kind tones, seed 1, line "]);
+    assert_unequal("lines | head -c -1", &["kind opening, seed 1, line "]);
     assert_unequal("yes", &["line 1, from byte 1 ", "\n  got       y\\n\n"]);
     assert_unequal(
         "lines; exit 3",

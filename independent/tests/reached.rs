@@ -58,6 +58,7 @@ const REACHED: &[(&str, &str, u64)] = &[
     ("raw_rates_rounded_to_32768", "octaves", 1),
     ("raw_rates_of_131072", "octaves", 1),
     ("raw_rates_of_131073", "octaves", 1),
+    ("steps_at_default_decay", "opening", 1),
     ("remainders_added", "goals", 1),
     ("rates_raised_by_remainder", "goals", 1),
     ("remainders_past_decay_0", "decays", 1),

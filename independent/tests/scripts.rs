@@ -15,6 +15,7 @@ fn sum(bytes: &[u8]) -> u64 {
 /// Each kind, and the sums of its script of seed 1 and 20,000 samples and of
 /// the answers to it. A new rule of the tuner alters answers alone.
 const SUMS: &[(&str, u64, u64)] = &[
+    ("opening", 0xD224_CFFF_5E9C_CD3D, 0xE984_8432_3C3D_6377),
     ("tones", 0x62A9_D4E4_F6F1_4DD5, 0x1368_0B86_A445_4F88),
     ("glides", 0x7452_708A_D386_0226, 0x975A_FF9D_E81B_9B95),
     ("vibrato", 0x0B6A_3AB8_CE5B_3D8A, 0x3C57_1569_E6C1_C8FE),

@@ -64,7 +64,7 @@ pub fn default_settings() -> Settings
     Settings {
         scale: 4095,
         eps: 100,
-        decay: 0,
+        decay: 230,
         floor: 100,
         mode: SCALE_MODE,
         channel: 0,

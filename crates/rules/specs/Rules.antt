@@ -25,7 +25,7 @@ keyboardMode = 1
 
 -- the settings that a start without settings has
 unfoldable pub defaults : Settings
-defaults = record { scale = 4095; eps = 100; decay = 0; floor = 100; mode = scaleMode; channel = 0 }
+defaults = record { scale = 4095; eps = 100; decay = 230; floor = 100; mode = scaleMode; channel = 0 }
 
 -- a number from one to another
 abbrev pub within : ℕ → ℕ → ℕ → Bool

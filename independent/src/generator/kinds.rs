@@ -25,6 +25,9 @@ pub struct Kind {
     pub singing: Singing,
     /// The settings that it starts with, if they are not left to chance.
     pub settings: Option<&'static str>,
+    /// Whether it never starts, and so keeps the settings with which the program
+    /// opens.
+    pub bare: bool,
     /// Whether it begins in keyboard mode.
     pub keyboard: bool,
     /// The lengths of blocks, least and most.
@@ -47,6 +50,7 @@ const fn kind(name: &'static str, meaning: &'static str, singing: Singing) -> Ki
         meaning,
         singing,
         settings: None,
+        bare: false,
         keyboard: false,
         lengths: (1, 512),
         changes: 20,
@@ -68,6 +72,13 @@ const fn played(name: &'static str, meaning: &'static str, singing: Singing) -> 
 }
 
 pub const KINDS: &[Kind] = &[
+    Kind {
+        bare: true,
+        changes: 0,
+        resets: 20,
+        unreadable: 20,
+        ..kind("opening", "swinging tones before any start", vibrato)
+    },
     kind(
         "tones",
         "every note from 32 to 100, in tune, flat and sharp",

@@ -10,6 +10,7 @@ const WHOLE_CASE: &[u8] = include_bytes!("../../../examples/whole_case.txt");
 /// Each kind, a seed and so many samples with which it reaches what it is
 /// there for. Only `endless` is left out: its lines are too long to be stored.
 pub const NIGHT: &[(&str, u64, usize)] = &[
+    ("opening", 3, 5_000),
     ("tones", 29, 8_000),
     ("glides", 192, 30_000),
     ("vibrato", 3, 8_000),

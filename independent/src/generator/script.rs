@@ -94,11 +94,11 @@ struct Script<'a, W> {
 
 impl<W: Write> Script<'_, W> {
     /// One script in four begins with the settings that the program has,
-    /// unless its kind has its own.
+    /// unless its kind has its own or none.
     fn open(&mut self) -> io::Result<()> {
         match self.kind.settings {
             Some(settings) => self.send(format!("start\t{settings}").as_bytes())?,
-            None if self.random.chance(250) => {}
+            None if self.kind.bare || self.random.chance(250) => {}
             None => self.send_settings("start")?,
         }
         match self.kind.keyboard {
