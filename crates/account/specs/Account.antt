@@ -1,19 +1,16 @@
 -- The account: what holds after any series of calls. Definitions only, and two statements (`Theorem`, `SentAgain`); their proofs are `holds` and `again-holds` in Holds.antt.
 -- README lists what is to be read before it.
 use mathlib.Core.Path.{_≡_}
-use mathlib.Core.Bool.{true, cond}
-use mathlib.Core.List.{List, [], _∷_, _++_}
+use mathlib.Core.Bool.{cond}
+use mathlib.Core.List.{List, [], _∷_, _++_, map}
 use Prim.Native.Nat.{ℕ, _+_, _≤_, _<_}
 use lib.Dec.{eqb}
 use lib.IntN.{ℤ, pos, _+ℤ_, _-ℤ_}
 use lib.ListN.{length, take}
 use Rattle.rules.specs.declared.Settings.{Settings}
-use Rattle.rules.specs.declared.InForce.{InForce}
-use Rattle.rules.specs.Rules.{Sound, silence, heardAll, Given, cycles, freshTake, defaults, cdRate, after, samplesOut, allRepeated, allDropped, eighthLags}
+use Rattle.rules.specs.Rules.{Sound, silence, heardAll, Given, cycles, defaults, cdRate, after, samplesOut, allRepeated, allDropped, eighthLags}
 use Rattle.rules.specs.Facts.{InBounds, Right}
-use Rattle.rules.specs.History.{Piece, afterPieces, givesPieces, ratesPieces, samplesPieces, totalOf}
-use Rattle.keyboard.specs.declared.Keyboard.{Keyboard}
-use Rattle.keyboard.specs.Keys.{fresh, played, onChannel}
+use Rattle.history.specs.History.{Event, sample, new-settings, byte, Course, freshCourse, courseAfter, givenBy, samplesIn, ratesUsed, totalOf}
 use Rattle.tuner.specs.declared.Tuner.{Tuner}
 use Rattle.answers.specs.declared.Answer.{Answer}
 use Rattle.meters.specs.declared.Meter.{Meter}
@@ -44,60 +41,50 @@ pub data Series : List Call → Tuner → Type 0 where
   fresh-start : Series [] defaultTuner
   and-then : {cs : List Call} {c : Call} {t t′ : Tuner} → Series cs t → Leaves t c t′ → Series (c ∷ cs) t′
 
--- since the last start or reset: the settings, the sample rate, and the keyboard by its bytes; each block taken, with what was in force; what they wrote, one after the other; the counts that they answered, added up
+-- since the last start or reset: the sample rate and the settings with which the take began; what happened in it; what its blocks wrote, one after the other; the counts that they answered, added up
 pub record Received : Type 0 where
-  pub settings : Settings
   pub hertz : ℕ
-  pub keyboard : Keyboard
-  pub pieces : List Piece
+  pub settings : Settings
+  pub events : List Event
   pub written : List ℤ
   pub repeated : ℕ
   pub dropped : ℕ
 
--- what is in force: the settings, the key held, and the sample rate
-abbrev pub forceNow : Received → InForce
-forceNow r = record { settings = r .settings; key = r .keyboard .key; hertz = r .hertz }
-
 -- nothing was received yet
 abbrev pub begun : ℕ → Settings → Received
-begun hertz s = record { settings = s; hertz = hertz; keyboard = fresh; pieces = []; written = []; repeated = 0; dropped = 0 }
+begun hertz s = record { hertz = hertz; settings = s; events = []; written = []; repeated = 0; dropped = 0 }
 
--- one block more: its samples under what is in force, what it wrote and what it counted
+-- how far the take has come by it
+abbrev pub courseOf : Received → Course
+courseOf r = courseAfter (freshCourse (r .hertz) (r .settings)) (r .events)
+
+-- more has happened
+abbrev pub withEvents : Received → List Event → Received
+withEvents r es = record { hertz = r .hertz; settings = r .settings; events = r .events ++ es; written = r .written; repeated = r .repeated; dropped = r .dropped }
+
+-- one block more: its samples, what it wrote and what it counted
 abbrev pub withBlock : Received → List ℤ → Answer → List ℤ → Received
 withBlock r xs a ys′ =
     record {
-      settings = r .settings;
       hertz = r .hertz;
-      keyboard = r .keyboard;
-      pieces = r .pieces ++ (record { inForce = forceNow r; samples = xs } ∷ []);
+      settings = r .settings;
+      events = r .events ++ map sample xs;
       written = r .written ++ take (a .written) ys′;
       repeated = r .repeated + a .repeated;
       dropped = r .dropped + a .dropped;
     }
 
--- a block taken is received once: one that is refused or given again adds nothing
-unfoldable pub plusBlock : Received → List ℤ → Answer → List ℤ → Received
-plusBlock r xs a ys′ = cond (eqb (a .number) 0) (withBlock r xs a ys′) r
-
--- the same with these settings and this keyboard
-abbrev pub withForce : Received → Settings → Keyboard → Received
-withForce r s k = record { settings = s; hertz = r .hertz; keyboard = k; pieces = r .pieces; written = r .written; repeated = r .repeated; dropped = r .dropped }
-
--- settings taken are in force from the next sample; another channel begins its keyboard anew
-unfoldable pub plusChange : Received → Settings → Answer → Received
-plusChange r s a = cond (eqb (a .number) 0) (withForce r s (onChannel (r .settings .channel) (s .channel) (r .keyboard))) r
-
--- keyboard bytes taken are played on the channel of the settings
-unfoldable pub plusBytes : Received → List ℕ → Answer → Received
-plusBytes r bytes a = cond (eqb (a .number) 0) (withForce r (r .settings) (played (r .settings .channel) (r .keyboard) bytes)) r
+-- what is taken is received once: a call that is refused, and a block given again, add nothing
+abbrev pub ifTaken : Answer → Received → Received → Received
+ifTaken a r′ r = cond (eqb (a .number) 0) r′ r
 
 -- what one call adds; a start or a reset begins the account again, a refused start with the default tuner's
 unfoldable pub plus : Call → Received → Received
-plus (start hertz s a) r = cond (eqb (a .number) 0) (begun hertz s) (begun cdRate defaults)
-plus (change s a) r = plusChange r s a
-plus (block k xs ys a ys′) r = plusBlock r xs a ys′
-plus (midi bytes a) r = plusBytes r bytes a
-plus (reset a) r = cond (eqb (a .number) 0) (begun (r .hertz) (r .settings)) r
+plus (start hertz s a) r = ifTaken a (begun hertz s) (begun cdRate defaults)
+plus (change s a) r = ifTaken a (withEvents r (new-settings s ∷ [])) r
+plus (block k xs ys a ys′) r = ifTaken a (withBlock r xs a ys′) r
+plus (midi bytes a) r = ifTaken a (withEvents r (map byte bytes)) r
+plus (reset a) r = ifTaken a (begun (r .hertz) (courseOf r .settings)) r
 plus (meter m) r = r
 
 unfoldable pub received : List Call → Received
@@ -108,11 +95,11 @@ received (c ∷ cs) = plus c (received cs)
 
 -- all samples received
 abbrev pub samplesOf : Received → List ℤ
-samplesOf r = samplesPieces (r .pieces)
+samplesOf r = samplesIn (r .events)
 
 -- what the rules give for each of them
 abbrev pub givenOf : Received → List Given
-givenOf r = givesPieces freshTake (r .pieces)
+givenOf r = givenBy (freshCourse (r .hertz) (r .settings)) (r .events)
 
 -- the sound of all samples received, and of the eighth-rate samples made of them: 0 before the first
 abbrev pub heardOf : Received → Sound
@@ -125,21 +112,21 @@ eighthsOf r = heardAll silence (made 0 silence (samplesOf r))
 pub record Accounted (r : Received) (t : Tuner) : Type 0 where
   -- the record is good, so no call is answered 9; settings, sample rate and keyboard are what the calls made them; each sample is counted once
   pub good : Good t
-  pub settings : t .settings ≡ r .settings
+  pub settings : t .settings ≡ courseOf r .settings
   pub hertz : t .hertz ≡ r .hertz
-  pub keyboard : t .keyboard ≡ r .keyboard
+  pub keyboard : t .keyboard ≡ courseOf r .keyboard
   pub count : t .heard .count ≡ length (samplesOf r)
   -- sums: those at eighth rate and, while tracking, the eight at full rate are the direct sums over all that was received
   pub sums : Right (eighthsOf r) 2 eighthLags (t .heard .energies) (t .heard .correlations)
   pub lags : t .pitch .tracking ≡ 1 → Right (heardOf r) (t .pitch .tracker .low) 8 (t .pitch .tracker .e) (t .pitch .tracker .h)
   -- position: all rates used, minus the period of every cycle repeated, plus the period of every cycle dropped
-  pub position : takeOf t .position ≡ pos (totalOf (ratesPieces freshTake (r .pieces))) -ℤ pos (cycles (allRepeated (givenOf r))) +ℤ pos (cycles (allDropped (givenOf r)))
+  pub position : takeOf t .position ≡ pos (totalOf (ratesUsed (givenOf r))) -ℤ pos (cycles (allRepeated (givenOf r))) +ℤ pos (cycles (allDropped (givenOf r)))
   -- the counts answered are the numbers of those cycles
   pub repeated : r .repeated ≡ length (allRepeated (givenOf r))
   pub dropped : r .dropped ≡ length (allDropped (givenOf r))
   -- never ahead of the input nor over 1,000 samples behind: now, and after any beginning xs of the block that comes next
   pub bounds : InBounds (t .heard .count) (takeOf t .position)
-  pub within : (xs : List ℤ) → InBounds (length (samplesOf r) + length xs) (after (forceOf t) (afterPieces freshTake (r .pieces)) xs .position)
+  pub within : (xs : List ℤ) → InBounds (length (samplesOf r) + length xs) (after (forceOf t) (courseOf r .take) xs .position)
   -- samples out: what was written is the rules' reading of all that was received
   pub written : r .written ≡ samplesOut (givenOf r)
 

@@ -1,66 +1,68 @@
--- The proof of the account. Over any calls the tuner's record keeps to the take that the rules make of the blocks received (`Keeps`): it differs from it only in samples too old to be looked at.
+-- The proofs of the account, and that the cutting of a take does not matter: after any calls the tuner is that of what happened in its take (`Keeps`), and the account is read off it.
 use mathlib.Core.Path.{_≡_, refl, sym, ap, _∙_, subst}
-use mathlib.Core.Bool.{true, cond}
-use mathlib.Core.List.{List, [], _∷_, _++_}
+use mathlib.Core.Bool.{cond}
+use mathlib.Core.List.{List, [], _∷_, _++_, append-nil, map}
 use Prim.Native.Nat.{ℕ, _+_}
+use native.Mathlib.Nat.{zero-add}
 use native.Mathlib.Omega.{arith}
-use borrow.Author.Tests.{eqb-true, eqb-false}
+use borrow.Author.Tests.{eqb-true, eqb-false, eq-eqb}
 use lib.Dec.{eqb}
-use lib.IntN.{ℤ, pos, _-ℤ_}
+use lib.IntN.{ℤ}
 use lib.ListN.{length, take, length-append}
 use lib.Seq.{take-at}
 use Rattle.whole.specs.Tests.{by, cond-case, cond-yes, cond-no}
 use Rattle.rules.specs.declared.Settings.{Settings}
-use Rattle.rules.specs.declared.InForce.{InForce}
-use Rattle.rules.specs.Rules.{Sound, silence, heardAll, Mode, searching, tracking, Pitch, noTone, Take, Given, inputAt, freshTake, defaults, cdRate, startNumber, after, gives, samplesOut, gathered, allRepeated, allDropped}
+use Rattle.rules.specs.Rules.{Sound, heardAll, Given, freshTake, defaults, cdRate, startNumber, stepped, after, samplesOut, gathered, allRepeated, allDropped, eighthLags}
 use Rattle.rules.specs.Ranges.{unrefused-start, default-start}
-use Rattle.rules.specs.Facts.{InRange, SampleRate, ForceIn, keeping}
-use Rattle.rules.specs.History.{Piece, afterPieces, overPieces, givesPieces, samplesPieces}
-use Rattle.pitch.specs.Keeping.{kept-pitch}
-use Rattle.pitch.specs.Listening.{lags-of}
-use Rattle.rules.specs.Hearing.{heardAll-append}
-use Rattle.rules.specs.Position.{in-bounds-behind}
-use Rattle.rules.specs.Blocks.{after-count, after-sound, gives-length, samplesOut-append, gathered-append}
-use Rattle.rules.specs.Sane.{after-sane}
-use Rattle.rules.specs.Accounts.{InRanges, account, pieces-count, pieces-sound, afterPieces-more, givesPieces-more, pieces-sane, pieces-in-bounds}
-use Rattle.rules.specs.Held.{Cleared, pieces-cleared}
-use Rattle.rules.specs.Local.{reach, reachEighths, SameNewest, Agree, after-agree}
-use Rattle.tuner.specs.declared.Tuner.{Tuner}
+use Rattle.rules.specs.Facts.{InRange, SampleRate, InBounds, Right, energiesOf, correlationsOf}
+use Rattle.rules.specs.Blocks.{gives-length, samplesOut-append, gathered-append}
+use Rattle.rules.specs.Sane.{always-in-bounds}
+use Rattle.history.specs.History.{Event, sample, new-settings, byte, Course, freshCourse, forceAt, happened, courseAfter, givenBy, samplesIn}
+use Rattle.history.specs.Courses.{courseAfter-append, givenBy-append, given-samples, given-bytes, course-hertz, course-count, course-sound, CourseIn, EventsIn, course-force, fresh-course-in, course-in, events-in-append, samples-in, bytes-in}
+use Rattle.history.specs.Accounts.{account}
+use Rattle.pitch.specs.Pitches.{PitchRight, keptOf}
+use Rattle.pitch.specs.Keeping.{listed-right, kept-right}
 use Rattle.answers.specs.declared.Answer.{Answer}
-use Rattle.keyboard.specs.declared.Keyboard.{Keyboard}
-use Rattle.keyboard.specs.Keys.{played, onChannel}
-use Rattle.record.specs.Records.{soundOf, freshHeard, freshPitch, freshHead, noLast}
-use Rattle.tuner.specs.Tuners.{freshTuner, defaultTuner, takeOf, forceOf, Good, made, heardAfter, afterBlock, Took, Started, withSettings, Changed, withBytes, Keyed, Reset}
-use Rattle.tuner.specs.Taking.{kept-age, right-alike, made-append, after-eighths}
+use Rattle.answers.specs.Numbering.{plain}
+use Rattle.meters.specs.declared.Meter.{Meter}
+use Rattle.meters.specs.Meters.{shownOf}
+use Rattle.record.specs.declared.Last.{Last}
+use Rattle.record.specs.Records.{noLast}
+use Rattle.tuner.specs.declared.Tuner.{Tuner}
+use Rattle.tuner.specs.Tuners.{freshTuner, defaultTuner, takeOf, Good, made, lastOf, afterBlock, Took, Started, withSettings, Changed, withBytes, Keyed, Reset, Metered, record-out-of-range, read}
+use Rattle.tuner.specs.Taking.{eighths-next}
 use Rattle.tuner.specs.Verdicts.{tuner-taken, verdict-fits}
-use Rattle.account.specs.Calls.{Lengths, still-silent, good-fresh, fresh-lengths, good-force, good-sane, keeping-length, took-good, changed-good, keyed-good, took-number, took-keeps, untaken-unchanged, overlaid-starts, again-after, good-never-nine}
-use Rattle.account.specs.Account.{Call, reset, Leaves, by-start, by-change, by-block, by-midi, by-reset, by-meter, Series, fresh-start, and-then, Received, forceNow, begun, withForce, plusBlock, plusChange, plusBytes, plus, received, givenOf, heardOf, eighthsOf, Accounted, Theorem, SentAgain, NeverNine}
+use Rattle.account.specs.Calls.{Lengths, good-fresh, fresh-lengths, good-sane, took-good, changed-good, keyed-good, took-number, took-keeps, untaken-unchanged, overlaid-starts, again-after, good-never-nine}
+use Rattle.account.specs.Account.{Call, Leaves, by-start, by-change, by-block, by-midi, by-reset, by-meter, Series, fresh-start, and-then, Received, begun, courseOf, withEvents, withBlock, ifTaken, plus, received, givenOf, heardOf, eighthsOf, Accounted, Theorem, SentAgain, NeverNine}
+use Rattle.account.specs.Cutting.{tunerAfter, TunerTheorem, SameTake, Alike, CuttingTheorem, AllTaken, fresh-tuner, then-block, then-change, then-bytes, FreshTheorem}
+use Rattle.account.specs.Following.{course-agree, fresh-after, block-after, change-after, bytes-after}
 
 -- ---- what each call keeps
 record Keeps (r : Received) (t : Tuner) : Type 0 where
   good : Good t
   lengths : Lengths t
-  settings : t .settings ≡ r .settings
-  hertz : t .hertz ≡ r .hertz
-  keyboard : t .keyboard ≡ r .keyboard
-  ranges : InRanges (r .pieces)
-  agree : Agree (afterPieces freshTake (r .pieces)) (takeOf t)
+  began : CourseIn (freshCourse (r .hertz) (r .settings))
+  ranges : EventsIn (r .events)
+  is : t ≡ tunerAfter (courseOf r) (t .last)
   repeated : r .repeated ≡ length (allRepeated (givenOf r))
   dropped : r .dropped ≡ length (allDropped (givenOf r))
   written : r .written ≡ samplesOut (givenOf r)
 
+-- the last block of a tuner after a course is its own
+with-its-last : (c : Course) (last : Last) {t : Tuner} → t ≡ tunerAfter c last → t ≡ tunerAfter c (t .last)
+unfolding tunerAfter
+with-its-last c last e = e ∙ ap (tunerAfter c) (sym (ap (λ (u : Tuner). u .last) e))
+
 -- ---- a fresh tuner
 begun-keeps : {hertz : ℕ} (s : Settings) → SampleRate hertz → InRange s → Keeps (begun hertz s) (freshTuner hertz s)
-unfolding freshTuner freshHeard freshPitch freshHead noLast freshTake noTone takeOf afterPieces overPieces samplesOut gathered inputAt silence
+unfolding courseAfter givenBy samplesOut gathered
 begun-keeps {hertz} s rate e =
     record {
       good = good-fresh s rate e;
       lengths = fresh-lengths hertz s;
-      settings = refl;
-      hertz = refl;
-      keyboard = refl;
+      began = fresh-course-in rate e;
       ranges = tt;
-      agree = record { count = refl; pitch = refl; position = refl; sound = λ k h. sym (still-silent 1764 silence (λ j. refl) k); eighths = λ k h. sym (still-silent 224 silence (λ j. refl) k) };
+      is = with-its-last (freshCourse hertz s) noLast (fresh-after hertz s);
       repeated = refl;
       dropped = refl;
       written = refl;
@@ -69,156 +71,134 @@ begun-keeps {hertz} s rate e =
 default-keeps : Keeps (begun cdRate defaults) defaultTuner
 default-keeps = let r = unrefused-start defaults default-start in begun-keeps defaults (r .0) (r .1)
 
-start-keeps : {hertz : ℕ} {s : Settings} {t′ : Tuner} {a : Answer} → Started hertz s t′ a → Keeps (cond (eqb (a .number) 0) (begun hertz s) (begun cdRate defaults)) t′
+start-keeps : {hertz : ℕ} {s : Settings} {t′ : Tuner} {a : Answer} → Started hertz s t′ a → Keeps (ifTaken a (begun hertz s) (begun cdRate defaults)) t′
 start-keeps {hertz} {s} p =
     rw (p .tuner, p .answer)
     (by (eqb (startNumber hertz s) 0) (λ e. let r = unrefused-start s (eqb-true _ 0 e) in rw e (begun-keeps s (r .0) (r .1))) (λ e. rw e default-keeps))
 
--- ---- a block taken: the record after it, and the rules' take
-agree-then : {t u v : Take} → Agree t u → Agree u v → Agree t v
-agree-then a b =
-    record {
-      count = a .count ∙ b .count;
-      pitch = a .pitch ∙ b .pitch;
-      position = a .position ∙ b .position;
-      sound = λ k h. a .sound k h ∙ b .sound k h;
-      eighths = λ k h. a .eighths k h ∙ b .eighths k h;
-    }
-
--- what is kept sounds as all of it, as far back as it goes
-keeping-age : {n : ℕ} (kept new : List ℤ) → length kept ≡ n → SameNewest n (heardAll (soundOf kept) new) (soundOf (keeping kept new))
-keeping-age kept new e k h =
-    ap (λ (x : Sound). x k) (sym (heardAll-append silence kept new)) ∙ sym (kept-age (length new) (kept ++ new) k (omega (arith, keeping-length kept new)))
-
-block-agree : (t : Tuner) (n : ℕ) (xs : List ℤ) → Good t → Lengths t → Agree (after (forceOf t) (takeOf t) xs) (takeOf (afterBlock t n xs))
-unfolding takeOf afterBlock heardAfter
-block-agree t n xs g l =
-    let s = forceOf t in
-    let then = after s (takeOf t) xs in
-    let count = after-count s (takeOf t) xs in
-    let new8 = made (t .heard .count) (soundOf (t .heard .store)) xs in
-    record {
-      count = count;
-      pitch = kept-pitch (then .pitch) (soundOf (keeping (t .heard .store) xs));
-      position = in-bounds-behind (after-sane (good-force g) (good-sane g) xs .bounds) .is ∙ ap (λ (m : ℕ). inputAt m -ℤ pos (afterBlock t n xs .head .behind)) count;
-      sound = λ k h. ap (λ (x : Sound). x k) (after-sound s (takeOf t) xs) ∙ keeping-age (t .heard .store) xs (l .store) k h;
-      eighths = λ k h. ap (λ (x : Sound). x k) (after-eighths s (takeOf t) xs) ∙ keeping-age (t .heard .eighths) new8 (l .eighths) k h;
-    }
-
--- one piece more in range
-more-in-range : (ps : List Piece) (p : Piece) → InRanges ps → ForceIn (p .inForce) → InRanges (ps ++ (p ∷ []))
-more-in-range [] p h r = (r, tt)
-more-in-range (q ∷ ps) p h r = (h .0, more-in-range ps p (h .1) r)
-
 module _ {r : Received} {t : Tuner} (k : Keeps r t) where
-  -- what is in force
-  force-is : forceOf t ≡ forceNow r
-  force-is i = record { settings = k .settings i; key = k .keyboard i .key; hertz = k .hertz i }
+  course-right : CourseIn (courseOf r)
+  course-right = course-in (r .events) (k .began) (k .ranges)
+
+  -- ---- more has happened
+  module _ (es : List Event) where
+    course-more : courseOf (withEvents r es) ≡ courseAfter (courseOf r) es
+    course-more = courseAfter-append (freshCourse (r .hertz) (r .settings)) (r .events) es
+
+    given-more : givenOf (withEvents r es) ≡ givenOf r ++ givenBy (courseOf r) es
+    given-more = givenBy-append (freshCourse (r .hertz) (r .settings)) (r .events) es
+
+    is-more : {t′ : Tuner} (last : Last) → t′ ≡ tunerAfter (courseAfter (courseOf r) es) last → t′ ≡ tunerAfter (courseOf (withEvents r es)) (t′ .last)
+    is-more last e = with-its-last (courseOf (withEvents r es)) last (e ∙ ap (λ (c : Course). tunerAfter c last) (sym course-more))
+
+    counts-more : (part : Given → List ℕ) {m c : ℕ} → m ≡ length (gathered part (givenOf r)) → c ≡ length (gathered part (givenBy (courseOf r) es))
+        → m + c ≡ length (gathered part (givenOf (withEvents r es)))
+    counts-more part e f =
+        (λ i. e i + f i)
+        ∙ sym (ap (λ (gs : List Given). length (gathered part gs)) given-more ∙ ap length (gathered-append part (givenOf r) _) ∙ length-append (gathered part (givenOf r)) _)
+
+    written-more : {ys : List ℤ} → ys ≡ samplesOut (givenBy (courseOf r) es) → r .written ++ ys ≡ samplesOut (givenOf (withEvents r es))
+    written-more e = (λ i. k .written i ++ e i) ∙ sym (ap samplesOut given-more ∙ samplesOut-append (givenOf r) _)
+
+    -- no sample among it
+    silent-keeps : {t′ : Tuner} → t′ ≡ tunerAfter (courseAfter (courseOf r) es) (t .last) → Good t′ → Lengths t′ → EventsIn es → givenBy (courseOf r) es ≡ [] → Keeps (withEvents r es) t′
+    silent-keeps e good lengths q none =
+        let same : givenOf (withEvents r es) ≡ givenOf r = given-more ∙ ap (λ (gs : List Given). givenOf r ++ gs) none ∙ append-nil (givenOf r) in
+        record {
+          good = good;
+          lengths = lengths;
+          began = k .began;
+          ranges = events-in-append (r .events) es (k .ranges) q;
+          is = is-more (t .last) e;
+          repeated = rw same (k .repeated);
+          dropped = rw same (k .dropped);
+          written = rw same (k .written);
+        }
 
   -- ---- a block taken
   module _ {n : ℕ} {xs ys ys′ : List ℤ} {t′ : Tuner} {a : Answer} (p : Took t n xs ys t′ a ys′) (z : a .number ≡ 0) where
     abbrev given : List Given
-    given = gives (forceOf t) (takeOf t) xs
+    given = givenBy (courseOf r) (map sample xs)
 
-    abbrev piece : Piece
-    piece = record { inForce = forceNow r; samples = xs }
+    taken-is : t′ ≡ tunerAfter (courseAfter (courseOf r) (map sample xs)) (lastOf n xs given)
+    taken-is = p .tuner ∙ tuner-taken t n xs (took-number p ∙ z) ∙ ap (λ (u : Tuner). afterBlock u n xs) (k .is) ∙ block-after course-right (t .last) n xs
 
-    taken-is : t′ ≡ afterBlock t n xs
-    taken-is = p .tuner ∙ tuner-taken t n xs (took-number p ∙ z)
-
-    -- the rules take the block alike after all pieces and after what the tuner kept of them
-    taken-alike : Agree (after (forceNow r) (afterPieces freshTake (r .pieces)) xs) (after (forceOf t) (takeOf t) xs) × (gives (forceNow r) (afterPieces freshTake (r .pieces)) xs ≡ given)
-    taken-alike =
-        let all = afterPieces freshTake (r .pieces) in
-        subst (λ (s : InForce). Agree (after s all xs) (after (forceOf t) (takeOf t) xs) × (gives s all xs ≡ given)) force-is
-        (after-agree (good-force (k .good)) (pieces-sane (r .pieces) (k .ranges)) (k .agree) xs)
-
-    given-more : givesPieces freshTake (r .pieces ++ (piece ∷ [])) ≡ givenOf r ++ given
-    given-more = givesPieces-more freshTake (r .pieces) piece ∙ ap (λ (gs : List Given). givenOf r ++ gs) (taken-alike .1)
-
-    counts-more : (part : Given → List ℕ) {m c : ℕ} → m ≡ length (gathered part (givenOf r)) → c ≡ length (gathered part given)
-        → m + c ≡ length (gathered part (givesPieces freshTake (r .pieces ++ (piece ∷ []))))
-    counts-more part e f =
-        (λ i. e i + f i)
-        ∙ sym (ap (λ (gs : List Given). length (gathered part gs)) given-more ∙ ap length (gathered-append part (givenOf r) given) ∙ length-append (gathered part (givenOf r)) (gathered part given))
+    last-is : t′ .last ≡ lastOf n xs given
+    unfolding tunerAfter
+    last-is = ap (λ (u : Tuner). u .last) taken-is
 
     out-is : take (a .written) ys′ ≡ samplesOut given
-    unfolding afterBlock
     out-is =
         let kept = took-keeps p (omega arith) in
         let fits = verdict-fits (p .verdict) (omega (arith, took-number p)) in
         (λ i. take (kept .0 i .written) (kept .1 i))
         ∙ overlaid-starts t′ xs ys (omega (arith, took-good (k .good) (k .lengths) p .1 .out, fits .most))
-        ∙ ap (λ (u : Tuner). take (length xs) (u .last .out)) taken-is
-        ∙ take-at (samplesOut given) _ (length xs) (gives-length (forceOf t) (takeOf t) xs)
+        ∙ ap (λ (l : Last). take (length xs) (l .out)) last-is
+        ∙ take-at (samplesOut given) _ (length xs) (ap (λ (gs : List Given). length (samplesOut gs)) (given-samples (courseOf r) xs) ∙ gives-length _ _ xs)
 
-  -- ---- every call
-  block-keeps : {n : ℕ} {xs ys ys′ : List ℤ} {t′ : Tuner} {a : Answer} → Took t n xs ys t′ a ys′ → Keeps (plusBlock r xs a ys′) t′
-  unfolding plusBlock afterBlock
-  block-keeps {n} {xs} {t′ = t′} {a = a} p =
-      let left = took-good (k .good) (k .lengths) p in
-      cond-case (eqb (a .number) 0) _ r (λ (q : Received). Keeps q t′)
-      (λ e. let z = eqb-true (a .number) 0 e in
-      let is = taken-is p z in
-      let kept = took-keeps p (omega arith) .0 in
-      record {
-        good = left .0;
-        lengths = left .1;
-        settings = ap (λ (u : Tuner). u .settings) is ∙ k .settings;
-        hertz = ap (λ (u : Tuner). u .hertz) is ∙ k .hertz;
-        keyboard = ap (λ (u : Tuner). u .keyboard) is ∙ k .keyboard;
-        ranges = more-in-range (r .pieces) _ (k .ranges) (subst ForceIn force-is (good-force (k .good)));
-        agree = rw (afterPieces-more, is) (agree-then (taken-alike p z .0) (block-agree t n xs (k .good) (k .lengths)));
-        repeated = counts-more p z (λ (g : Given). g .repeats) (k .repeated) (ap (λ (b : Answer). b .repeated) kept ∙ ap (λ (u : Tuner). u .last .repeated) is);
-        dropped = counts-more p z (λ (g : Given). g .drops) (k .dropped) (ap (λ (b : Answer). b .dropped) kept ∙ ap (λ (u : Tuner). u .last .dropped) is);
-        written = (λ i. k .written i ++ out-is p z i) ∙ sym (ap samplesOut (given-more p z) ∙ samplesOut-append (givenOf r) (given p z));
-      })
+    taken-keeps : Keeps (withBlock r xs a ys′) t′
+    taken-keeps =
+        let left = took-good (k .good) (k .lengths) p in
+        let kept = took-keeps p (omega arith) .0 in
+        record {
+          good = left .0;
+          lengths = left .1;
+          began = k .began;
+          ranges = events-in-append (r .events) (map sample xs) (k .ranges) (samples-in xs);
+          is = is-more (map sample xs) _ taken-is;
+          repeated = counts-more (map sample xs) (λ (g : Given). g .repeats) (k .repeated) (ap (λ (b : Answer). b .repeated) kept ∙ ap (λ (l : Last). l .repeated) last-is);
+          dropped = counts-more (map sample xs) (λ (g : Given). g .drops) (k .dropped) (ap (λ (b : Answer). b .dropped) kept ∙ ap (λ (l : Last). l .dropped) last-is);
+          written = written-more (map sample xs) out-is;
+        }
+
+  block-keeps : {n : ℕ} {xs ys ys′ : List ℤ} {t′ : Tuner} {a : Answer} → Took t n xs ys t′ a ys′ → Keeps (ifTaken a (withBlock r xs a ys′) r) t′
+  block-keeps {xs = xs} {ys′ = ys′} {t′ = t′} {a = a} p =
+      cond-case (eqb (a .number) 0) (withBlock r xs a ys′) r (λ (q : Received). Keeps q t′)
+      (λ e. taken-keeps p (eqb-true (a .number) 0 e))
       (λ e. let some = eqb-false (a .number) 0 e in subst (Keeps r) (sym (untaken-unchanged p (omega arith))) k)
 
-  -- settings and keyboard are others, and all else is as it was
-  force-keeps : {s : Settings} {b : Keyboard} {t′ : Tuner} → t′ ≡ record { settings = s; hertz = t .hertz; keyboard = b; heard = t .heard; pitch = t .pitch; head = t .head; last = t .last } → Good t′ → Lengths t′ → {c : Keyboard} → b ≡ c → Keeps (withForce r s c) t′
-  unfolding takeOf
-  force-keeps is good lengths e =
-      record {
-        good = good;
-        lengths = lengths;
-        settings = ap (λ (u : Tuner). u .settings) is;
-        hertz = ap (λ (u : Tuner). u .hertz) is ∙ k .hertz;
-        keyboard = ap (λ (u : Tuner). u .keyboard) is ∙ e;
-        ranges = k .ranges;
-        agree = subst (λ (u : Tuner). Agree (afterPieces freshTake (r .pieces)) (takeOf u)) (sym is) (k .agree);
-        repeated = k .repeated;
-        dropped = k .dropped;
-        written = k .written;
-      }
+  -- ---- the other calls: taken, they leave u; refused, all is as it was
+  if-taken : {v : ℕ} {a : Answer} {u t′ : Tuner} (r′ : Received) → a ≡ plain v → t′ ≡ cond (eqb v 0) u t → (t′ ≡ u → Keeps r′ t′) → Keeps (ifTaken a r′ r) t′
+  if-taken {v} {u = u} {t′ = t′} r′ e is taken =
+      subst (λ (b : Answer). Keeps (ifTaken b r′ r) t′) (sym e)
+      (cond-case (eqb v 0) r′ r (λ (q : Received). Keeps q t′)
+      (λ f. taken (is ∙ cond-yes u t f))
+      (λ f. subst (Keeps r) (sym (is ∙ cond-no u t f)) k))
 
-  change-keeps : {s : Settings} {t′ : Tuner} {a : Answer} → Changed t s t′ a → Keeps (plusChange r s a) t′
-  unfolding plusChange
-  change-keeps {s} {t′} p =
+  change-keeps : {s : Settings} {t′ : Tuner} {a : Answer} → Changed t s t′ a → Keeps (ifTaken a (withEvents r (new-settings s ∷ [])) r) t′
+  unfolding givenBy
+  change-keeps {s} p =
       let left = changed-good (k .good) (k .lengths) p in
-      subst (λ (b : Answer). Keeps (plusChange r s b) t′) (sym (p .answer))
-      (cond-case (eqb (p .number) 0) _ r (λ (q : Received). Keeps q t′)
-      (λ e. force-keeps (p .tuner ∙ cond-yes (withSettings t s) t e) (left .0) (left .1) (λ i. onChannel (k .settings i .channel) (s .channel) (k .keyboard i)))
-      (λ e. subst (Keeps r) (sym (p .tuner ∙ cond-no (withSettings t s) t e)) k))
+      if-taken _ (p .answer) (p .tuner)
+      (λ e.
+      silent-keeps (new-settings s ∷ []) (e ∙ ap (λ (u : Tuner). withSettings u s) (k .is) ∙ change-after (courseOf r) (t .last) s) (left .0) (left .1)
+      (subst (λ (u : Tuner). InRange (u .settings)) e (left .0 .settings), tt) refl)
 
-  midi-keeps : {bytes : List ℕ} {t′ : Tuner} {a : Answer} → Keyed t bytes t′ a → Keeps (plusBytes r bytes a) t′
-  unfolding plusBytes
-  midi-keeps {bytes} {t′} p =
+  midi-keeps : {bytes : List ℕ} {t′ : Tuner} {a : Answer} → Keyed t bytes t′ a → Keeps (ifTaken a (withEvents r (map byte bytes)) r) t′
+  midi-keeps {bytes} p =
       let left = keyed-good (k .good) (k .lengths) p in
-      subst (λ (b : Answer). Keeps (plusBytes r bytes b) t′) (sym (p .answer))
-      (cond-case (eqb (p .number) 0) _ r (λ (q : Received). Keeps q t′)
-      (λ e. subst (λ (s : Settings). Keeps (withForce r s (played (r .settings .channel) (r .keyboard) bytes)) t′) (k .settings)
-      (force-keeps (p .tuner ∙ cond-yes (withBytes t bytes) t e) (left .0) (left .1) (λ i. played (k .settings i .channel) (k .keyboard i) bytes)))
-      (λ e. subst (Keeps r) (sym (p .tuner ∙ cond-no (withBytes t bytes) t e)) k))
+      if-taken _ (p .answer) (p .tuner)
+      (λ e.
+      silent-keeps (map byte bytes) (e ∙ ap (λ (u : Tuner). withBytes u bytes) (k .is) ∙ bytes-after (courseOf r) (t .last) bytes) (left .0) (left .1) (bytes-in bytes)
+      (given-bytes (courseOf r) bytes))
 
-  reset-keeps : {t′ : Tuner} {a : Answer} → Reset t t′ a → Keeps (plus (reset a) r) t′
-  unfolding plus
-  reset-keeps {t′} p =
-      let first = freshTuner (t .hertz) (t .settings) in
-      subst (λ (b : Answer). Keeps (plus (reset b) r) t′) (sym (p .answer))
-      (cond-case (eqb (p .number) 0) _ r (λ (q : Received). Keeps q t′)
-      (λ e. rw (p .tuner ∙ cond-yes first t e, sym (k .settings), sym (k .hertz)) (begun-keeps (t .settings) (k .good .hertz) (k .good .settings)))
-      (λ e. subst (Keeps r) (sym (p .tuner ∙ cond-no first t e)) k))
+  -- settings, sample rate and keyboard are the course's
+  settings-are : t .settings ≡ courseOf r .settings
+  unfolding tunerAfter
+  settings-are = ap (λ (u : Tuner). u .settings) (k .is)
+
+  hertz-is : t .hertz ≡ r .hertz
+  unfolding tunerAfter
+  hertz-is = ap (λ (u : Tuner). u .hertz) (k .is) ∙ course-hertz (freshCourse (r .hertz) (r .settings)) (r .events)
+
+  keyboard-is : t .keyboard ≡ courseOf r .keyboard
+  unfolding tunerAfter
+  keyboard-is = ap (λ (u : Tuner). u .keyboard) (k .is)
+
+  reset-keeps : {t′ : Tuner} {a : Answer} → Reset t t′ a → Keeps (ifTaken a (begun (r .hertz) (courseOf r .settings)) r) t′
+  reset-keeps p =
+      if-taken _ (p .answer) (p .tuner)
+      (λ e. rw (e, sym settings-are, sym hertz-is) (begun-keeps (t .settings) (k .good .hertz) (k .good .settings)))
 
   call-keeps : {c : Call} {t′ : Tuner} → Leaves t c t′ → Keeps (plus c r) t′
   unfolding plus
@@ -234,48 +214,64 @@ unfolding received
 series-keeps fresh-start = default-keeps
 series-keeps (and-then h p) = call-keeps (series-keeps h) p
 
+-- after any series of calls the tuner is that of what happened
+pub tuner-holds : TunerTheorem
+tuner-holds cs t h = series-keeps h .is
+
 -- ---- the account of what is kept
 
--- the eighth-rate samples of the pieces are those of all their samples
-eighths-from : (t : Take) (ps : List Piece) → afterPieces t ps .eighths ≡ heardAll (t .eighths) (made (t .count) (t .sound) (samplesPieces ps))
-unfolding afterPieces samplesPieces made heardAll
-eighths-from t [] = refl
-eighths-from t (p ∷ ps) =
-    let xs = p .samples in
-    let s = p .inForce in
-    let more = samplesPieces ps in
-    eighths-from (after s t xs) ps
-    ∙ (λ i. heardAll (after-eighths s t xs i) (made (after-count s t xs i) (after-sound s t xs i) more))
-    ∙ sym (heardAll-append (t .eighths) (made (t .count) (t .sound) xs) (made (t .count + length xs) (heardAll (t .sound) xs) more))
-    ∙ ap (heardAll (t .eighths)) (sym (made-append (t .count) (t .sound) xs more))
+-- the eighth-rate samples of a course are those of its samples
+eighths-from : (c : Course) (es : List Event) → courseAfter c es .take .eighths ≡ heardAll (c .take .eighths) (made (c .take .count) (c .take .sound) (samplesIn es))
+unfolding courseAfter happened samplesIn stepped made heardAll
+eighths-from c [] = refl
+eighths-from c (sample x ∷ es) = eighths-from (happened c (sample x)) es ∙ eighths-next (c .take .count) (c .take .sound) (c .take .eighths) x (samplesIn es)
+eighths-from c (new-settings s ∷ es) = eighths-from (happened c (new-settings s)) es
+eighths-from c (byte b ∷ es) = eighths-from (happened c (byte b)) es
 
 module _ {r : Received} {t : Tuner} (k : Keeps r t) where
-  eighths-are : SameNewest reachEighths (soundOf (t .heard .eighths)) (eighthsOf r)
-  unfolding takeOf freshTake
-  eighths-are i h = sym (k .agree .eighths i h) ∙ ap (λ (x : Sound). x i) (eighths-from freshTake (r .pieces))
+  abbrev start : Course
+  start = freshCourse (r .hertz) (r .settings)
 
-  sound-is : SameNewest reach (soundOf (t .heard .store)) (heardOf r)
-  unfolding takeOf
-  sound-is i h = sym (k .agree .sound i h) ∙ ap (λ (x : Sound). x i) (pieces-sound (r .pieces))
+  eighths-are : courseOf r .take .eighths ≡ eighthsOf r
+  unfolding freshTake
+  eighths-are = eighths-from start (r .events)
 
-  kept-accounted : Accounted r t
-  unfolding takeOf
-  kept-accounted =
+  sound-is : courseOf r .take .sound ≡ heardOf r
+  unfolding freshTake
+  sound-is = course-sound start (r .events)
+
+  count-is : courseOf r .take .count ≡ length (samplesIn (r .events))
+  unfolding freshTake
+  count-is = course-count start (r .events) ∙ zero-add _
+
+  -- of the tuner of what happened
+  course-accounted : (last : Last) → Good (tunerAfter (courseOf r) last) → Accounted r (tunerAfter (courseOf r) last)
+  unfolding tunerAfter takeOf
+  course-accounted last good =
+      let c = courseOf r in
+      let right = course-right k in
+      let pitch : PitchRight (heardOf r) (keptOf (c .take .pitch) (c .take .sound)) =
+      subst (λ (x : Sound). PitchRight x (keptOf (c .take .pitch) (c .take .sound))) sound-is (kept-right (c .take .pitch) (c .take .sound) (right .take .pitch)) in
       record {
-        good = k .good;
-        settings = k .settings;
-        hertz = k .hertz;
-        keyboard = k .keyboard;
-        count = sym (k .agree .count) ∙ pieces-count (r .pieces);
-        sums = right-alike (λ i h. eighths-are i (omega arith)) (k .good .heard .sums);
-        lags = λ e. let l = lags-of (k .good .pitch) e in right-alike (λ i h. sound-is i (omega (arith, l .upto))) (k .good .pitch .sums e);
-        position = sym (k .agree .position) ∙ account (r .pieces);
+        good = good;
+        settings = refl;
+        hertz = course-hertz start (r .events);
+        keyboard = refl;
+        count = count-is;
+        sums =
+            subst (λ (x : Sound). Right x 2 eighthLags (energiesOf (c .take .eighths) 2 eighthLags) (correlationsOf (c .take .eighths) 2 eighthLags)) eighths-are
+            (listed-right (c .take .eighths) 2 eighthLags);
+        lags = λ e. pitch .sums e;
+        position = sym (course-agree right last .position) ∙ account (r .hertz) (r .settings) (r .events);
         repeated = k .repeated;
         dropped = k .dropped;
-        bounds = good-sane (k .good) .bounds;
-        within = pieces-in-bounds (r .pieces) (k .ranges) (good-force (k .good));
+        bounds = good-sane good .bounds;
+        within = λ xs. subst (λ (m : ℕ). InBounds (m + length xs) (after (forceAt c) (c .take) xs .position)) count-is (always-in-bounds (course-force right) (right .take) xs);
         written = k .written;
       }
+
+  kept-accounted : Accounted r t
+  kept-accounted = subst (Accounted r) (sym (k .is)) (course-accounted (t .last) (subst Good (k .is) (k .good)))
 
 pub holds : Theorem
 holds cs t h = kept-accounted (series-keeps h)
@@ -289,5 +285,74 @@ never-nine h = good-never-nine (series-keeps h .good)
 
 -- nor is anything kept of rounding where one has no period: searching, and locking
 pub nothing-kept : {cs : List Call} {t : Tuner} → Series cs t → t .pitch .tone .period ≡ 0 → t .pitch .tone .kept ≡ 0
-unfolding takeOf
-nothing-kept {cs} {t} h = let k = series-keeps h in subst Cleared (k .agree .pitch) (pieces-cleared (received cs .pieces) (k .ranges))
+unfolding tunerAfter
+nothing-kept {cs} {t} h =
+    let k = series-keeps h in
+    subst (λ (u : Tuner). u .pitch .tone .period ≡ 0 → u .pitch .tone .kept ≡ 0) (sym (k .is)) (course-right k .cleared)
+
+-- what happened is in its ranges
+pub events-in : {cs : List Call} {t : Tuner} → Series cs t → CourseIn (freshCourse (received cs .hertz) (received cs .settings)) × EventsIn (received cs .events)
+events-in h = let k = series-keeps h in (k .began, k .ranges)
+
+-- ---- the cutting does not matter
+
+-- a good tuner's meter shows what its sample rate and pitch make of it
+meter-shows : {t : Tuner} {m : Meter} → Good t → Metered t m → m ≡ shownOf (t .hertz) (t .pitch)
+meter-shows g (record-out-of-range n e) = absurd (n g)
+meter-shows g (read h e x) = e
+
+-- the tuner without its last block
+abbrev unblocked : Tuner → Tuner
+unblocked t = record { settings = t .settings; hertz = t .hertz; keyboard = t .keyboard; heard = t .heard; pitch = t .pitch; head = t .head; last = noLast }
+
+module _ {r r′ : Received} {t t′ : Tuner} (k : Keeps r t) (k′ : Keeps r′ t′) (same : SameTake r r′) where
+  given-same : givenOf r ≡ givenOf r′
+  given-same i = givenBy (freshCourse (same .hertz i) (same .settings i)) (same .events i)
+
+  unblocked-same : unblocked t ≡ unblocked t′
+  unfolding tunerAfter
+  unblocked-same =
+      ap unblocked (k .is) ∙ (λ i. tunerAfter (courseAfter (freshCourse (same .hertz i) (same .settings i)) (same .events i)) noLast) ∙ sym (ap unblocked (k′ .is))
+
+  take-alike : Alike r r′ t t′
+  take-alike =
+      record {
+        written = k .written ∙ ap samplesOut given-same ∙ sym (k′ .written);
+        repeated = k .repeated ∙ ap (λ (gs : List Given). length (allRepeated gs)) given-same ∙ sym (k′ .repeated);
+        dropped = k .dropped ∙ ap (λ (gs : List Given). length (allDropped gs)) given-same ∙ sym (k′ .dropped);
+        meter = λ p p′. meter-shows (k .good) p ∙ ap (λ (u : Tuner). shownOf (u .hertz) (u .pitch)) unblocked-same ∙ sym (meter-shows (k′ .good) p′);
+        settings = ap (λ (u : Tuner). u .settings) unblocked-same;
+        hertz = ap (λ (u : Tuner). u .hertz) unblocked-same;
+        keyboard = ap (λ (u : Tuner). u .keyboard) unblocked-same;
+        heard = ap (λ (u : Tuner). u .heard) unblocked-same;
+        pitch = ap (λ (u : Tuner). u .pitch) unblocked-same;
+        head = ap (λ (u : Tuner). u .head) unblocked-same;
+      }
+
+pub cutting-holds : CuttingTheorem
+cutting-holds cs cs′ t t′ h h′ same = take-alike (series-keeps h) (series-keeps h′) same
+
+-- ---- two fresh tuners, all calls taken
+
+-- where a call was taken
+when-taken : (a : Answer) (r : Received) {r′ : Received} {t : Tuner} → a .number ≡ 0 → Keeps (ifTaken a r′ r) t → Keeps r′ t
+when-taken a r {r′} {t} z k = subst (λ (q : Received). Keeps q t) (cond-yes r′ r (eq-eqb (a .number) 0 z)) k
+
+module _ {hertz : ℕ} {s : Settings} where
+  taken-all-keeps : {r : Received} {t : Tuner} → AllTaken hertz s r t → Keeps r t
+  taken-all-keeps (fresh-tuner e) = let i = unrefused-start s e in begun-keeps s (i .0) (i .1)
+  taken-all-keeps (then-block h p z) = taken-keeps (taken-all-keeps h) p z
+  taken-all-keeps (then-change {r = r} {a = a} h p z) = when-taken a r z (change-keeps (taken-all-keeps h) p)
+  taken-all-keeps (then-bytes {r = r} {a = a} h p z) = when-taken a r z (midi-keeps (taken-all-keeps h) p)
+
+  -- sample rate and settings are those of the start
+  as-begun : {r : Received} {t : Tuner} → AllTaken hertz s r t → (r .hertz ≡ hertz) × (r .settings ≡ s)
+  as-begun (fresh-tuner e) = (refl, refl)
+  as-begun (then-block h p z) = as-begun h
+  as-begun (then-change h p z) = as-begun h
+  as-begun (then-bytes h p z) = as-begun h
+
+pub fresh-holds : FreshTheorem
+fresh-holds hertz s r r′ t t′ h h′ e =
+    let (a, b) = as-begun h in
+    let (a′, b′) = as-begun h′ in take-alike (taken-all-keeps h) (taken-all-keeps h′) (record { hertz = a ∙ sym a′; settings = b ∙ sym b′; events = e })

@@ -1,4 +1,4 @@
--- What the account says of the tuner's calls it says of the calls exported to hosts: definitions, two statements (`HostTheorem`, `HostSentAgain`) and their proofs (`host-holds`, `host-again-holds`).
+-- What the account says of the tuner's calls it says of the calls exported to hosts: definitions, three statements (`HostTheorem`, `HostSentAgain`, `HostCuttingTheorem`) and their proofs (`host-holds`, `host-again-holds`, `host-cutting-holds`).
 -- After a start the record is that of a tuner, so each exported call over it is the tuner's own call, and a series of these is a series of those.
 use mathlib.Core.Path.{_≡_, refl, sym, ap, _∙_, subst}
 use mathlib.Core.Bool.{cond}
@@ -20,7 +20,8 @@ use Rattle.host.specs.declared.Shown.{Shown}
 use Rattle.host.specs.Hosts.{recordOf, held, unheld, HostTook, HostChanged, HostReset, HostKeyed, HostStarted, shownAs, HostMetered}
 use Rattle.host.specs.Lents.{tuner's-call}
 use Rattle.account.specs.Account.{Call, start, change, block, midi, reset, meter, Leaves, by-start, by-change, by-block, by-midi, by-reset, by-meter, Series, fresh-start, and-then, received, Accounted, TakesNone, Meanwhile, nothing, and-meanwhile, GivenAgain, NeverNine}
-use Rattle.account.specs.Holds.{holds, again-holds, never-nine}
+use Rattle.account.specs.Cutting.{SameTake, Alike}
+use Rattle.account.specs.Holds.{holds, again-holds, never-nine, cutting-holds}
 
 -- ---- definitions
 
@@ -67,6 +68,16 @@ abbrev pub HostSentAgain : Type 0
 HostSentAgain =
     (cs : List Call) (r q w w′ : Record) (k : ℕ) (xs ys zs ys₂ zs₂ : List ℤ) (a b : Answer)
     → HostSeries cs r → HostTook r k xs ys q a zs → a .number ≡ 0 → HostMeanwhile q w → length xs ≤ length ys₂ → HostTook w k xs ys₂ w′ b zs₂ → GivenAgain (length xs) w w′ a b zs zs₂
+
+-- two records of tuners that are alike, but for the last block; every reading of the meter is the same
+pub record HostAlike (cs cs′ : List Call) (r r′ : Record) : Type 0 where
+  pub layout : r .layout ≡ r′ .layout
+  pub tuner : Alike (received cs) (received cs′) (r .tuner) (r′ .tuner)
+  pub meter : {m m′ : Shown} → HostMetered r m → HostMetered r′ m′ → m ≡ m′
+
+-- any two series of exported calls, cut in two ways
+abbrev pub HostCuttingTheorem : Type 0
+HostCuttingTheorem = (cs cs′ : List Call) (r r′ : Record) → HostSeries cs r → HostSeries cs′ r′ → SameTake (received cs) (received cs′) → HostAlike cs cs′ r r′
 
 -- ---- a call over a tuner's record is the tuner's
 
@@ -156,3 +167,20 @@ host-again-holds cs r q w w′ k xs ys zs ys₂ zs₂ a b h p z m room p₂ =
     let given = again-holds cs t u v v′ k xs ys zs ys₂ zs₂ a b s took z between room again in
     subst (λ (w : Record). GivenAgain (length xs) w w′ a b zs zs₂) (sym f)
     (subst (λ (w′ : Record). GivenAgain (length xs) (recordOf v) w′ a b zs zs₂) (sym f′) (given-of given))
+
+-- ---- and the cutting does not matter
+
+tuners-alike : {cs cs′ : List Call} (t t′ : Tuner) → Alike (received cs) (received cs′) t t′ → HostAlike cs cs′ (recordOf t) (recordOf t′)
+tuners-alike t t′ same =
+    record {
+      layout = refl;
+      tuner = same;
+      meter = λ p p′. let (x, q, e) = read-of t p in let (x′, q′, e′) = read-of t′ p′ in e ∙ ap shownAs (same .meter q q′) ∙ sym e′;
+    }
+
+pub host-cutting-holds : HostCuttingTheorem
+host-cutting-holds cs cs′ r r′ h h′ same =
+    let (t, s, e) = series-of h in
+    let (t′, s′, e′) = series-of h′ in
+    let alike = tuners-alike {cs = cs} {cs′ = cs′} t t′ (cutting-holds cs cs′ t t′ s s′ same) in
+    subst (λ (r : Record). HostAlike cs cs′ r r′) (sym e) (subst (λ (r′ : Record). HostAlike cs cs′ (recordOf t) r′) (sym e′) alike)

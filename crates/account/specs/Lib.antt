@@ -1,5 +1,7 @@
 pub mod Account
-pub mod Holds
+pub mod Cutting
 pub mod Calls
+pub mod Following
+pub mod Holds
 pub mod Hosted
 pub mod Wrong

@@ -1,15 +1,14 @@
 -- The wrong programs of document 01's list, and that the promise of a block shuts out each of them: definitions, the statement `AllShutOut` and its proof (`shut-out`).
 -- The promise settles what is answered to document 01's whole case, so a program that answers something else on it breaks the promise; counts made up from a block alone break it on one of two tuners.
 use mathlib.Core.Path.{_≡_, refl, sym, ap, _∙_, subst}
-use mathlib.Core.Bool.{true}
-use mathlib.Core.List.{List, [], _∷_, _++_}
+use mathlib.Core.List.{List, [], _∷_, _++_, map}
 use Prim.Native.Nat.{ℕ, _≤_, _<_}
 use native.Mathlib.Omega.{arith}
 use lib.IntN.{ℤ, pos, negℤ, natAbs}
 use lib.ListN.{length, take, drop, replicate}
-use Rattle.rules.specs.Rules.{cdRate, noNote, silence, heard, defaults, stepDue, listened, listenedIn, noTone, inputAt, cycleRepeated, cycleDropped, cycles, growth, sampleAt, curve, held, through, wholeOf, fractionOf, reading, freshTake, eighthDue, eighthsAfter, stepped, after, gives, samplesOut, gathered}
+use Rattle.rules.specs.Rules.{cdRate, silence, heard, defaults, stepDue, listened, listenedIn, noTone, inputAt, cycleRepeated, cycleDropped, cycles, growth, sampleAt, curve, held, through, wholeOf, fractionOf, reading, freshTake, eighthDue, eighthsAfter, stepped, gives, samplesOut, gathered}
 use Rattle.rules.specs.Sane.{tracking-is-not-searching}
-use Rattle.rules.specs.History.{Piece, overPieces, givesPieces}
+use Rattle.history.specs.History.{sample, freshCourse, happened, givenBy}
 use Rattle.rules.specs.Facts.{pitched, valueAt}
 use Rattle.pitch.specs.declared.Pitch.{Pitch as KeptPitch}
 use Rattle.tuner.specs.declared.Tuner.{Tuner}
@@ -17,7 +16,7 @@ use Rattle.answers.specs.declared.Answer.{Answer}
 use Rattle.record.specs.Records.{freshHeard, freshPitch, freshHead, noLast}
 use Rattle.tuner.specs.Tuners.{freshTuner, defaultTuner, Good, takeOf, heardAfter, nextNumber, Verdict, taken, afterBlock, Took}
 use Rattle.tuner.specs.Verdicts.{verdict-one, counted, tuner-taken}
-use Rattle.account.specs.Account.{block, Series, fresh-start, and-then, by-block, plus, plusBlock, received}
+use Rattle.account.specs.Account.{block, Series, fresh-start, and-then, by-block, plus, received}
 use Rattle.account.specs.Calls.{default-good, still-silent, silent-right, took-good, took-number, took-keeps}
 use Rattle.account.specs.Holds.{holds}
 
@@ -155,12 +154,11 @@ second-taken {t} g e =
     taken (record { good = g; nonempty = omega arith; most = omega arith; written = omega arith }) (λ l. omega arith) (sym (ap nextNumber e)) (omega arith)
 
 -- the rules' samples for the first block, and for both: the input four samples late
-abbrev piece : List ℤ → Piece
-piece xs = record { inForce = record { settings = defaults; key = noNote; hertz = cdRate }; samples = xs }
+abbrev outFor : List ℤ → List ℤ
+outFor xs = samplesOut (givenBy (freshCourse cdRate defaults) (map sample xs))
 
-case-out : (samplesOut (givesPieces freshTake (piece firstBlock ∷ [])) ≡ pos 0 ∷ pos 0 ∷ pos 0 ∷ [])
-    × (samplesOut (givesPieces freshTake (piece firstBlock ∷ piece secondBlock ∷ [])) ≡ pos 0 ∷ pos 0 ∷ pos 0 ∷ pos 0 ∷ pos 1000 ∷ negℤ (pos 1000) ∷ [])
-unfolding freshTake silence heard overPieces gives after samplesOut stepped eighthDue eighthsAfter noTone listened listenedIn growth cycleRepeated cycleDropped cycles inputAt reading curve held through sampleAt wholeOf fractionOf
+case-out : (outFor firstBlock ≡ pos 0 ∷ pos 0 ∷ pos 0 ∷ []) × (outFor (firstBlock ++ secondBlock) ≡ pos 0 ∷ pos 0 ∷ pos 0 ∷ pos 0 ∷ pos 1000 ∷ negℤ (pos 1000) ∷ [])
+unfolding freshTake silence heard givenBy happened samplesOut stepped eighthDue eighthsAfter noTone listened listenedIn growth cycleRepeated cycleDropped cycles inputAt reading curve held through sampleAt wholeOf fractionOf
 case-out = (refl, refl)
 
 -- one cycle is repeated in the first block to `ahead`, and none in the first block to a fresh tuner
@@ -217,11 +215,11 @@ module _ {q : Program} (tried : Tried q) where
   first-series = and-then fresh-start (by-block (as-taken first-taken (tried .first)))
 
   first-written : take 3 (one .out) ≡ pos 0 ∷ pos 0 ∷ pos 0 ∷ []
-  unfolding received plus plusBlock
+  unfolding received plus
   first-written = holds _ _ first-series .written ∙ case-out .0
 
   second-written : take 3 (two .out) ≡ pos 0 ∷ pos 1000 ∷ negℤ (pos 1000) ∷ []
-  unfolding received plus plusBlock
+  unfolding received plus
   second-written =
       ap (drop 3)
       ((λ i. sym first-written i ++ take 3 (two .out)) ∙ holds _ _ (and-then first-series (by-block (as-taken next-taken (tried .second)))) .written ∙ case-out .1)

@@ -11,16 +11,14 @@ use Rattle.whole.specs.Tests.{cond-case}
 use Rattle.rules.specs.declared.InForce.{InForce}
 use Rattle.rules.specs.declared.Tone.{Tone}
 use Rattle.rules.specs.declared.Smoothed.{Smoothed}
-use Rattle.rules.specs.Rules.{leastRate, greatestRate, Sound, Mode, searching, tracking, Pitch, noTone, noPeriod, found, searched, goal, tuned, best, period, moved, isLost, tracked, eighthDue, stepDue, listenedIn, listened, Take, freshTake, stepped, after}
+use Rattle.rules.specs.Rules.{leastRate, greatestRate, Sound, Mode, searching, tracking, Pitch, noTone, noPeriod, found, searched, goal, tuned, best, period, moved, isLost, tracked, eighthDue, stepDue, listenedIn, listened, Take, freshTake, stepped}
 use Rattle.rules.specs.Facts.{ForceIn, ToneIn, LagsIn, ModeIn}
 use Rattle.rules.specs.Ranges.{ranges}
 use Rattle.rules.specs.Periods.{period-range}
 use Rattle.rules.specs.Position.{tone-rate, tone-kept}
 use Rattle.rules.specs.Notes.{goal-in}
 use Rattle.rules.specs.Smoothing.{smoothed, afterSteps, longestWay, steps-rise, steps-fall, reaches}
-use Rattle.rules.specs.Sane.{Sane, fresh-sane, stepped-sane, after-sane}
-use Rattle.rules.specs.History.{Piece, afterPieces}
-use Rattle.rules.specs.Accounts.{InRanges}
+use Rattle.rules.specs.Sane.{Sane}
 
 -- ---- Tracking steps toward one raw rate
 
@@ -91,6 +89,11 @@ without-period-cleared : (m : Mode) → Cleared (noPeriod m)
 unfolding noTone
 without-period-cleared m e = refl
 
+-- so at a take's begin
+pub fresh-cleared : Cleared (freshTake .pitch)
+unfolding freshTake
+fresh-cleared = without-period-cleared searching
+
 searched-cleared : (p : Pitch) → Cleared p → (o : Option ℕ) → Cleared (searched p o)
 unfolding searched
 searched-cleared p h none = h
@@ -112,21 +115,6 @@ module _ (f : InForce) where
   listened-in-cleared (tracking low last) n x y p l h =
       cond-case (stepDue n) (tracked f x (p .tone) low last) p Cleared (λ e. tracked-cleared x (p .tone) l) (λ e. h)
 
-  stepped-cleared : {t : Take} → Sane t → Cleared (t .pitch) → (x : ℤ) → Cleared (stepped f t x .next .pitch)
+  pub stepped-cleared : {t : Take} → Sane t → Cleared (t .pitch) → (x : ℤ) → Cleared (stepped f t x .next .pitch)
   unfolding stepped listened
   stepped-cleared {t} s h x = listened-in-cleared (t .pitch .mode) _ _ _ (t .pitch) (s .pitch .lags) h
-
-after-cleared : {f : InForce} → ForceIn f → {t : Take} → Sane t → Cleared (t .pitch) → (xs : List ℤ) → Cleared (after f t xs .pitch)
-unfolding after
-after-cleared r s h [] = h
-after-cleared {f} r s h (x ∷ xs) = after-cleared r (stepped-sane r s x) (stepped-cleared f s h x) xs
-
-cleared-from : {t : Take} → Sane t → Cleared (t .pitch) → (ps : List Piece) → InRanges ps → Cleared (afterPieces t ps .pitch)
-unfolding afterPieces
-cleared-from s h [] r = h
-cleared-from s h (p ∷ ps) r = cleared-from (after-sane (r .0) s (p .samples)) (after-cleared (r .0) s h (p .samples)) ps (r .1)
-
--- after any pieces of a take: so while searching and while locking
-pub pieces-cleared : (ps : List Piece) → InRanges ps → Cleared (afterPieces freshTake ps .pitch)
-unfolding freshTake
-pieces-cleared ps r = cleared-from fresh-sane (without-period-cleared searching) ps r

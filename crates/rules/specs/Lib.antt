@@ -15,7 +15,5 @@ pub mod Position
 pub mod Blocks
 pub mod Sane
 pub mod Local
-pub mod History
-pub mod Accounts
 pub mod Held
 pub mod Worked

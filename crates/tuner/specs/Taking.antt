@@ -1,22 +1,18 @@
 -- Sounds of kept samples and the sums over them; the eighth-rate samples of a block.
 use mathlib.Core.Path.{_≡_, refl, sym, ap, _∙_}
 use mathlib.Core.Bool.{Bool, true, false, cond}
-use mathlib.Core.List.{List, [], _∷_, _++_, append-nil}
-use Prim.Native.Nat.{ℕ, zero, suc, _+_, _-_, _*_, _/_, _%_, _≤_, _<_}
+use mathlib.Core.List.{List, [], _∷_}
+use Prim.Native.Nat.{ℕ, suc, _+_, _-_, _*_, _/_, _%_, _≤_, _<_}
 use mathlib.Core.Logic.{_≢_}
-use native.Mathlib.Nat.{zero-add, add-zero, suc-add}
 use native.Mathlib.Omega.{arith}
 use borrow.Author.Tests.{eqb-true, eqb-false}
 use lib.Dec.{eqb}
 use lib.IntN.{ℤ, pos}
-use lib.ListN.{length, take, drop, replicate, length-append, length-drop, drop-of-length-le}
-use lib.Seq.{take-nil, length-take-le, take-take, take-at, drop-at, ext-getD, getD-drop}
-use mir.Syntax.{w16}
-use mir.Val.{SFits}
+use lib.ListN.{length, drop, length-drop}
+use lib.Seq.{ext-getD, getD-drop}
 use Rattle.whole.specs.Tests.{cond-case}
-use Rattle.whole.specs.Lists.{is-listOf}
 use Rattle.rules.specs.declared.InForce.{InForce}
-use Rattle.rules.specs.Rules.{Sound, silence, heard, heardAll, E, H, eighthDue, eighthSample, eighthsAfter, Take, after, stepped}
+use Rattle.rules.specs.Rules.{Sound, heard, heardAll, eighthDue, eighthSample, eighthsAfter, Take, after, stepped}
 use Rattle.rules.specs.Energies.{E-same, H-same}
 use Rattle.ages.specs.Ages.{ago-at}
 use Rattle.rules.specs.Facts.{valueAt, Right}
@@ -25,7 +21,7 @@ use Rattle.record.specs.Parts.{ago-all}
 use Rattle.tuner.specs.Tuners.{made}
 
 -- ---- a sound and its list
-sound-at : (l : List ℤ) (i : ℕ) → i < length l → soundOf l i ≡ valueAt l (length l - 1 - i)
+pub sound-at : (l : List ℤ) (i : ℕ) → i < length l → soundOf l i ≡ valueAt l (length l - 1 - i)
 sound-at l i h = ap (λ (x : Sound). x i) (sym (ago-all l (length l) refl)) ∙ ago-at l (length l) i (omega arith) h
 
 -- lists of one length with the same sound are the same
@@ -68,28 +64,16 @@ made-length n x (new ∷ more) =
     (λ e. let d = eqb-true (suc n % 8) 0 e in omega arith)
     (λ e. let d : suc n % 8 ≢ 0 = eqb-false (suc n % 8) 0 e in omega arith)
 
--- of samples, and more samples after them
-pub made-append : (n : ℕ) (x : Sound) (xs ys : List ℤ) → made n x (xs ++ ys) ≡ made n x xs ++ made (n + length xs) (heardAll x xs) ys
-unfolding made heardAll
-made-append n x [] ys = ap (λ (m : ℕ). made m x ys) (sym (add-zero n))
-made-append n x (new ∷ more) ys =
-    let y = heard new x in
-    let first = made (suc n) y more in
-    let e : suc n + length more ≡ n + suc (length more) = omega arith in
-    let rest = made-append (suc n) y more ys ∙ ap (λ (m : ℕ). first ++ made m (heardAll y more) ys) e in
-    ap (λ (l : List ℤ). cond (eighthDue (suc n)) (eighthSample y ∷ l) l) rest ∙ either (eighthDue (suc n)) (eighthSample y) first _
-  where
-    either : (b : Bool) (z : ℤ) (first last : List ℤ) → cond b (z ∷ (first ++ last)) (first ++ last) ≡ cond b (z ∷ first) first ++ last
-    either true z first last = refl
-    either false z first last = refl
-
-pub after-eighths : (f : InForce) (t : Take) (xs : List ℤ) → after f t xs .eighths ≡ heardAll (t .eighths) (made (t .count) (t .sound) xs)
-unfolding after made heardAll stepped eighthsAfter
-after-eighths f t [] = refl
-after-eighths f t (new ∷ more) =
-    after-eighths f (stepped f t new .next) more
-    ∙ either (eighthDue (suc (t .count))) (eighthSample (heard new (t .sound))) (t .eighths) (made (suc (t .count)) (heard new (t .sound)) more)
+-- those of one sample and of more samples after it
+pub eighths-next : (n : ℕ) (x y : Sound) (new : ℤ) (more : List ℤ) → heardAll (eighthsAfter (suc n) (heard new x) y) (made (suc n) (heard new x) more) ≡ heardAll y (made n x (new ∷ more))
+unfolding made heardAll eighthsAfter
+eighths-next n x y new more = either (eighthDue (suc n)) (eighthSample (heard new x)) y (made (suc n) (heard new x) more)
   where
     either : (b : Bool) (z : ℤ) (y : Sound) (zs : List ℤ) → heardAll (cond b (heard z y) y) zs ≡ heardAll y (cond b (z ∷ zs) zs)
     either true z y zs = refl
     either false z y zs = refl
+
+pub after-eighths : (f : InForce) (t : Take) (xs : List ℤ) → after f t xs .eighths ≡ heardAll (t .eighths) (made (t .count) (t .sound) xs)
+unfolding after made heardAll stepped
+after-eighths f t [] = refl
+after-eighths f t (new ∷ more) = after-eighths f (stepped f t new .next) more ∙ eighths-next (t .count) (t .sound) (t .eighths) new more
