@@ -34,7 +34,7 @@ newest-length : (n : ℕ) (x : Sound) → length (newest n x) ≡ n
 newest-length n x = length-listOf (λ (k : ℕ). x (n - 1 - k)) n
 
 -- they sound as it does, as far back as they go
-newest-sound : (n : ℕ) (x : Sound) → SameNewest n (soundOf (newest n x)) x
+pub newest-sound : (n : ℕ) (x : Sound) → SameNewest n (soundOf (newest n x)) x
 newest-sound n x k h =
     let long = newest-length n x in
     let at : length (newest n x) - 1 - k ≡ n - 1 - k = omega arith in
@@ -103,7 +103,7 @@ fresh-after hertz s =
 -- ---- a block
 
 -- what is kept of a pitch, over the newest samples: the eight lags reach no further
-kept-newest : (p : Pitch) (x : Sound) → PitchIn p → keptOf p (soundOf (newest keptSamples x)) ≡ keptOf p x
+pub kept-newest : (p : Pitch) (x : Sound) → PitchIn p → keptOf p (soundOf (newest keptSamples x)) ≡ keptOf p x
 unfolding trackingOf trackerOf
 kept-newest p x i = λ j. record { tracking = trackingOf (p .mode); tone = p .tone; tracker = lags (p .mode) (i .lags) j }
   where

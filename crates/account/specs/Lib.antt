@@ -5,3 +5,4 @@ pub mod Following
 pub mod Holds
 pub mod Hosted
 pub mod Wrong
+pub mod WrongCuts

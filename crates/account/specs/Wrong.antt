@@ -122,7 +122,7 @@ module _ {t t′ : Tuner} {k : ℕ} {xs ys zs : List ℤ} {a : Answer} (v : Verd
   answer-is : a ≡ counted 0 t′ xs
   answer-is = took-keeps p (omega (arith, took-number p, number-zero)) .0 ∙ ap (λ (v : ℕ). counted v t′ xs) number-zero
 
-  tuner-is : t′ ≡ afterBlock t k xs
+  pub tuner-is : t′ ≡ afterBlock t k xs
   tuner-is = p .tuner ∙ tuner-taken t k xs number-zero
 
   as-taken : Took t k xs ys t′ (counted 0 t′ xs) zs
@@ -131,7 +131,7 @@ module _ {t t′ : Tuner} {k : ℕ} {xs ys zs : List ℤ} {a : Answer} (v : Verd
   repeated-is : a .repeated ≡ afterBlock t k xs .last .repeated
   repeated-is = ap (λ (b : Answer). b .repeated) answer-is ∙ ap (λ (u : Tuner). u .last .repeated) tuner-is
 
-  gives-it : a .number ≤ 1
+  pub gives-it : a .number ≤ 1
   gives-it = omega (arith, took-number p, number-zero)
 
 abbrev start : Tuner
