@@ -1,0 +1,3 @@
+pub mod Riff
+pub mod Numbers
+pub mod Walking
