@@ -1,3 +1,5 @@
 pub mod Riff
 pub mod Numbers
+pub mod Chunks
 pub mod Walking
+pub mod Refusals

@@ -4,7 +4,7 @@ use mathlib.Core.List.{List, [], _∷_, _++_}
 use Prim.Native.Nat.{ℕ, zero, suc, _+_, _*_, _/_, _%_, _^_, _≤_, _<_}
 use native.Mathlib.Omega.{arith}
 use lib.ListN.{length, getD, take, drop, set}
-use lib.Seq.{sets, getD-take, getD-drop}
+use lib.Seq.{sets, sets-eq, length-sets, getD-take, getD-drop}
 use Rattle.riff.specs.Riff.{numberAt, bytesOf}
 
 -- ---- read
@@ -27,6 +27,16 @@ module _ {A : Type 0} where
   pub sets-more : (l : List A) (i : ℕ) (vs us : List A) → sets (sets l i vs) (i + length vs) us ≡ sets l i (vs ++ us)
   sets-more l i [] us = let e : i + 0 ≡ i = omega arith in ap (λ (n : ℕ). sets l n us) e
   sets-more l i (v ∷ vs) us = let e : i + suc (length vs) ≡ suc i + length vs = omega arith in ap (λ (n : ℕ). sets (sets (set l i v) (suc i) vs) n us) e ∙ sets-more (set l i v) (suc i) vs us
+
+  pub stored-then : (l : List A) {l′ l″ : List A} (at n : ℕ) (vs us : List A) → length vs ≡ n → l′ ≡ sets l at vs → l″ ≡ sets l′ (at + n) us → l″ ≡ sets l at (vs ++ us)
+  stored-then l at n vs us e p q = q ∙ (λ i. sets (p i) (at + sym e i) us) ∙ sets-more l at vs us
+
+  pub stored-length : (l : List A) {l′ : List A} (at : ℕ) (vs : List A) → l′ ≡ sets l at vs → length l′ ≡ length l
+  stored-length l at vs p = ap length p ∙ length-sets l at vs
+
+  -- at the front
+  pub sets-front : (l vs : List A) → length vs ≤ length l → sets l 0 vs ≡ vs ++ drop (length vs) l
+  sets-front l vs h = let e : 0 + length vs ≡ length vs = omega arith in sets-eq vs l 0 (omega arith) ∙ ap (λ (n : ℕ). vs ++ drop n l) e
 
 pub two-stored : (l : List ℕ) (at n : ℕ) → set (set l at (n % 256)) (at + 1) (n / 256 % 256) ≡ sets l at (bytesOf 2 n)
 unfolding bytesOf

@@ -10,6 +10,7 @@ use lib.Dec.{leb, ltb, eqb}
 use lib.ListN.{length}
 use lib.Seq.{append-snoc}
 use Rattle.whole.specs.Tests.{cond-case, cond-yes, cond-no}
+use Rattle.riff.specs.Chunks.{first-before}
 use Rattle.riff.specs.declared.Found.{Found}
 use Rattle.riff.specs.declared.Walk.{Walk}
 use Rattle.riff.specs.Riff.{Chunk, chunkAt, body, behind, next, chunksFrom, chunks, firstOf, anyPast, fmtName, dataName}
@@ -123,3 +124,15 @@ module _ {file : List ℕ} {end : ℕ} where
       subst (λ (l : List Chunk). Seen end l w)
       (sym (p .rest ∙ ap (λ (l : List Chunk). p .cs ++ l) (chunks-end file end (p .n) (w .at) h) ∙ append-nil (p .cs)))
       (p .seen)
+
+-- what was found stands before the end
+pub found-near : (file : List ℕ) (end name : ℕ) → foundOf (firstOf name (chunks file end)) .at ≤ end
+found-near file end name = by-found (firstOf name (chunks file end)) refl
+  where
+    by-found : (o : Option Chunk) → firstOf name (chunks file end) ≡ o → foundOf o .at ≤ end
+    by-found none e = omega arith
+    by-found (some c) e = omega (arith, first-before file end name end 12 c e .to)
+
+pub seen-near : (file : List ℕ) {end : ℕ} {w : Walk} → Seen end (chunks file end) w → (w .fmt .at ≤ end) × (w .data .at ≤ end)
+seen-near file {end} s =
+    (subst (λ (f : Found). f .at ≤ end) (sym (s .fmt)) (found-near file end fmtName), subst (λ (f : Found). f .at ≤ end) (sym (s .data′)) (found-near file end dataName))

@@ -1,6 +1,6 @@
 -- What a test that was made says, and the parts of a test that held.
 use mathlib.Core.Path.{_≡_, refl, subst, sym, _∙_}
-use mathlib.Core.Bool.{Bool, true, false, not, cond, _&&_}
+use mathlib.Core.Bool.{Bool, true, false, not, cond, _&&_, _||_}
 use Prim.Native.Nat.{ℕ, zero, suc, _≤_}
 use native.Mathlib.Omega.{arith}
 use borrow.Author.Tests.{not-true, not-false, leb-true, leb-false, eqb-true, eqb-false}
@@ -36,6 +36,10 @@ and-right false false e = e
 pub and-no : (a : Bool) {b : Bool} → b ≡ false → a && b ≡ false
 and-no true e = e
 and-no false e = refl
+
+pub neither : (a b : Bool) → a || b ≡ false → (a ≡ false) × (b ≡ false)
+neither true b e = absurd (yes-and-no refl e)
+neither false b e = (refl, e)
 
 pub true-T : {b : Bool} → b ≡ true → T b
 true-T e = subst T (sym e) tt

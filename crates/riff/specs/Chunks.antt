@@ -1,0 +1,38 @@
+-- Laws of the first chunk of a name: where a walk comes by it.
+use mathlib.Core.Path.{_≡_, refl, sym, ap, _∙_, subst}
+use mathlib.Core.Bool.{Bool, true, false, _||_}
+use mathlib.Core.List.{List, [], _∷_}
+use mathlib.Core.Option.{Option, none, some, Option·some-injective, Option·some-ne-none}
+use Prim.Native.Nat.{ℕ, zero, suc, _+_, _≤_, _<_}
+use native.Mathlib.Omega.{arith}
+use borrow.Author.Tests.{leb-true, leb-false, ltb-false}
+use lib.Dec.{leb, ltb, eqb}
+use Rattle.whole.specs.Tests.{by, neither}
+use Rattle.riff.specs.Riff.{Chunk, chunkAt, body, behind, next, chunksFrom, firstOf, anyPast}
+
+-- it stands at the walk's place or behind it, and its eight bytes lie before the end
+pub record Before (end at : ℕ) (c : Chunk) : Type 0 where
+  pub from : at ≤ c .at
+  pub to : body c ≤ end
+
+module _ (file : List ℕ) (end name : ℕ) where
+  pub first-before : (n at : ℕ) (c : Chunk) → firstOf name (chunksFrom n file end at) ≡ some c → Before end at c
+  unfolding chunksFrom firstOf
+  first-before zero at c e = absurd (Option·some-ne-none c (sym e))
+  first-before (suc n) at c e =
+      by (leb (at + 8) end)
+      (λ y.
+      by (eqb (chunkAt file at .name) name)
+      (λ z. let same = Option·some-injective (chunkAt file at) c (rw (y, z) at e) in record { from = omega (arith, ap (λ (d : Chunk). d .at) same); to = omega (arith, ap (λ (d : Chunk). d .at) same, leb-true (at + 8) end y) })
+      (λ z. let r = first-before n (next (chunkAt file at)) c (rw (y, z) at e) in record { from = omega (arith, r .from); to = r .to }))
+      (λ y. absurd (Option·some-ne-none c (sym (rw y at e))))
+
+-- where no chunk runs past the end, it does not
+pub first-inside : (end name : ℕ) (cs : List Chunk) (c : Chunk) → firstOf name cs ≡ some c → anyPast end cs ≡ false → behind c ≤ end
+unfolding firstOf anyPast
+first-inside end name [] c e p = absurd (Option·some-ne-none c (sym e))
+first-inside end name (d ∷ cs) c e p =
+    let n = neither (ltb end (behind d)) (anyPast end cs) p in
+    by (eqb (d .name) name)
+    (λ z. subst (λ (k : Chunk). behind k ≤ end) (Option·some-injective d c (rw z at e)) (ltb-false end (behind d) (n .0)))
+    (λ z. first-inside end name cs c (rw z at e) (n .1))

@@ -1,0 +1,5 @@
+pub mod Waves
+pub mod Rates
+pub mod Samples
+pub mod Judging
+pub mod Writing

@@ -1,0 +1,43 @@
+-- Laws of writing: by which test it is refused, and the room that the canonical form takes.
+use mathlib.Core.Path.{_≡_, refl, sym, ap, _∙_}
+use mathlib.Core.Bool.{Bool, true, false, not, cond}
+use mathlib.Core.List.{List, [], _∷_, _++_}
+use Prim.Native.Nat.{ℕ, suc, _+_, _*_, _≤_, _<_}
+use native.Mathlib.Omega.{arith}
+use borrow.Author.Tests.{lt-ltb, le-ltb}
+use lib.Dec.{ltb}
+use lib.IntN.{ℤ}
+use lib.ListN.{length, length-append}
+use Rattle.riff.specs.Riff.{bytesOf, refusedBy}
+use Rattle.wave.specs.declared.WaveWritten.{WaveWritten}
+use Rattle.wave.specs.Waves.{known, sampleBytes, format, header, canonical, limit, unwritten, WasWritten, not-written}
+use Rattle.wave.specs.Samples.{length-sampleBytes}
+
+module _ (hertz : ℕ) (xs : List ℤ) (room : ℕ) where
+  pub rate-unknown : known hertz ≡ false → unwritten hertz xs room ≡ 16
+  unfolding unwritten refusedBy
+  rate-unknown k = rw k
+
+  module _ (k : known hertz ≡ true) where
+    pub too-long : limit < length xs → unwritten hertz xs room ≡ 7
+    unfolding unwritten refusedBy
+    too-long l = rw (k, lt-ltb limit (length xs) l)
+
+    pub too-small : length xs ≤ limit → room < 44 + 2 * length xs → unwritten hertz xs room ≡ 25
+    unfolding unwritten refusedBy
+    too-small l r = rw (k, le-ltb limit (length xs) l, lt-ltb room (44 + 2 * length xs) r)
+
+    pub writable : length xs ≤ limit → 44 + 2 * length xs ≤ room → unwritten hertz xs room ≡ 0
+    unfolding unwritten refusedBy
+    writable l r = rw (k, le-ltb limit (length xs) l, le-ltb room (44 + 2 * length xs) r)
+
+pub write-refused : {hertz n : ℕ} {xs : List ℤ} {out out′ : List ℕ} {r : WaveWritten} → unwritten hertz xs (length out) ≡ suc n → r ≡ record { number = suc n; length = 0 } → out′ ≡ out → WasWritten hertz xs out r out′
+write-refused e p o = not-written (λ z. omega (arith, e, z)) (p ∙ (λ i. record { number = sym e i; length = 0 })) o
+
+-- 44 bytes, and two for each sample
+pub length-header : (hertz size : ℕ) → length (header hertz size) ≡ 44
+unfolding header format bytesOf
+length-header hertz size = refl
+
+pub length-canonical : (hertz : ℕ) (xs : List ℤ) → length (canonical hertz xs) ≡ 44 + 2 * length xs
+length-canonical hertz xs = omega (arith, length-append (header hertz (2 * length xs)) (sampleBytes xs), length-header hertz (2 * length xs), length-sampleBytes xs)
