@@ -2,9 +2,10 @@
 use mathlib.Core.Path.{_≡_, refl, sym, ap, _∙_}
 use mathlib.Core.List.{List, [], _∷_, _++_}
 use Prim.Native.Nat.{ℕ, zero, suc, _+_, _*_, _/_, _%_, _^_, _≤_, _<_}
+use native.Mathlib.Nat.{pow-suc}
 use native.Mathlib.Omega.{arith}
 use lib.ListN.{length, getD, take, drop, set}
-use lib.Seq.{sets, sets-eq, length-sets, getD-take, getD-drop}
+use lib.Seq.{sets, sets-eq, length-sets, getD-append-add, getD-take, getD-drop}
 use Rattle.riff.specs.Riff.{numberAt, bytesOf}
 
 -- ---- read
@@ -52,6 +53,22 @@ pub length-bytesOf : (k n : ℕ) → length (bytesOf k n) ≡ k
 unfolding bytesOf
 length-bytesOf zero n = refl
 length-bytesOf (suc k) n = ap suc (length-bytesOf k (n / 256))
+
+-- ---- behind other bytes, and back
+pub number-behind : (p q : List ℕ) (at k : ℕ) → numberAt (p ++ q) (length p + at) k ≡ numberAt q at k
+unfolding numberAt
+number-behind p q at zero = refl
+number-behind p q at (suc k) =
+    let e : suc (length p + at) ≡ length p + suc at = omega arith in
+    let r = ap (λ (n : ℕ). numberAt (p ++ q) n k) e ∙ number-behind p q (suc at) k in
+    λ i. getD-append-add p q at 0 i + 256 * r i
+
+pub number-back : (k n : ℕ) (q : List ℕ) → n < 256 ^ k → numberAt (bytesOf k n ++ q) 0 k ≡ n
+unfolding numberAt bytesOf
+number-back zero n q h = omega arith
+number-back (suc k) n q h =
+    let r = number-behind (n % 256 ∷ []) (bytesOf k (n / 256) ++ q) 0 k ∙ number-back k (n / 256) q (omega (arith, pow-suc 256 k)) in
+    ap (λ (m : ℕ). n % 256 + 256 * m) r ∙ omega arith
 
 -- ---- a piece of a file that was read by itself: its numbers are the file's
 pub number-part : (file : List ℕ) (at m i k : ℕ) → i + k ≤ m → numberAt (take m (drop at file)) i k ≡ numberAt file (at + i) k

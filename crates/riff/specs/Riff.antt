@@ -1,9 +1,11 @@
 -- RIFF files, in the words of Microsoft's and IBM's Multimedia Programming Interface and Data Specifications: numbers, chunks, and the walk over them. Definitions only.
 -- A file is the list of its bytes, each 0 to 255, and a place counts from 0; past the file's end a byte counts as 0.
-use mathlib.Core.Bool.{Bool, false, cond, _||_}
+use mathlib.Core.Path.{_≡_}
+use mathlib.Core.Logic.{_⊎_}
+use mathlib.Core.Bool.{Bool, true, false, cond, _||_}
 use mathlib.Core.List.{List, [], _∷_}
 use mathlib.Core.Option.{Option, none, some}
-use Prim.Native.Nat.{ℕ, zero, suc, _+_, _*_, _/_, _%_}
+use Prim.Native.Nat.{ℕ, zero, suc, _+_, _*_, _/_, _%_, _≤_}
 use lib.Dec.{leb, ltb, eqb}
 use lib.ListN.{getD}
 
@@ -72,7 +74,17 @@ dataName = numberAt (100 ∷ 97 ∷ 116 ∷ 97 ∷ []) 0 4
 
 -- ---- refusals
 
--- the number of the first test that holds; 0 where none does
+-- tests in their order, each with the number that it refuses by; the answer is the number of the first that holds, 0 where none does
 unfoldable pub refusedBy : List (ℕ × Bool) → ℕ
 refusedBy [] = 0
 refusedBy (test ∷ tests) = cond (test .1) (test .0) (refusedBy tests)
+
+-- a number applies: a test that has it holds
+abbrev pub Applies : ℕ → List (ℕ × Bool) → Type 0
+Applies n [] = ⊥
+Applies n (test ∷ tests) = ((test .0 ≡ n) × (test .1 ≡ true)) ⊎ Applies n tests
+
+-- the least number that applies; 0 where none does
+pub data Least (tests : List (ℕ × Bool)) : ℕ → Type 0 where
+  none-applies : ((m : ℕ) → Applies m tests → ⊥) → Least tests 0
+  least : {n : ℕ} → Applies n tests → ((m : ℕ) → Applies m tests → n ≤ m) → Least tests n

@@ -5,7 +5,7 @@ use mathlib.Core.List.{List, [], _∷_}
 use mathlib.Core.Option.{Option, none, some}
 use Prim.Native.Nat.{ℕ, zero, suc, _+_, _-_, _*_, _/_, _%_, _≤_, _<_, min}
 use native.Mathlib.Omega.{arith}
-use borrow.Author.Tests.{leb-true, ltb-false, not-false}
+use borrow.Author.Tests.{leb-true, ltb-false, le-ltb, not-false}
 use lib.Dec.{leb, ltb, eqb}
 use lib.IntN.{ℤ}
 use lib.ListN.{length}
@@ -19,7 +19,7 @@ use Rattle.riff.specs.Walking.{foundAt, foundOf, Seen}
 use Rattle.wave.specs.declared.WaveTake.{WaveTake}
 use Rattle.wave.specs.declared.WaveRead.{WaveRead}
 use Rattle.wave.specs.Rates.{known-some}
-use Rattle.wave.specs.Waves.{riffName, waveName, isWave, riffEnd, walkEnd, chunksOf, fmtOf, dataOf, known, plain, rateAt, fieldsRight, fmtRight, noFmt, wrongFmt, oddData, noData, runsPast, refusal, rateIn, rateOf, placeIn, placeOf, countIn, countOf, samplesAt, over, WasRead, not-taken, no-room, taken}
+use Rattle.wave.specs.Waves.{riffName, waveName, isWave, riffEnd, walkEnd, chunksOf, fmtOf, dataOf, known, plain, rateAt, fieldsRight, fmtRight, noFmt, wrongFmt, oddData, noData, runsPast, tests, refusal, rateIn, rateOf, placeIn, placeOf, countIn, countOf, samplesAt, over, WasRead, not-taken, no-room, taken}
 
 -- the sample rate by the fields from a place on, and of a fmt that was found; 0 where it is not taken
 abbrev pub fieldsRate : List ℕ → ℕ → ℕ
@@ -97,13 +97,13 @@ past-same cs riff n =
 
 module _ (file : List ℕ) where
   pub not-wave : isWave file ≡ false → refusal file ≡ 20
-  unfolding refusal refusedBy
+  unfolding refusal tests refusedBy
   not-wave e = rw e
 
   -- a whole walk comes to the file's refusal
   pub judged-is : {w : Walk} {hertz : ℕ} → isWave file ≡ true → Seen (walkEnd file) (chunksOf file) w → hertz ≡ fmtRate file (walkEnd file) (w .fmt) →
       judged w hertz (riffEnd file) (length file) ≡ refusal file
-  unfolding refusal refusedBy
+  unfolding refusal tests refusedBy
   judged-is {w} {hertz} v s h =
       let o = fmtOf file in
       let d = dataOf file in
@@ -127,12 +127,13 @@ pub record Right (file : List ℕ) : Type 0 where
   pub fmt-right : fmtRight file (walkEnd file) fmt ≡ true
   pub data′ : Chunk
   pub data-is : dataOf file ≡ some data′
+  pub order : ltb (data′ .at) (fmt .at) ≡ false
   pub even : eqb (data′ .size % 2) 1 ≡ false
   pub none-past : anyPast (riffEnd file) (chunksOf file) ≡ false
   pub riff-inside : riffEnd file ≤ length file
 
 pub right-of : (file : List ℕ) → refusal file ≡ 0 → Right file
-unfolding refusal noFmt wrongFmt oddData noData
+unfolding refusal tests noFmt wrongFmt oddData noData
 right-of file e =
     let a = passed 19 (not (isWave file)) _ e in
     let b = passed 20 (noFmt (fmtOf file) (dataOf file)) _ (a .1) in
@@ -148,9 +149,16 @@ right-of file e =
     found none d x y v b w o n p r = absurd (yes-and-no refl b)
     found (some f) none x y v b w o n p r = absurd (yes-and-no refl n)
     found (some f) (some d) x y v b w o n p r =
-        record { wave = v; fmt = f; fmt-is = x; fmt-right = not-false (fmtRight file (walkEnd file) f) w; data′ = d; data-is = y; even = o; none-past = p; riff-inside = r }
+        record { wave = v; fmt = f; fmt-is = x; fmt-right = not-false (fmtRight file (walkEnd file) f) w; data′ = d; data-is = y; order = b; even = o; none-past = p; riff-inside = r }
 
 module _ (file : List ℕ) (r : Right file) where
+  -- it is not refused
+  pub of-right : refusal file ≡ 0
+  unfolding refusal tests refusedBy noFmt wrongFmt oddData noData
+  of-right =
+      let p = le-ltb (length file) (riffEnd file) (r .riff-inside) in
+      rw (r .wave, r .fmt-is, r .data-is, r .order, r .fmt-right, r .even, r .none-past, p)
+
   -- its samples lie inside the file
   pub samples-inside : placeOf file + 2 * countOf file ≤ length file
   unfolding placeIn countIn
@@ -162,6 +170,12 @@ module _ (file : List ℕ) (r : Right file) where
   pub rate-is : rateOf file ≡ rateAt file (body (r .fmt))
   unfolding rateIn
   rate-is = rw (r .fmt-is)
+
+  pub rate-known : known (rateOf file) ≡ true
+  unfolding fmtRight
+  rate-known =
+      let f = r .fmt in
+      ap known rate-is ∙ fields-known file (body f) (and-right (leb 16 (f .size) && leb (body f + 16) (walkEnd file)) (fieldsRight file (body f)) (r .fmt-right))
 
 -- ---- the take in a file, by a walk to the walk's end
 

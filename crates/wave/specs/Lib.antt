@@ -2,4 +2,4 @@ pub mod Waves
 pub mod Rates
 pub mod Samples
 pub mod Judging
-pub mod Writing
+pub mod Ones

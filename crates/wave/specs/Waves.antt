@@ -10,9 +10,7 @@ use lib.IntN.{ℤ, pos, negsuc}
 use lib.ListN.{length, drop}
 use Rattle.whole.specs.Numbers.{listOf}
 use Rattle.riff.specs.Riff.{numberAt, bytesOf, Chunk, body, chunks, firstOf, anyPast, fmtName, dataName, refusedBy}
-use Rattle.wave.specs.declared.WaveTake.{WaveTake}
 use Rattle.wave.specs.declared.WaveRead.{WaveRead}
-use Rattle.wave.specs.declared.WaveWritten.{WaveWritten}
 
 -- ---- a file
 
@@ -91,16 +89,19 @@ noData (some d) = false
 abbrev pub runsPast : List ℕ → Bool
 runsPast file = anyPast (riffEnd file) (chunksOf file) || ltb (length file) (riffEnd file)
 
--- the number that a file is refused by: the least that applies, or 0
-unfoldable pub refusal : List ℕ → ℕ
-refusal file =
-    refusedBy
-    ((20, not (isWave file))
+-- all of them are judged over one whole walk
+unfoldable pub tests : List ℕ → List (ℕ × Bool)
+tests file =
+    (20, not (isWave file))
     ∷ (21, noFmt (fmtOf file) (dataOf file))
     ∷ (22, wrongFmt file (walkEnd file) (fmtOf file) || oddData (dataOf file))
     ∷ (23, noData (dataOf file))
     ∷ (24, runsPast file)
-    ∷ [])
+    ∷ []
+
+-- the number that a file is refused by: the least that applies, or 0
+unfoldable pub refusal : List ℕ → ℕ
+refusal file = refusedBy (tests file)
 
 -- ---- the take in a file
 
@@ -138,31 +139,7 @@ samplesAt file at count = listOf (λ (k : ℕ). sampleOf (numberAt file (at + 2 
 abbrev pub samplesOf : List ℕ → List ℤ
 samplesOf file = samplesAt file (placeOf file) (countOf file)
 
--- ---- the canonical form
-
--- a sample as sixteen bits, and samples as bytes
-unfoldable pub bitsOf : ℤ → ℕ
-bitsOf (pos n) = n
-bitsOf (negsuc n) = 65535 - n
-
-unfoldable pub sampleBytes : List ℤ → List ℕ
-sampleBytes [] = []
-sampleBytes (x ∷ xs) = bytesOf 2 (bitsOf x) ++ sampleBytes xs
-
--- the 16 bytes of fmt, and the 44 before so many bytes of samples
-unfoldable pub format : (hertz : ℕ) → List ℕ
-format hertz = bytesOf 2 1 ++ bytesOf 2 1 ++ bytesOf 4 hertz ++ bytesOf 4 (2 * hertz) ++ bytesOf 2 2 ++ bytesOf 2 16
-
-unfoldable pub header : (hertz size : ℕ) → List ℕ
-header hertz size =
-    bytesOf 4 riffName ++ bytesOf 4 (36 + size) ++ bytesOf 4 waveName
-    ++ bytesOf 4 fmtName ++ bytesOf 4 16 ++ format hertz
-    ++ bytesOf 4 dataName ++ bytesOf 4 size
-
-abbrev pub canonical : (hertz : ℕ) → List ℤ → List ℕ
-canonical hertz xs = header hertz (2 * length xs) ++ sampleBytes xs
-
--- ---- what the calls promise
+-- ---- what reading promises
 
 -- what was written stands at the front of an output, and what lies past it is untouched
 abbrev pub over : {A : Type 0} → List A → List A → List A
@@ -174,15 +151,6 @@ pub data WasRead (file : List ℕ) (out : List ℤ) (r : WaveRead) (out′ : Lis
   no-room : refusal file ≡ 0 → length out < countOf file → r ≡ record { number = 25; count = 0; hertz = 0 } → out′ ≡ out → WasRead file out r out′
   taken : refusal file ≡ 0 → countOf file ≤ length out → r ≡ record { number = 0; count = countOf file; hertz = rateOf file } → out′ ≡ over (samplesOf file) out → WasRead file out r out′
 
--- the most samples of a take that is written
-abbrev pub limit : ℕ
-limit = 1000000000
-
--- the number that writing is refused by: 16 for a sample rate that is not known, then 7 over the limit, then 25 where the output has not room for all bytes
-unfoldable pub unwritten : (hertz : ℕ) → List ℤ → (room : ℕ) → ℕ
-unwritten hertz xs room = refusedBy ((16, not (known hertz)) ∷ (7, ltb limit (length xs)) ∷ (25, ltb room (44 + 2 * length xs)) ∷ [])
-
--- the promise of writing: it is refused, and nothing is written; or the canonical form is
-pub data WasWritten (hertz : ℕ) (xs : List ℤ) (out : List ℕ) (r : WaveWritten) (out′ : List ℕ) : Type 0 where
-  not-written : (unwritten hertz xs (length out) ≡ 0 → ⊥) → r ≡ record { number = unwritten hertz xs (length out); length = 0 } → out′ ≡ out → WasWritten hertz xs out r out′
-  written : unwritten hertz xs (length out) ≡ 0 → r ≡ record { number = 0; length = 44 + 2 * length xs } → out′ ≡ over (canonical hertz xs) out → WasWritten hertz xs out r out′
+-- the numbers that reading may answer: those of the file, then 25
+abbrev pub readTests : List ℕ → (room : ℕ) → List (ℕ × Bool)
+readTests file room = tests file ++ ((25, ltb room (countOf file)) ∷ [])

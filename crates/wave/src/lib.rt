@@ -1,27 +1,16 @@
 // Takes as RIFF WAVE files: PCM, one channel, 16 bits, 44,100 or 48,000 samples a second.
 ghost use mathlib.Core.Path.{_≡_};
-ghost use mathlib.Core.Bool.{_&&_};
-ghost use Prim.Native.Nat.{ℕ, _+_, _*_, _^_, _≤_, _<_, min};
-ghost use lib.Dec.{leb};
+ghost use Prim.Native.Nat.{_+_, _*_, _^_, _≤_, _<_, min};
 ghost use lib.ListN.{length};
-ghost use lib.Seq.{sets};
-ghost use Rattle.whole.specs.Numbers.{listOf};
-ghost use Rattle.riff.specs.Riff.{numberAt};
-ghost use Rattle.wave.specs.Waves.{known, isWave, plain, refusal, sampleOf, samplesAt, bitsOf, sampleBytes, format, header, over, WasRead, WasWritten};
+ghost use Rattle.wave.specs.Waves.{known, isWave, plain, sampleOf, samplesAt, over, WasRead};
 ghost use Rattle.wave.specs.Judging.{fieldsRate, wholeFmt, fmtRate, noFmtFound, judged, TakeIn};
 use riff::Found;
 use riff::Walk;
 
-// "RIFF" and "WAVE".
-const RIFF: u32 = 1179011410;
+// The names "RIFF" and "WAVE".
+pub const RIFF: u32 = 1179011410;
 
-const WAVE: u32 = 1163280727;
-
-// The bytes before the samples in the canonical form.
-pub const HEADER: usize = 44;
-
-// The most samples of a take that is written.
-pub const LIMIT: usize = 1000000000;
+pub const WAVE: u32 = 1163280727;
 
 // The take in a file, where number is 0: its sample rate, the place of its samples and their count.
 pub struct WaveTake {
@@ -36,12 +25,6 @@ pub struct WaveRead {
     pub number: u32,
     pub count: usize,
     pub hertz: u32,
-}
-
-// The answer to writing: a refusal, or how many bytes were written.
-pub struct WaveWritten {
-    pub number: u32,
-    pub length: usize,
 }
 
 // A sample rate that is known.
@@ -190,17 +173,6 @@ fn sample(bits: u32) -> i16
     (bits as i32 - 65536) as i16
 }
 
-// A sample as sixteen bits.
-fn bits(x: i16) -> u32
-    ensures { λ r. ⌜ r ≡ bitsOf x ⌝ }
-{
-    let v = x as i32;
-    if v < 0 {
-        return (v + 65536) as u32;
-    }
-    v as u32
-}
-
 // The samples of the bytes from a place on, to the front of an output.
 pub fn samples(bytes: &[u8], at: usize, out: &mut [i16], count: usize)
     requires { ⌜ (at + 2 * count ≤ length (now bytes)) × (count ≤ length (now out)) ⌝ }
@@ -239,76 +211,5 @@ pub fn read(bytes: &[u8], out: &mut [i16]) -> WaveRead
         number: 0,
         count: t.count,
         hertz: t.hertz,
-    }
-}
-
-// The sixteen bytes of the canonical fmt.
-fn put_format(out: &mut [u8], at: usize, hertz: u32)
-    requires { ⌜ (at + 16 ≤ length (now out)) × (hertz < 2 ^ 31) ⌝ }
-    ensures { λ r. ⌜ now (out .exit) ≡ sets (now (out .entry)) at (format hertz) ⌝ }
-{
-    riff::put_two(out, at, 1);
-    riff::put_two(out, at + 2, 1);
-    riff::put_four(out, at + 4, hertz);
-    riff::put_four(out, at + 8, 2 * hertz);
-    riff::put_two(out, at + 12, 2);
-    riff::put_two(out, at + 14, 16);
-}
-
-// The canonical header before so many bytes of samples.
-pub fn put_header(out: &mut [u8], hertz: u32, size: u32)
-    requires { ⌜ (44 ≤ length (now out)) × (hertz < 2 ^ 31) × (36 + size < 2 ^ 32) ⌝ }
-    ensures { λ r. ⌜ now (out .exit) ≡ sets (now (out .entry)) 0 (header hertz size) ⌝ }
-{
-    riff::put_four(out, 0, RIFF);
-    riff::put_four(out, 4, 36 + size);
-    riff::put_four(out, 8, WAVE);
-    riff::put_four(out, 12, riff::FMT);
-    riff::put_four(out, 16, 16);
-    put_format(out, 20, hertz);
-    riff::put_four(out, 36, riff::DATA);
-    riff::put_four(out, 40, size);
-}
-
-// The bytes of samples, from a place on.
-pub fn put_samples(out: &mut [u8], at: usize, xs: &[i16])
-    requires { ⌜ at + 2 * length (now xs) ≤ length (now out) ⌝ }
-    ensures { λ r. ⌜ now (out .exit) ≡ sets (now (out .entry)) at (sampleBytes (now (xs .entry))) ⌝ }
-{
-    let mut i: usize = 0;
-    while i < xs.len() {
-        riff::put_two(out, at + 2 * i, bits(xs[i]));
-        i += 1;
-    }
-}
-
-fn not_written(number: u32) -> WaveWritten
-    ensures { λ r. ⌜ r ≡ record { number = number; length = 0 } ⌝ }
-{
-    WaveWritten {
-        number: number,
-        length: 0,
-    }
-}
-
-// Writes a take in the canonical form to the front of the output.
-pub fn write(hertz: u32, xs: &[i16], out: &mut [u8]) -> WaveWritten
-    ensures { λ r. ⌜ WasWritten hertz (now (xs .entry)) (now (out .entry)) r (now (out .exit)) ⌝ }
-{
-    if !known(hertz) {
-        return not_written(16);
-    }
-    if LIMIT < xs.len() {
-        return not_written(7);
-    }
-    let length = HEADER + 2 * xs.len();
-    if out.len() < length {
-        return not_written(25);
-    }
-    put_header(out, hertz, (2 * xs.len()) as u32);
-    put_samples(out, HEADER, xs);
-    WaveWritten {
-        number: 0,
-        length: length,
     }
 }

@@ -1,14 +1,15 @@
--- `wave::put_header` meets its contract: each part is stored behind those before it.
+-- `writing::put_header` meets its contract: each part is stored behind those before it.
 -- Assumes nothing.
 use mathlib.Core.Path.{refl}
 use mathlib.Core.List.{_++_}
 use Prim.Native.Nat.{_+_}
 use Rattle.riff.specs.Riff.{numberAt, bytesOf, fmtName, dataName}
 use Rattle.riff.specs.Numbers.{stored-then}
-use Rattle.wave.specs.Waves.{riffName, waveName, format, header}
+use Rattle.wave.specs.Waves.{riffName, waveName}
+use Rattle.writing.specs.Canonical.{format, header}
 use borrow.Author.Needs.{needs}
-use Rattle.wave.proofs.put_header.Statement.{statement}
-use Rattle.wave.proofs.put_header.Tie as tie
+use Rattle.writing.proofs.put_header.Statement.{statement}
+use Rattle.writing.proofs.put_header.Tie as tie
 
 put-four-requires : tie.Need-put-four-requires
 put-four-requires c κs = search needs

@@ -1,4 +1,4 @@
--- `wave::put_samples` meets its contract: the bytes of those before place i are stored.
+-- `writing::put_samples` meets its contract: the bytes of those before place i are stored.
 -- Assumes nothing.
 use mathlib.Core.Path.{_≡_, refl, sym, ap, _∙_, subst}
 use Prim.Native.Nat.{ℕ, _+_, _*_, _-_, _≤_}
@@ -13,10 +13,10 @@ use mir.Facts.{toZ-ofZ}
 use borrow.Author.Needs.{sfits-of}
 use Rattle.riff.specs.Riff.{bytesOf}
 use Rattle.riff.specs.Numbers.{stored-length}
-use Rattle.wave.specs.Waves.{bitsOf, sampleBytes}
-use Rattle.wave.specs.Samples.{bytes-put}
-use Rattle.wave.proofs.put_samples.Statement.{statement}
-use Rattle.wave.proofs.put_samples.Tie as tie
+use Rattle.writing.specs.Canonical.{bitsOf, sampleBytes}
+use Rattle.writing.specs.Bits.{bytes-put}
+use Rattle.writing.proofs.put_samples.Statement.{statement}
+use Rattle.writing.proofs.put_samples.Tie as tie
 
 abbrev Inv-loop : tie.InvT-loop
 Inv-loop out₀ at xs i₀ out i = (i ≤ length xs) × (out ≡ sets out₀ at (sampleBytes (take i xs)))

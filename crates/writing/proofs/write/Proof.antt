@@ -1,18 +1,19 @@
--- `wave::write` meets its contract: the refusals come in their order, and the header is stored before the samples.
+-- `writing::write` meets its contract: the refusals come in their order, and the header is stored before the samples.
 -- Assumes nothing.
 use mathlib.Core.Path.{_≡_, refl, sym, _∙_}
 use mathlib.Core.Bool.{true}
 use lib.ListN.{length}
 use Prim.Native.Nat.{_*_}
 use Rattle.riff.specs.Numbers.{stored-then, sets-front}
-use Rattle.wave.specs.Waves.{known, sampleBytes, header, canonical, written}
+use Rattle.wave.specs.Waves.{known}
+use Rattle.writing.specs.Canonical.{sampleBytes, header, canonical, written}
 use native.Mathlib.Omega.{arith}
 use borrow.Author.Tests.{not-true, not-false}
-use Rattle.wave.specs.Writing.{rate-unknown, too-long, too-small, writable, write-refused, length-header, length-canonical}
+use Rattle.writing.specs.Writing.{rate-unknown, too-long, too-small, writable, write-refused, length-header, length-canonical}
 use Rattle.wave.specs.Rates.{known-small}
 use borrow.Author.Needs.{needs}
-use Rattle.wave.proofs.write.Statement.{statement}
-use Rattle.wave.proofs.write.Tie as tie
+use Rattle.writing.proofs.write.Statement.{statement}
+use Rattle.writing.proofs.write.Tie as tie
 
 known-requires : tie.Need-known-requires
 known-requires c κs = search needs

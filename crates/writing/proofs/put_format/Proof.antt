@@ -1,14 +1,14 @@
--- `wave::put_format` meets its contract: each field is stored behind those before it.
+-- `writing::put_format` meets its contract: each field is stored behind those before it.
 -- Assumes nothing.
 use mathlib.Core.Path.{refl}
 use mathlib.Core.List.{_++_}
 use Prim.Native.Nat.{_*_}
 use Rattle.riff.specs.Riff.{bytesOf}
 use Rattle.riff.specs.Numbers.{stored-then}
-use Rattle.wave.specs.Waves.{format}
+use Rattle.writing.specs.Canonical.{format}
 use borrow.Author.Needs.{needs}
-use Rattle.wave.proofs.put_format.Statement.{statement}
-use Rattle.wave.proofs.put_format.Tie as tie
+use Rattle.writing.proofs.put_format.Statement.{statement}
+use Rattle.writing.proofs.put_format.Tie as tie
 
 put-two-requires : tie.Need-put-two-requires
 put-two-requires c κs = search needs

@@ -9,9 +9,10 @@ use lib.Dec.{ltb}
 use lib.IntN.{ℤ}
 use lib.ListN.{length, length-append}
 use Rattle.riff.specs.Riff.{bytesOf, refusedBy}
-use Rattle.wave.specs.declared.WaveWritten.{WaveWritten}
-use Rattle.wave.specs.Waves.{known, sampleBytes, format, header, canonical, limit, unwritten, WasWritten, not-written}
-use Rattle.wave.specs.Samples.{length-sampleBytes}
+use Rattle.wave.specs.Waves.{known}
+use Rattle.writing.specs.declared.WaveWritten.{WaveWritten}
+use Rattle.writing.specs.Canonical.{sampleBytes, format, header, canonical, limit, unwritten, WasWritten, not-written}
+use Rattle.writing.specs.Bits.{length-sampleBytes}
 
 module _ (hertz : ℕ) (xs : List ℤ) (room : ℕ) where
   pub rate-unknown : known hertz ≡ false → unwritten hertz xs room ≡ 16

@@ -1,4 +1,4 @@
--- `wave::bits` meets its contract: below 0 the sample is raised by 65536.
+-- `writing::bits` meets its contract: below 0 the sample is raised by 65536.
 -- Assumes nothing.
 use mathlib.Core.Path.{_≡_, ap, _∙_}
 use native.Mathlib.Omega.{arith}
@@ -6,10 +6,10 @@ use lib.IntN.{ℤ, pos, natAbs, _+ℤ_}
 use mir.Syntax.{w16, w32}
 use mir.Val.{toZ, ofZ}
 use Rattle.whole.specs.Words.{Bits, arg, lit, cast, cast-ok, add, add-ok, lt-yes, lt-no}
-use Rattle.wave.specs.Waves.{bitsOf}
-use Rattle.wave.specs.Samples.{bits-small, raised, stayed, castable}
-use Rattle.wave.proofs.bits.Statement.{statement}
-use Rattle.wave.proofs.bits.Tie as tie
+use Rattle.writing.specs.Canonical.{bitsOf}
+use Rattle.writing.specs.Bits.{bits-small, raised, stayed, castable}
+use Rattle.writing.proofs.bits.Statement.{statement}
+use Rattle.writing.proofs.bits.Tie as tie
 
 -- the sample in 32 bits
 wider : (c : tie.Start) → Bits w32 32768 (ofZ w32 (toZ w16 (ofZ w16 (c .args .x)))) (c .args .x)

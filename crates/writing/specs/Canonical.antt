@@ -1,0 +1,72 @@
+-- The canonical form of a take as a RIFF WAVE file, a header of 44 bytes and the samples, and what writing promises. Definitions only.
+use mathlib.Core.Path.{_≡_}
+use mathlib.Core.Bool.{not}
+use mathlib.Core.List.{List, [], _∷_, _++_}
+use Prim.Native.Nat.{ℕ, _+_, _-_, _*_, _<_}
+use lib.Dec.{ltb}
+use lib.IntN.{ℤ, pos, negsuc}
+use lib.ListN.{length, getD}
+use mir.Syntax.{w16}
+use mir.Val.{SFits}
+use Rattle.riff.specs.Riff.{bytesOf, fmtName, dataName, refusedBy}
+use Rattle.wave.specs.Waves.{riffName, waveName, known, refusal, rateOf, countOf, samplesOf, over}
+use Rattle.writing.specs.declared.WaveWritten.{WaveWritten}
+
+-- ---- the canonical form
+
+-- a sample as sixteen bits, and samples as bytes
+unfoldable pub bitsOf : ℤ → ℕ
+bitsOf (pos n) = n
+bitsOf (negsuc n) = 65535 - n
+
+unfoldable pub sampleBytes : List ℤ → List ℕ
+sampleBytes [] = []
+sampleBytes (x ∷ xs) = bytesOf 2 (bitsOf x) ++ sampleBytes xs
+
+-- the 16 bytes of fmt, and the 44 before so many bytes of samples
+unfoldable pub format : (hertz : ℕ) → List ℕ
+format hertz = bytesOf 2 1 ++ bytesOf 2 1 ++ bytesOf 4 hertz ++ bytesOf 4 (2 * hertz) ++ bytesOf 2 2 ++ bytesOf 2 16
+
+unfoldable pub header : (hertz size : ℕ) → List ℕ
+header hertz size =
+    bytesOf 4 riffName ++ bytesOf 4 (36 + size) ++ bytesOf 4 waveName
+    ++ bytesOf 4 fmtName ++ bytesOf 4 16 ++ format hertz
+    ++ bytesOf 4 dataName ++ bytesOf 4 size
+
+abbrev pub canonical : (hertz : ℕ) → List ℤ → List ℕ
+canonical hertz xs = header hertz (2 * length xs) ++ sampleBytes xs
+
+-- ---- what writing promises
+
+-- the most samples of a take that is written
+abbrev pub limit : ℕ
+limit = 1000000000
+
+-- the number that writing is refused by: 16 for a sample rate that is not known, then 7 over the limit, then 25 where the output has not room for all bytes
+unfoldable pub unwritten : (hertz : ℕ) → List ℤ → (room : ℕ) → ℕ
+unwritten hertz xs room = refusedBy ((16, not (known hertz)) ∷ (7, ltb limit (length xs)) ∷ (25, ltb room (44 + 2 * length xs)) ∷ [])
+
+-- the promise of writing: it is refused, and nothing is written; or the canonical form is
+pub data WasWritten (hertz : ℕ) (xs : List ℤ) (out : List ℕ) (r : WaveWritten) (out′ : List ℕ) : Type 0 where
+  not-written : (unwritten hertz xs (length out) ≡ 0 → ⊥) → r ≡ record { number = unwritten hertz xs (length out); length = 0 } → out′ ≡ out → WasWritten hertz xs out r out′
+  written : unwritten hertz xs (length out) ≡ 0 → r ≡ record { number = 0; length = 44 + 2 * length xs } → out′ ≡ over (canonical hertz xs) out → WasWritten hertz xs out r out′
+
+-- ---- the statements of the theorems
+
+-- what a lent slice of bytes holds, and one of 16-bit samples
+abbrev pub Bytes : List ℕ → Type 0
+Bytes bs = (i : ℕ) → getD bs i 0 < 256
+
+abbrev pub Samples : List ℤ → Type 0
+Samples xs = (i : ℕ) → SFits w16 (getD xs i (pos 0))
+
+-- a file is taken, and its take is these samples at this rate
+pub record TakeOf (file : List ℕ) (hertz : ℕ) (xs : List ℤ) : Type 0 where
+  pub taken : refusal file ≡ 0
+  pub rate : rateOf file ≡ hertz
+  pub count : countOf file ≡ length xs
+  pub samples : samplesOf file ≡ xs
+
+-- the canonical form of a file that is taken
+abbrev pub formOf : List ℕ → List ℕ
+formOf file = canonical (rateOf file) (samplesOf file)

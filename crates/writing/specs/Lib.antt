@@ -1,0 +1,5 @@
+pub mod Canonical
+pub mod Bits
+pub mod Writing
+pub mod ReadBack
+pub mod RoundTrip
