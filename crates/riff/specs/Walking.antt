@@ -35,7 +35,6 @@ pub record Seen (end : ℕ) (cs : List Chunk) (w : Walk) : Type 0 where
 
 -- after a step the walk has seen the chunk at its place as well, and stands at the next
 pub record Stepped (end : ℕ) (w : Walk) (c : Chunk) (r : Walk) : Type 0 where
-  pub small : c .size < 2 ^ 32
   pub at : r .at ≡ next c
   pub seen : (cs : List Chunk) → Seen end cs w → Seen end (cs ++ (c ∷ [])) r
 
@@ -87,7 +86,6 @@ pub record Walking (file : List ℕ) (end : ℕ) (w : Walk) : Type 0 where
   pub seen : Seen end cs w
   pub rest : chunks file end ≡ cs ++ chunksFrom n file end (w .at)
   pub enough : end < w .at + 8 + 8 * n
-  pub near : w .at ≤ 12 + end + 2 ^ 32
 
 module _ {file : List ℕ} {end : ℕ} where
   pub walk-begins : {w : Walk} → Seen end [] w → w .at ≡ 12 → Walking file end w
@@ -98,7 +96,6 @@ module _ {file : List ℕ} {end : ℕ} where
         seen = s;
         rest = ap (chunksFrom end file end) (sym e);
         enough = omega arith;
-        near = omega arith;
       }
 
   pub walk-goes-on : {w r : Walk} → Walking file end w → w .at + 8 ≤ end → Stepped end w (chunkAt file (w .at)) r → Walking file end r
@@ -116,7 +113,6 @@ module _ {file : List ℕ} {end : ℕ} where
                 ∙ ap (λ (l : List Chunk). p .cs ++ l) (chunks-more file end n (w .at) h ∙ ap (λ (at : ℕ). chunkAt file (w .at) ∷ chunksFrom n file end at) (sym (s .at)))
                 ∙ sym (append-snoc (p .cs) (chunkAt file (w .at)) (chunksFrom n file end (r .at)));
             enough = omega (arith, s .at);
-            near = omega (arith, s .at, s .small);
           }
 
   pub walk-ends : {w : Walk} → Walking file end w → end < w .at + 8 → Seen end (chunks file end) w

@@ -3,6 +3,7 @@ ghost use mathlib.Core.Path.{_≡_};
 ghost use mathlib.Core.Bool.{false};
 ghost use mathlib.Core.List.{[]};
 ghost use Prim.Native.Nat.{ℕ, _+_, _*_, _^_, _≤_, _<_};
+ghost use lib.Dec.{leb};
 ghost use lib.ListN.{length};
 ghost use lib.Seq.{sets};
 ghost use Rattle.riff.specs.Riff.{numberAt, bytesOf, chunkAt, chunks};
@@ -107,6 +108,16 @@ fn first(found: Found, wanted: u32, at: usize, name: u32, size: u32) -> Found
     }
 }
 
+// The walk goes on: at least eight bytes are left before the end.
+pub fn goes_on(w: Walk, end: usize) -> bool
+    ensures { λ r. ⌜ r ≡ leb (w .at + 8) end ⌝ }
+{
+    if end < 8 {
+        return false;
+    }
+    w.at <= end - 8
+}
+
 // A step of the walk to an end: `name` and `size` are the eight bytes at its place.
 pub fn step(w: Walk, end: usize, name: u32, size: u32) -> Walk
     requires { ⌜ (w .at + 8 ≤ end) × (end < 2 ^ 63) ⌝ }
@@ -139,7 +150,7 @@ pub fn walked(bytes: &[u8], end: usize) -> Walk
     ensures { λ r. ⌜ Seen end (chunks (now (bytes .entry)) end) r ⌝ }
 {
     let mut w = begin();
-    while w.at + 8 <= end {
+    while goes_on(w, end) {
         w = step_in(bytes, w, end);
     }
     w

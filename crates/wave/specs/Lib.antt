@@ -3,3 +3,4 @@ pub mod Rates
 pub mod Samples
 pub mod Judging
 pub mod Ones
+pub mod Pieces

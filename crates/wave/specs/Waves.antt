@@ -1,5 +1,4 @@
--- RIFF WAVE takes, in the words of change request K4: PCM, one channel, 16 bits, 44,100 or 48,000 samples a second; when a file is refused, what a take's samples are,
--- the canonical form, and what reading and writing promise. Definitions only.
+-- RIFF WAVE files, in the words of change request K4: PCM, one channel, 16 bits, 44,100 or 48,000 samples a second. When a file is refused, what its take is, and what reading promises. Definitions only.
 use mathlib.Core.Path.{_≡_}
 use mathlib.Core.Bool.{Bool, true, false, not, cond, _&&_, _||_}
 use mathlib.Core.List.{List, [], _∷_, _++_}
@@ -9,7 +8,7 @@ use lib.Dec.{leb, ltb, eqb}
 use lib.IntN.{ℤ, pos, negsuc}
 use lib.ListN.{length, drop}
 use Rattle.whole.specs.Numbers.{listOf}
-use Rattle.riff.specs.Riff.{numberAt, bytesOf, Chunk, body, chunks, firstOf, anyPast, fmtName, dataName, refusedBy}
+use Rattle.riff.specs.Riff.{numberAt, Chunk, body, chunks, firstOf, anyPast, fmtName, dataName, refusedBy}
 use Rattle.wave.specs.declared.WaveRead.{WaveRead}
 
 -- ---- a file
@@ -48,14 +47,16 @@ dataOf file = firstOf dataName (chunksOf file)
 unfoldable pub known : ℕ → Bool
 known hertz = eqb hertz 44100 || eqb hertz 48000
 
--- the fields from a place on: tag 1, channels 1; sample rate and bytes a second; block 2, bits 16
+-- the fields of a fmt whose body begins at a place: tag, channels, sample rate, bytes a second, block, bits
+-- tag 1, channels 1, block 2, bits 16
 unfoldable pub plain : List ℕ → ℕ → Bool
 plain file at = eqb (numberAt file at 2) 1 && eqb (numberAt file (at + 2) 2) 1 && eqb (numberAt file (at + 12) 2) 2 && eqb (numberAt file (at + 14) 2) 16
 
+-- the sample rate
 abbrev pub rateAt : List ℕ → ℕ → ℕ
 rateAt file at = numberAt file (at + 4) 4
 
--- bytes a second are twice the rate
+-- the rate is known, and bytes a second are twice the rate
 unfoldable pub fieldsRight : List ℕ → ℕ → Bool
 fieldsRight file at = plain file at && known (rateAt file at) && eqb (numberAt file (at + 8) 4) (2 * rateAt file at)
 
@@ -89,7 +90,7 @@ noData (some d) = false
 abbrev pub runsPast : List ℕ → Bool
 runsPast file = anyPast (riffEnd file) (chunksOf file) || ltb (length file) (riffEnd file)
 
--- all of them are judged over one whole walk
+-- what each number says of a file; 21 to 24 are judged over one whole walk
 unfoldable pub tests : List ℕ → List (ℕ × Bool)
 tests file =
     (20, not (isWave file))

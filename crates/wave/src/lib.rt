@@ -69,15 +69,17 @@ pub fn rate(bytes: &[u8], at: usize) -> u32
 
 // A fmt was found, and at least 16 bytes of it lie before the end.
 pub fn is_whole(fmt: Found, end: usize) -> bool
-    requires { ⌜ fmt .at < 2 ^ 63 ⌝ }
     ensures { λ r. ⌜ r ≡ wholeFmt fmt end ⌝ }
 {
-    fmt.ok & (16 <= fmt.size) & (fmt.at + 8 + 16 <= end)
+    if end < 24 {
+        return false;
+    }
+    fmt.ok & (16 <= fmt.size) & (fmt.at <= end - 24)
 }
 
 // The sample rate of the fmt that was found; 0 where it is not taken.
 pub fn rate_of(bytes: &[u8], fmt: Found, end: usize) -> u32
-    requires { ⌜ (end ≤ length (now bytes)) × (fmt .at < 2 ^ 63) ⌝ }
+    requires { ⌜ end ≤ length (now bytes) ⌝ }
     ensures { λ r. ⌜ r ≡ fmtRate (now (bytes .entry)) end fmt ⌝ }
 {
     let at = fmt.at;
@@ -117,7 +119,7 @@ pub fn judge(w: Walk, hertz: u32, riff_end: usize, length: usize) -> u32
 }
 
 // The less of two places.
-fn least(a: usize, b: usize) -> usize
+pub fn least(a: usize, b: usize) -> usize
     ensures { λ r. ⌜ r ≡ min a b ⌝ }
 {
     if b < a {

@@ -1,9 +1,9 @@
 -- What a test that was made says, and the parts of a test that held.
 use mathlib.Core.Path.{_≡_, refl, subst, sym, _∙_}
 use mathlib.Core.Bool.{Bool, true, false, not, cond, _&&_, _||_}
-use Prim.Native.Nat.{ℕ, zero, suc, _≤_}
+use Prim.Native.Nat.{ℕ, zero, suc, _+_, _-_, _≤_}
 use native.Mathlib.Omega.{arith}
-use borrow.Author.Tests.{not-true, not-false, leb-true, leb-false, eqb-true, eqb-false}
+use borrow.Author.Tests.{not-true, not-false, le-leb, lt-leb, leb-true, leb-false, eqb-true, eqb-false}
 use lib.Dec.{T, leb, eqb}
 
 -- by how a test came out
@@ -62,6 +62,13 @@ decides-le a b = record { yes = leb-true a b; no = λ e p. let q = leb-false a b
 
 pub decides-eq : (a b : ℕ) → Decides (eqb a b) (a ≡ b)
 decides-eq a b = record { yes = eqb-true a b; no = eqb-false a b }
+
+-- with what is taken away on the one side added on the other
+pub leb-sub : (a k n : ℕ) → k ≤ n → leb a (n - k) ≡ leb (a + k) n
+leb-sub a k n h =
+    by (leb (a + k) n)
+    (λ e. le-leb a (n - k) (omega (arith, leb-true (a + k) n e)) ∙ sym e)
+    (λ e. lt-leb a (n - k) (omega (arith, leb-false (a + k) n e)) ∙ sym e)
 
 module _ {b : Bool} {P : Type 0} (d : Decides b P) where
   -- after a test `!b`: where it failed, and where it held

@@ -31,7 +31,6 @@ returns c =
     let q = c .before .before in
     let a = q .before .before .before .args in
     record {
-      small = q .before .before .before .fits .size .fits;
       at = refl;
       seen = seen-more (record { at = a .w .at; name = a .name; size = a .size }) (q .first .ensures) (c .before .first2 .ensures) refl;
     }

@@ -61,11 +61,7 @@ walked-requires : tie.Need-walked-requires
 walked-requires c κs = search needs
 
 rate-of-requires : tie.Need-rate-of-requires
-rate-of-requires c κs =
-    let q = c .before .before in
-    let a = q .before .before .before .before .before .before in
-    let n = seen-near (a .args .bytes .now) (q .walked .ensures) in
-    (omega (arith, q .before .least .ensures), omega (arith, n .0, q .before .least .ensures, a .good))
+rate-of-requires c κs = omega (arith, c .before .before .before .least .ensures)
 
 judge-requires : tie.Need-judge-requires
 judge-requires c κs = search needs

@@ -2,7 +2,7 @@
 -- Assumes nothing.
 use mathlib.Core.Path.{sym, _∙_}
 use mathlib.Core.Bool.{_&&_}
-use Prim.Native.Nat.{_+_}
+use Prim.Native.Nat.{_+_, _≤_}
 use native.Mathlib.Omega.{arith}
 use borrow.Author.Tests.{not-true, not-false, leb-true}
 use lib.Dec.{leb}
@@ -11,6 +11,12 @@ use borrow.Author.Needs.{needs}
 use Rattle.wave.proofs.rate_of.Statement.{statement}
 use Rattle.wave.proofs.rate_of.Tie as tie
 
+-- its 16 bytes lie before the end
+inside : (c : tie.Else1) → c .before .before .before .args .fmt .at + 8 + 16 ≤ c .before .before .before .args .end
+inside c =
+    let a = c .before .before .before .args in
+    leb-true (a .fmt .at + 8 + 16) (a .end) (and-right (a .fmt .ok && leb 16 (a .fmt .size)) (leb (a .fmt .at + 8 + 16) (a .end)) (sym (c .before .is-whole .ensures) ∙ not-false _ (c .if1 .left)))
+
 is-whole-requires : tie.Need-is-whole-requires
 is-whole-requires c κs = search needs
 
@@ -18,13 +24,10 @@ returns : tie.Need-returns
 returns c = let e = sym (c .before .is-whole .ensures) ∙ not-true _ (c .if1 .taken) in rw e
 
 add-rate : tie.Need-add-rate
-add-rate c = search needs
+add-rate c = omega (arith, inside c)
 
 rate-requires : tie.Need-rate-requires
-rate-requires c κs =
-    let a = c .before .before .before in
-    let e = sym (c .before .is-whole .ensures) ∙ not-false _ (c .if1 .left) in
-    omega (arith, a .pre .0, leb-true (a .args .fmt .at + 8 + 16) (a .args .end) (and-right (a .args .fmt .ok && leb 16 (a .args .fmt .size)) (leb (a .args .fmt .at + 8 + 16) (a .args .end)) e))
+rate-requires c κs = omega (arith, inside c, c .before .before .before .pre)
 
 returns-2 : tie.Need-returns-2
 returns-2 c = let e = sym (c .before .before .is-whole .ensures) ∙ not-false _ (c .before .if1 .left) in c .rate .ensures ∙ sym (rw e)
