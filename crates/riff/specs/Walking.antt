@@ -1,6 +1,6 @@
 -- What a walk has seen so far, step by step, and that in the end it has seen all chunks.
 use mathlib.Core.Path.{_≡_, refl, sym, ap, _∙_, subst}
-use mathlib.Core.Bool.{Bool, true, false, cond, _||_, or-assoc, or-false}
+use mathlib.Core.Bool.{Bool, true, false, not, cond, _||_, or-assoc, or-false}
 use mathlib.Core.List.{List, [], _∷_, _++_, append-nil}
 use mathlib.Core.Option.{Option, none, some}
 use Prim.Native.Nat.{ℕ, zero, suc, _+_, _*_, _%_, _^_, _≤_, _<_}
@@ -25,7 +25,7 @@ foundOf (some c) = foundAt c
 
 -- the first chunk of a name stays, after one chunk more
 abbrev pub foundFirst : Found → ℕ → Chunk → Found
-foundFirst f name c = cond (f .ok) f (cond (eqb (c .name) name) (foundAt c) f)
+foundFirst f name c = cond (f .ok || not (eqb (c .name) name)) f (foundAt c)
 
 -- a walk to an end has seen these chunks
 pub record Seen (end : ℕ) (cs : List Chunk) (w : Walk) : Type 0 where
@@ -44,7 +44,7 @@ module _ (name : ℕ) (c : Chunk) where
   unfolding firstOf
   found-more [] = by-name (eqb (c .name) name)
     where
-      by-name : (t : Bool) → foundOf (cond t (some c) none) ≡ cond t (foundAt c) (foundOf none)
+      by-name : (t : Bool) → foundOf (cond t (some c) none) ≡ cond (not t) (foundOf none) (foundAt c)
       by-name true = refl
       by-name false = refl
   found-more (d ∷ cs) = by-name (firstOf name (cs ++ (c ∷ []))) (firstOf name cs) (eqb (d .name) name) (found-more cs)

@@ -48,7 +48,9 @@ pub fn four(bytes: &[u8], at: usize) -> u32
     requires { ⌜ at + 4 ≤ length (now bytes) ⌝ }
     ensures { λ r. ⌜ r ≡ numberAt (now (bytes .entry)) at 4 ⌝ }
 {
-    two(bytes, at) + 65536 * two(bytes, at + 2)
+    let low = two(bytes, at);
+    let high = two(bytes, at + 2);
+    low + 65536 * high
 }
 
 // Two bytes of a number, the least first, at a place.
@@ -95,10 +97,7 @@ pub fn begin() -> Walk
 fn first(found: Found, wanted: u32, at: usize, name: u32, size: u32) -> Found
     ensures { λ r. ⌜ r ≡ foundFirst found wanted (record { at = at; name = name; size = size }) ⌝ }
 {
-    if found.ok {
-        return found;
-    }
-    if name != wanted {
+    if found.ok | (name != wanted) {
         return found;
     }
     Found {

@@ -44,6 +44,30 @@ judged w hertz riffEnd length =
     ∷ (24, w .past || ltb length riffEnd)
     ∷ [])
 
+-- which of them is answered
+module _ (w : Walk) (hertz riff n : ℕ) where
+  pub judged-21 : noFmtFound (w .fmt) (w .data) ≡ true → judged w hertz riff n ≡ 21
+  unfolding refusedBy
+  judged-21 a = rw a
+
+  module _ (a : noFmtFound (w .fmt) (w .data) ≡ false) where
+    pub judged-22 : eqb hertz 0 || eqb (w .data .size % 2) 1 ≡ true → judged w hertz riff n ≡ 22
+    unfolding refusedBy
+    judged-22 b = rw (a, b)
+
+    module _ (b : eqb hertz 0 || eqb (w .data .size % 2) 1 ≡ false) where
+      pub judged-23 : not (w .data .ok) ≡ true → judged w hertz riff n ≡ 23
+      unfolding refusedBy
+      judged-23 d = rw (a, b, d)
+
+      pub judged-24 : not (w .data .ok) ≡ false → w .past || ltb n riff ≡ true → judged w hertz riff n ≡ 24
+      unfolding refusedBy
+      judged-24 d p = rw (a, b, d, p)
+
+      pub judged-0 : not (w .data .ok) ≡ false → w .past || ltb n riff ≡ false → judged w hertz riff n ≡ 0
+      unfolding refusedBy
+      judged-0 d p = rw (a, b, d, p)
+
 -- the take in a file, or why there is none
 pub data TakeIn (file : List ℕ) (t : WaveTake) : Type 0 where
   no-take : (refusal file ≡ 0 → ⊥) → t ≡ record { number = refusal file; hertz = 0; at = 0; count = 0 } → TakeIn file t

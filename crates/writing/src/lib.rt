@@ -43,7 +43,7 @@ fn put_format(out: &mut [u8], at: usize, hertz: u32)
 
 // The canonical header before so many bytes of samples.
 pub fn put_header(out: &mut [u8], hertz: u32, size: u32)
-    requires { ⌜ (44 ≤ length (now out)) × (hertz < 2 ^ 31) × (36 + size < 2 ^ 32) ⌝ }
+    requires { ⌜ (44 ≤ length (now out)) × (hertz < 2 ^ 31) × (44 + size < 2 ^ 32) ⌝ }
     ensures { λ r. ⌜ now (out .exit) ≡ sets (now (out .entry)) 0 (header hertz size) ⌝ }
 {
     riff::put_four(out, 0, wave::RIFF);

@@ -1,18 +1,16 @@
--- `riff::first` meets its contract: the branches are the definition's.
+-- `riff::first` meets its contract: the test is the definition's.
 -- Assumes nothing.
-use borrow.Author.Tests.{eq-eqb, ne-eqb}
+use mathlib.Core.Path.{sym}
+use Rattle.whole.specs.Tests.{cond-yes, cond-no}
 use borrow.Author.Needs.{needs}
 use Rattle.riff.proofs.first.Statement.{statement}
 use Rattle.riff.proofs.first.Tie as tie
 
 returns : tie.Need-returns
-returns c = simp (c .if1 .taken)
+returns c = sym (cond-yes (c .before .before .args .found) _ (c .if1 .taken))
 
 returns-2 : tie.Need-returns-2
-returns-2 c = simp (c .before .if1 .left, ne-eqb _ _ (c .if2 .taken))
-
-returns-3 : tie.Need-returns-3
-returns-3 c = simp (c .before .if1 .left, eq-eqb _ _ (c .if2 .left))
+returns-2 c = sym (cond-no (c .before .before .args .found) _ (c .if1 .left))
 
 pub first-spec : {M : Type 1} → statement M
-first-spec = tie.close (tie.spec returns returns-2 returns-3)
+first-spec = tie.close (tie.spec returns returns-2)
