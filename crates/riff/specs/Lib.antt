@@ -1,4 +1,5 @@
 pub mod Riff
+pub mod Stores
 pub mod Numbers
 pub mod Chunks
 pub mod Walking

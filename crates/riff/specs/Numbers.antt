@@ -1,12 +1,14 @@
 -- Laws of numbers in bytes: how two and four bytes are read and stored, and that what is stored is read back.
 use mathlib.Core.Path.{_≡_, refl, sym, ap, _∙_}
-use mathlib.Core.List.{List, [], _∷_, _++_}
+use mathlib.Core.Logic.{_⊎_, inl, inr, ⊎-elim}
+use mathlib.Core.List.{List, [], _∷_, _++_, append-assoc}
 use Prim.Native.Nat.{ℕ, zero, suc, _+_, _*_, _/_, _%_, _^_, _≤_, _<_}
 use native.Mathlib.Nat.{pow-suc}
 use native.Mathlib.Omega.{arith}
 use lib.ListN.{length, getD, take, drop, set}
-use lib.Seq.{sets, sets-eq, length-sets, getD-append-add, getD-take, getD-drop}
+use lib.Seq.{sets, sets-eq, length-take-le, getD-append-add, getD-take, getD-drop}
 use Rattle.riff.specs.Riff.{numberAt, bytesOf}
+use Rattle.riff.specs.Stores.{sets-more, Outside, outside-stays}
 
 -- ---- read
 module _ (b : List ℕ) (at : ℕ) where
@@ -23,22 +25,6 @@ module _ (b : List ℕ) (at : ℕ) where
       ap (λ (n : ℕ). getD b at 0 + 256 * (getD b (suc at) 0 + 256 * (getD b n 0 + 256 * (getD b (suc n) 0 + 256 * 0)))) e ∙ omega arith
 
 -- ---- stored
-module _ {A : Type 0} where
-  -- a run of stores, and another behind it
-  pub sets-more : (l : List A) (i : ℕ) (vs us : List A) → sets (sets l i vs) (i + length vs) us ≡ sets l i (vs ++ us)
-  sets-more l i [] us = let e : i + 0 ≡ i = omega arith in ap (λ (n : ℕ). sets l n us) e
-  sets-more l i (v ∷ vs) us = let e : i + suc (length vs) ≡ suc i + length vs = omega arith in ap (λ (n : ℕ). sets (sets (set l i v) (suc i) vs) n us) e ∙ sets-more (set l i v) (suc i) vs us
-
-  pub stored-then : (l : List A) {l′ l″ : List A} (at n : ℕ) (vs us : List A) → length vs ≡ n → l′ ≡ sets l at vs → l″ ≡ sets l′ (at + n) us → l″ ≡ sets l at (vs ++ us)
-  stored-then l at n vs us e p q = q ∙ (λ i. sets (p i) (at + sym e i) us) ∙ sets-more l at vs us
-
-  pub stored-length : (l : List A) {l′ : List A} (at : ℕ) (vs : List A) → l′ ≡ sets l at vs → length l′ ≡ length l
-  stored-length l at vs p = ap length p ∙ length-sets l at vs
-
-  -- at the front
-  pub sets-front : (l vs : List A) → length vs ≤ length l → sets l 0 vs ≡ vs ++ drop (length vs) l
-  sets-front l vs h = let e : 0 + length vs ≡ length vs = omega arith in sets-eq vs l 0 (omega arith) ∙ ap (λ (n : ℕ). vs ++ drop n l) e
-
 pub two-stored : (l : List ℕ) (at n : ℕ) → set (set l at (n % 256)) (at + 1) (n / 256 % 256) ≡ sets l at (bytesOf 2 n)
 unfolding bytesOf
 two-stored l at n = let e : at + 1 ≡ suc at = omega arith in ap (λ (k : ℕ). set (set l at (n % 256)) k (n / 256 % 256)) e
@@ -69,6 +55,26 @@ number-back zero n q h = omega arith
 number-back (suc k) n q h =
     let r = number-behind (n % 256 ∷ []) (bytesOf k (n / 256) ++ q) 0 k ∙ number-back k (n / 256) q (omega (arith, pow-suc 256 k)) in
     ap (λ (m : ℕ). n % 256 + 256 * m) r ∙ omega arith
+
+-- ---- after a run of stores: one that lies outside it, and the one that was stored
+pub number-outside : (l : List ℕ) (i : ℕ) (vs : List ℕ) (at k : ℕ) → Outside i (length vs) at k → numberAt (sets l i vs) at k ≡ numberAt l at k
+unfolding numberAt
+number-outside l i vs at zero o = refl
+number-outside l i vs at (suc k) o =
+    let r = number-outside l i vs (suc at) k (⊎-elim (λ h. inl (omega arith)) (λ h. inr (omega arith)) o) in
+    let g = outside-stays l i vs at 0 (⊎-elim (λ h. inl (omega arith)) (λ h. inr (omega arith)) o) in
+    λ j. g j + 256 * r j
+
+pub number-stored : (l : List ℕ) (i k n : ℕ) → i + k ≤ length l → n < 256 ^ k → numberAt (sets l i (bytesOf k n)) i k ≡ n
+number-stored l i k n h s =
+    let b = bytesOf k n in
+    let m = length-bytesOf k n in
+    let p = length-take-le i l (omega arith) in
+    let e : length (take i l) + 0 ≡ i = omega (arith, p) in
+    ap (λ (f : List ℕ). numberAt f i k) (sets-eq b l i (omega (arith, m)) ∙ append-assoc (take i l) b (drop (i + length b) l))
+    ∙ ap (λ (at : ℕ). numberAt (take i l ++ (b ++ drop (i + length b) l)) at k) (sym e)
+    ∙ number-behind (take i l) (b ++ drop (i + length b) l) 0 k
+    ∙ number-back k n (drop (i + length b) l) s
 
 -- ---- a piece of a file that was read by itself: its numbers are the file's
 pub number-part : (file : List ℕ) (at m i k : ℕ) → i + k ≤ m → numberAt (take m (drop at file)) i k ≡ numberAt file (at + i) k

@@ -17,7 +17,7 @@ use Rattle.whole.specs.Bounds.{subℕ-lt, pos-minus-pos}
 use Rattle.whole.specs.Tests.{cond-case}
 use Rattle.whole.specs.Words.{Bits}
 use Rattle.riff.specs.Riff.{numberAt}
-use Rattle.riff.specs.Numbers.{stored-then, sets-front}
+use Rattle.riff.specs.Stores.{stored-then, sets-front}
 use Rattle.wave.specs.Waves.{sampleOf, samplesAt, over}
 
 -- ---- bits as a sample

@@ -13,7 +13,8 @@ use mir.Syntax.{w16, w32}
 use mir.Val.{SFits, Fits}
 use Rattle.whole.specs.Bounds.{subℕ-ge}
 use Rattle.riff.specs.Riff.{bytesOf}
-use Rattle.riff.specs.Numbers.{stored-then, length-bytesOf}
+use Rattle.riff.specs.Stores.{stored-then}
+use Rattle.riff.specs.Numbers.{length-bytesOf}
 use Rattle.wave.specs.Waves.{sampleOf}
 use Rattle.wave.specs.Samples.{sample-low, sample-high}
 use Rattle.writing.specs.Canonical.{bitsOf, sampleBytes}

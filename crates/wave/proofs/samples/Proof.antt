@@ -11,7 +11,7 @@ use mir.Syntax.{w16}
 use mir.Val.{SFits}
 use mir.Facts.{toZ-ofZ}
 use Rattle.riff.specs.Riff.{numberAt}
-use Rattle.riff.specs.Numbers.{stored-length}
+use Rattle.riff.specs.Stores.{stored-length}
 use Rattle.whole.specs.Numbers.{listOf}
 use Rattle.wave.specs.Waves.{sampleOf, samplesAt}
 use Rattle.wave.specs.Samples.{sample-fits, samples-more, samples-front}

@@ -4,7 +4,7 @@ use mathlib.Core.Path.{refl}
 use mathlib.Core.List.{_++_}
 use Prim.Native.Nat.{_*_}
 use Rattle.riff.specs.Riff.{bytesOf}
-use Rattle.riff.specs.Numbers.{stored-then}
+use Rattle.riff.specs.Stores.{stored-then}
 use Rattle.writing.specs.Canonical.{format}
 use borrow.Author.Needs.{needs}
 use Rattle.writing.proofs.put_format.Statement.{statement}

@@ -4,7 +4,7 @@ use mathlib.Core.Path.{refl}
 use mathlib.Core.List.{_++_}
 use Prim.Native.Nat.{_+_}
 use Rattle.riff.specs.Riff.{numberAt, bytesOf, fmtName, dataName}
-use Rattle.riff.specs.Numbers.{stored-then}
+use Rattle.riff.specs.Stores.{stored-then}
 use Rattle.wave.specs.Waves.{riffName, waveName}
 use Rattle.writing.specs.Canonical.{format, header}
 use borrow.Author.Needs.{needs}

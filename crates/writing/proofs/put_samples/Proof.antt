@@ -12,7 +12,7 @@ use mir.Syntax.{w16}
 use mir.Facts.{toZ-ofZ}
 use borrow.Author.Needs.{sfits-of}
 use Rattle.riff.specs.Riff.{bytesOf}
-use Rattle.riff.specs.Numbers.{stored-length}
+use Rattle.riff.specs.Stores.{stored-length}
 use Rattle.writing.specs.Canonical.{bitsOf, sampleBytes}
 use Rattle.writing.specs.Bits.{bytes-put}
 use Rattle.writing.proofs.put_samples.Statement.{statement}

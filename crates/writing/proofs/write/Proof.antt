@@ -4,7 +4,7 @@ use mathlib.Core.Path.{_≡_, refl, sym, _∙_}
 use mathlib.Core.Bool.{true}
 use lib.ListN.{length}
 use Prim.Native.Nat.{_*_}
-use Rattle.riff.specs.Numbers.{stored-then, sets-front}
+use Rattle.riff.specs.Stores.{stored-then, sets-front}
 use Rattle.wave.specs.Waves.{known}
 use Rattle.writing.specs.Canonical.{sampleBytes, header, canonical, written}
 use native.Mathlib.Omega.{arith}
