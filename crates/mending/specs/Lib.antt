@@ -1,2 +1,3 @@
 pub mod Mendings
 pub mod Deciding
+pub mod Twice

@@ -92,8 +92,10 @@ fn both_sizes(data: Found, riff: u32, length: usize) -> Mending
     requires { ⌜ («data» .at + 8 ≤ length) × (length < 2 ^ 31) ⌝ }
     ensures { λ r. ⌜ r ≡ sizesOf length riff («data» .at) («data» .size) ⌝ }
 {
-    let from = data.at + 8;
-    let size = data_size(data.size, from, length);
+    let at = data.at;
+    let old = data.size;
+    let from = at + 8;
+    let size = data_size(old, from, length);
     let end = from + size as usize;
     Mending {
         number: 0,
@@ -103,8 +105,8 @@ fn both_sizes(data: Found, riff: u32, length: usize) -> Mending
             new: riff_size(riff, end, length),
         },
         data: Size {
-            at: data.at + 4,
-            old: data.size,
+            at: at + 4,
+            old: old,
             new: size,
         },
     }

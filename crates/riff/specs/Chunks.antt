@@ -10,6 +10,16 @@ use lib.Dec.{leb, ltb, eqb}
 use Rattle.whole.specs.Tests.{by, neither}
 use Rattle.riff.specs.Riff.{Chunk, chunkAt, body, behind, next, chunksFrom, firstOf, anyPast}
 
+-- the chunk at the head, or one behind it
+module _ (name : ℕ) (c : Chunk) (cs : List Chunk) where
+  pub first-here : eqb (c .name) name ≡ true → firstOf name (c ∷ cs) ≡ some c
+  unfolding firstOf
+  first-here e = rw e
+
+  pub first-later : eqb (c .name) name ≡ false → firstOf name (c ∷ cs) ≡ firstOf name cs
+  unfolding firstOf
+  first-later e = rw e
+
 -- it stands at the walk's place or behind it, and its eight bytes lie before the end
 pub record Before (end at : ℕ) (c : Chunk) : Type 0 where
   pub from : at ≤ c .at

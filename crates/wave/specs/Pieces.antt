@@ -29,15 +29,18 @@ head-piece file = by-length (decLe 12 (length file))
         λ i. l i && eqb (n 0 4 (omega arith) i) riffName && eqb (n 8 4 (omega arith) i) waveName
     by-length (no n) = ap isWave (take-all 12 file (omega arith))
 
-pub fields-piece : (file : List ℕ) (at : ℕ) → fieldsRight (take 16 (drop at file)) 0 ≡ fieldsRight file at
+-- the fields of a fmt are the same where their bytes are
+pub fields-same : (a b : List ℕ) (p q : ℕ) → ((i k : ℕ) → i + k ≤ 16 → numberAt a (p + i) k ≡ numberAt b (q + i) k) → fieldsRight a p ≡ fieldsRight b q
 unfolding fieldsRight plain
-fields-piece file at =
-    let n = number-part file at 16 in
-    let z = ap (λ (k : ℕ). numberAt file k 2) (add-zero at) in
+fields-same a b p q n =
+    let tag = ap (λ (m : ℕ). numberAt a m 2) (sym (add-zero p)) ∙ n 0 2 (omega arith) ∙ ap (λ (m : ℕ). numberAt b m 2) (add-zero q) in
     let h = n 4 4 (omega arith) in
-    λ i.
-    eqb ((n 0 2 (omega arith) ∙ z) i) 1 && eqb (n 2 2 (omega arith) i) 1 && eqb (n 12 2 (omega arith) i) 2 && eqb (n 14 2 (omega arith) i) 16
-    && known (h i) && eqb (n 8 4 (omega arith) i) (2 * h i)
+    λ i. eqb (tag i) 1 && eqb (n 2 2 (omega arith) i) 1 && eqb (n 12 2 (omega arith) i) 2 && eqb (n 14 2 (omega arith) i) 16 && known (h i) && eqb (n 8 4 (omega arith) i) (2 * h i)
+
+pub fields-piece : (file : List ℕ) (at : ℕ) → fieldsRight (take 16 (drop at file)) 0 ≡ fieldsRight file at
+fields-piece file at =
+    fields-same (take 16 (drop at file)) file 0 at
+    (λ i k h. let e : 0 + i ≡ i = omega arith in ap (λ (n : ℕ). numberAt (take 16 (drop at file)) n k) e ∙ number-part file at 16 i k h)
 
 pub samples-piece : (file : List ℕ) (at count : ℕ) → samplesAt (take (2 * count) (drop at file)) 0 count ≡ samplesAt file at count
 samples-piece file at count =

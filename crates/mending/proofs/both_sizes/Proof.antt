@@ -22,17 +22,17 @@ add-end c = search needs
 riff-size-requires : tie.Need-riff-size-requires
 riff-size-requires c κs = search needs
 
-add-t7 : tie.Need-add-t7
-add-t7 c = search needs
+add-t9 : tie.Need-add-t9
+add-t9 c = search needs
 
 returns : tie.Need-returns
 returns c =
-    let d = c .before .before in
-    let a = d .before .before .args in
-    let r = c .before .riff-size .ensures ∙ ap (λ (n : ℕ). riffSize (a .length) (a .riff) (a .data .at + 8 + n)) (d .data-size .ensures .0) in
+    let d = c .before in
+    let a = d .before .args in
+    let r = c .riff-size .ensures ∙ ap (λ (n : ℕ). riffSize (a .length) (a .riff) (a .data .at + 8 + n)) (d .data-size .ensures .0) in
     λ i. record { number = 0; riff = record { at = 4; old = a .riff; new = r i }; «data» = record { at = a .data .at + 4; old = a .data .size; new = d .data-size .ensures .0 i } }
 
 pub both-sizes-spec : {M : Type 1} → statement M
 both-sizes-spec =
     tie.close
-    (tie.spec add-from data-size-requires cast-end add-end riff-size-requires add-t7 returns)
+    (tie.spec add-from data-size-requires cast-end add-end riff-size-requires add-t9 returns)
