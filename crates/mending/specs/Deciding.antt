@@ -1,19 +1,17 @@
 -- What a whole walk to the file's end decides, over what was found: that it is what the definition says of the file.
-use mathlib.Core.Path.{_≡_, refl, sym, ap, _∙_, subst}
+use mathlib.Core.Path.{_≡_, refl, sym, ap, _∙_}
 use mathlib.Core.Bool.{Bool, true, false, not, cond, _&&_, _||_}
 use mathlib.Core.List.{List, [], _∷_}
 use mathlib.Core.Option.{Option, none, some}
-use Prim.Native.Nat.{ℕ, _+_, _≤_, _<_}
-use native.Mathlib.Omega.{arith}
+use Prim.Native.Nat.{ℕ, _+_}
 use borrow.Author.Tests.{le-leb}
 use lib.Dec.{leb, ltb, eqb}
 use lib.ListN.{length}
-use Rattle.whole.specs.Tests.{by}
 use Rattle.riff.specs.declared.Found.{Found}
 use Rattle.riff.specs.declared.Walk.{Walk}
-use Rattle.riff.specs.Riff.{numberAt, Chunk, chunks, firstOf, dataName, refusedBy}
+use Rattle.riff.specs.Riff.{numberAt, Chunk, chunks, dataName, refusedBy}
 use Rattle.riff.specs.Chunks.{first-before}
-use Rattle.riff.specs.Walking.{foundAt, foundOf, Seen}
+use Rattle.riff.specs.Walking.{foundOf, Seen}
 use Rattle.wave.specs.Waves.{isWave, noFmt, wrongFmt, noData}
 use Rattle.wave.specs.Judging.{fmtRate, noFmtFound, wrong-is}
 use Rattle.mending.specs.declared.Mending.{Mending}

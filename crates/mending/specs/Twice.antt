@@ -1,27 +1,26 @@
 -- Mending changes no byte but the two sizes' eight, and mending twice changes nothing more:
 -- the walk over the mended file comes by the same chunks as far as the data, and each new size is its own mending.
 use mathlib.Core.Path.{_≡_, refl, sym, ap, _∙_, subst}
-use mathlib.Core.Logic.{_⊎_, inl, inr}
+use mathlib.Core.Logic.{inl, inr}
 use mathlib.Core.Bool.{Bool, true, false, not, cond, _&&_, _||_}
-use mathlib.Core.List.{List, [], _∷_}
+use mathlib.Core.List.{List, _∷_}
 use mathlib.Core.Option.{Option, none, some, Option·some-injective, Option·some-ne-none}
-use Prim.Native.Nat.{ℕ, zero, suc, _+_, _-_, _*_, _%_, _^_, _≤_, _<_}
+use Prim.Native.Nat.{ℕ, zero, suc, _+_, _-_, _%_, _≤_, _<_}
 use native.Mathlib.Omega.{arith}
 use borrow.Author.Tests.{leb-true, leb-false, ltb-false, eqb-true, not-false}
 use lib.Dec.{leb, ltb, eqb}
 use lib.ListN.{length, getD}
 use lib.Seq.{sets, length-sets}
-use Rattle.whole.specs.Tests.{by, cond-case, cond-yes, cond-no, yes-and-no, neither, and-left, and-right}
-use Rattle.riff.specs.Riff.{numberAt, bytesOf, Chunk, chunkAt, body, behind, next, chunksFrom, chunks, firstOf, fmtName, dataName, refusedBy}
+use Rattle.whole.specs.Tests.{by, cond-case, cond-no, yes-and-no, neither, and-left}
+use Rattle.riff.specs.Riff.{numberAt, bytesOf, Chunk, chunkAt, body, next, chunksFrom, chunks, firstOf, fmtName, dataName, refusedBy}
 use Rattle.riff.specs.Stores.{Outside, outside-stays, inside-stored, stored-again}
 use Rattle.riff.specs.Numbers.{length-bytesOf, number-outside, number-stored}
 use Rattle.riff.specs.Chunks.{first-here, first-later, first-before}
-use Rattle.riff.specs.Walking.{chunks-more, chunks-end}
+use Rattle.riff.specs.Walking.{chunks-more}
 use Rattle.riff.specs.Refusals.{passed}
 use Rattle.wave.specs.Waves.{riffName, waveName, isWave, fieldsRight, fmtRight, noFmt, wrongFmt, noData}
 use Rattle.wave.specs.Pieces.{fields-same}
-use Rattle.mending.specs.declared.Mending.{Mending}
-use Rattle.mending.specs.Mendings.{fmtIn, dataIn, unmended, left, dataSize, riffSize, sizesOf, noMending, mendingIn, mendingOf, mendedBy, mended}
+use Rattle.mending.specs.Mendings.{fmtIn, dataIn, unmended, left, dataSize, riffSize, sizesOf, mendingIn, mendingOf, mendedBy, mended}
 
 -- ---- a walk over two files that are the same, from place 12 on, but for the data chunk's size
 module _ (file file′ : List ℕ) (end : ℕ) (d : Chunk) (size : ℕ) (same : (at k : ℕ) → 12 ≤ at → at + k ≤ d .at + 4 → numberAt file′ at k ≡ numberAt file at k)

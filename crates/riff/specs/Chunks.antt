@@ -1,11 +1,11 @@
 -- Laws of the first chunk of a name: where a walk comes by it.
-use mathlib.Core.Path.{_≡_, refl, sym, ap, _∙_, subst}
-use mathlib.Core.Bool.{Bool, true, false, _||_}
+use mathlib.Core.Path.{_≡_, sym, ap, subst}
+use mathlib.Core.Bool.{true, false}
 use mathlib.Core.List.{List, [], _∷_}
-use mathlib.Core.Option.{Option, none, some, Option·some-injective, Option·some-ne-none}
-use Prim.Native.Nat.{ℕ, zero, suc, _+_, _≤_, _<_}
+use mathlib.Core.Option.{some, Option·some-injective, Option·some-ne-none}
+use Prim.Native.Nat.{ℕ, zero, suc, _+_, _≤_}
 use native.Mathlib.Omega.{arith}
-use borrow.Author.Tests.{leb-true, leb-false, ltb-false}
+use borrow.Author.Tests.{leb-true, ltb-false}
 use lib.Dec.{leb, ltb, eqb}
 use Rattle.whole.specs.Tests.{by, neither}
 use Rattle.riff.specs.Riff.{Chunk, chunkAt, body, behind, next, chunksFrom, firstOf, anyPast}

@@ -1,9 +1,9 @@
 -- Laws of refusals: the number answered is that of the first test that holds, and 0 says that none does.
 use mathlib.Core.Path.{_≡_, refl}
 use mathlib.Core.Logic.{_⊎_, inl, inr, ⊎-elim}
-use mathlib.Core.Bool.{Bool, true, false, cond, _&&_}
+use mathlib.Core.Bool.{Bool, true, false, _&&_}
 use mathlib.Core.List.{List, [], _∷_, _++_}
-use Prim.Native.Nat.{ℕ, suc, _≤_, _<_}
+use Prim.Native.Nat.{ℕ, suc, _<_}
 use native.Mathlib.Omega.{arith}
 use Rattle.riff.specs.Riff.{refusedBy, Applies, Least, none-applies, least}
 use Rattle.whole.specs.Tests.{by, yes-and-no, and-left, and-right}

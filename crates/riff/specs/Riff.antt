@@ -3,7 +3,7 @@
 use mathlib.Core.Path.{_≡_}
 use mathlib.Core.Logic.{_⊎_}
 use mathlib.Core.Bool.{Bool, true, false, cond, _||_}
-use mathlib.Core.List.{List, [], _∷_}
+use mathlib.Core.List.{List, [], _∷_, _++_}
 use mathlib.Core.Option.{Option, none, some}
 use Prim.Native.Nat.{ℕ, zero, suc, _+_, _*_, _/_, _%_, _≤_}
 use lib.Dec.{leb, ltb, eqb}
@@ -32,6 +32,10 @@ pub record Chunk : Type 0 where
 -- the chunk at a place: four bytes of name, four of size, then the body
 abbrev pub chunkAt : List ℕ → ℕ → Chunk
 chunkAt file at = record { at = at; name = numberAt file at 4; size = numberAt file (at + 4) 4 }
+
+-- a chunk's name and size as bytes
+abbrev pub headBytes : (name size : ℕ) → List ℕ
+headBytes name size = bytesOf 4 name ++ bytesOf 4 size
 
 -- where its body begins, and the place behind it
 abbrev pub body : Chunk → ℕ

@@ -3,17 +3,15 @@ use mathlib.Core.Path.{_≡_, refl, sym, ap, _∙_, subst}
 use mathlib.Core.Bool.{Bool, true, false, not, cond, _||_, or-assoc, or-false}
 use mathlib.Core.List.{List, [], _∷_, _++_, append-nil}
 use mathlib.Core.Option.{Option, none, some}
-use Prim.Native.Nat.{ℕ, zero, suc, _+_, _*_, _%_, _^_, _≤_, _<_}
+use Prim.Native.Nat.{ℕ, zero, suc, _+_, _*_, _≤_, _<_}
 use native.Mathlib.Omega.{arith}
 use borrow.Author.Tests.{le-leb, lt-leb}
-use lib.Dec.{leb, ltb, eqb}
-use lib.ListN.{length}
+use lib.Dec.{ltb, eqb}
 use lib.Seq.{append-snoc}
-use Rattle.whole.specs.Tests.{cond-case, cond-yes, cond-no}
 use Rattle.riff.specs.Chunks.{first-before}
 use Rattle.riff.specs.declared.Found.{Found}
 use Rattle.riff.specs.declared.Walk.{Walk}
-use Rattle.riff.specs.Riff.{Chunk, chunkAt, body, behind, next, chunksFrom, chunks, firstOf, anyPast, fmtName, dataName}
+use Rattle.riff.specs.Riff.{Chunk, chunkAt, behind, next, chunksFrom, chunks, firstOf, anyPast, fmtName, dataName}
 
 -- a chunk that was found, or none
 abbrev pub foundAt : Chunk → Found

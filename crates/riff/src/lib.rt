@@ -6,8 +6,8 @@ ghost use Prim.Native.Nat.{ℕ, _+_, _*_, _^_, _≤_, _<_};
 ghost use lib.Dec.{leb};
 ghost use lib.ListN.{length};
 ghost use lib.Seq.{sets};
-ghost use Rattle.riff.specs.Riff.{numberAt, bytesOf, chunkAt, chunks};
-ghost use Rattle.riff.specs.Walking.{foundOf, foundFirst, Seen, Stepped};
+ghost use Rattle.riff.specs.Riff.{numberAt, bytesOf, chunkAt, headBytes, chunks};
+ghost use Rattle.riff.specs.Walking.{foundFirst, Seen, Stepped};
 
 // The names "fmt " and "data".
 pub const FMT: u32 = 544501094;
@@ -69,6 +69,15 @@ pub fn put_four(out: &mut [u8], at: usize, n: u32)
 {
     put_two(out, at, n);
     put_two(out, at + 2, n / 65536);
+}
+
+// A chunk's name and size, at a place.
+pub fn put_head(out: &mut [u8], at: usize, name: u32, size: u32)
+    requires { ⌜ at + 8 ≤ length (now out) ⌝ }
+    ensures { λ r. ⌜ now (out .exit) ≡ sets (now (out .entry)) at (headBytes name size) ⌝ }
+{
+    put_four(out, at, name);
+    put_four(out, at + 4, size);
 }
 
 fn not_found() -> Found

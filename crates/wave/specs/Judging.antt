@@ -3,7 +3,7 @@ use mathlib.Core.Path.{_≡_, refl, sym, ap, _∙_, subst}
 use mathlib.Core.Bool.{Bool, true, false, not, cond, _&&_, _||_, or-true}
 use mathlib.Core.List.{List, [], _∷_}
 use mathlib.Core.Option.{Option, none, some}
-use Prim.Native.Nat.{ℕ, zero, suc, _+_, _-_, _*_, _/_, _%_, _≤_, _<_, min}
+use Prim.Native.Nat.{ℕ, _+_, _-_, _*_, _/_, _%_, _≤_, _<_, min}
 use native.Mathlib.Omega.{arith}
 use borrow.Author.Tests.{leb-true, ltb-false, le-ltb, not-false}
 use lib.Dec.{leb, ltb, eqb}
@@ -12,7 +12,7 @@ use lib.ListN.{length}
 use Rattle.whole.specs.Tests.{by, yes-and-no, and-left, and-right, neither}
 use Rattle.riff.specs.declared.Found.{Found}
 use Rattle.riff.specs.declared.Walk.{Walk}
-use Rattle.riff.specs.Riff.{numberAt, Chunk, body, chunks, firstOf, anyPast, dataName, refusedBy}
+use Rattle.riff.specs.Riff.{numberAt, Chunk, body, chunks, anyPast, dataName, refusedBy}
 use Rattle.riff.specs.Chunks.{first-inside}
 use Rattle.riff.specs.Refusals.{passed}
 use Rattle.riff.specs.Walking.{foundAt, foundOf, Seen}

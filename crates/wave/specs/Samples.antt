@@ -1,5 +1,5 @@
 -- Laws of sixteen bits as a sample, and of samples that are stored one after the other.
-use mathlib.Core.Path.{_≡_, refl, sym, ap, _∙_}
+use mathlib.Core.Path.{_≡_, sym, ap, _∙_}
 use mathlib.Core.List.{List, [], _∷_}
 use Prim.Native.Nat.{ℕ, suc, _+_, _-_, _*_, _^_, _≤_, _<_}
 use native.Mathlib.Numerals.{add-one}
@@ -10,7 +10,7 @@ use lib.IntN.{ℤ, pos, negsuc, _-ℤ_}
 use lib.ListN.{length, set}
 use lib.Seq.{sets}
 use mir.Syntax.{w16, w32}
-use mir.Val.{SFits, toZ}
+use mir.Val.{SFits}
 use Rattle.whole.specs.Numbers.{listOf}
 use Rattle.whole.specs.Lists.{length-listOf, listOf-more}
 use Rattle.whole.specs.Bounds.{subℕ-lt, pos-minus-pos}

@@ -1,6 +1,6 @@
 // Takes as RIFF WAVE files: PCM, one channel, 16 bits, 44,100 or 48,000 samples a second.
 ghost use mathlib.Core.Path.{_≡_};
-ghost use Prim.Native.Nat.{_+_, _*_, _^_, _≤_, _<_, min};
+ghost use Prim.Native.Nat.{_+_, _*_, _≤_, _<_, min};
 ghost use lib.ListN.{length};
 ghost use Rattle.wave.specs.Waves.{known, isWave, plain, sampleOf, samplesAt, over, WasRead};
 ghost use Rattle.wave.specs.Judging.{fieldsRate, wholeFmt, fmtRate, noFmtFound, judged, TakeIn};

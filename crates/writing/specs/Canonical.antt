@@ -8,7 +8,7 @@ use lib.IntN.{ℤ, pos, negsuc}
 use lib.ListN.{length, getD}
 use mir.Syntax.{w16}
 use mir.Val.{SFits}
-use Rattle.riff.specs.Riff.{bytesOf, fmtName, dataName, refusedBy}
+use Rattle.riff.specs.Riff.{bytesOf, headBytes, fmtName, dataName, refusedBy}
 use Rattle.wave.specs.Waves.{riffName, waveName, known, refusal, rateOf, countOf, samplesOf, over}
 use Rattle.writing.specs.declared.WaveWritten.{WaveWritten}
 
@@ -28,10 +28,7 @@ unfoldable pub format : (hertz : ℕ) → List ℕ
 format hertz = bytesOf 2 1 ++ bytesOf 2 1 ++ bytesOf 4 hertz ++ bytesOf 4 (2 * hertz) ++ bytesOf 2 2 ++ bytesOf 2 16
 
 unfoldable pub header : (hertz size : ℕ) → List ℕ
-header hertz size =
-    bytesOf 4 riffName ++ bytesOf 4 (36 + size) ++ bytesOf 4 waveName
-    ++ bytesOf 4 fmtName ++ bytesOf 4 16 ++ format hertz
-    ++ bytesOf 4 dataName ++ bytesOf 4 size
+header hertz size = headBytes riffName (36 + size) ++ bytesOf 4 waveName ++ headBytes fmtName 16 ++ format hertz ++ headBytes dataName size
 
 abbrev pub canonical : (hertz : ℕ) → List ℤ → List ℕ
 canonical hertz xs = header hertz (2 * length xs) ++ sampleBytes xs

@@ -1,23 +1,19 @@
 -- What is written is read back: the canonical form's chunks are fmt and data, its fields are right, and its samples are those written;
 -- and so it stays where other bytes stand behind it.
 use mathlib.Core.Path.{_≡_, refl, sym, ap, _∙_, subst}
-use mathlib.Core.Bool.{Bool, true, false, _||_}
+use mathlib.Core.Bool.{true}
 use mathlib.Core.List.{List, [], _∷_, _++_, append-assoc}
 use mathlib.Core.Option.{some}
-use Prim.Native.Nat.{ℕ, zero, suc, _+_, _-_, _*_, _/_, _%_, _^_, _≤_, _<_, min}
+use Prim.Native.Nat.{ℕ, zero, suc, _+_, _-_, _*_, _/_, _%_, _^_, _≤_, _<_}
 use native.Mathlib.Omega.{arith}
 use borrow.Author.Tests.{eq-eqb, ne-eqb, le-leb, le-ltb}
-use lib.Dec.{leb, ltb, eqb}
 use lib.IntN.{ℤ, pos}
 use lib.ListN.{length, getD, length-append}
-use mir.Syntax.{w16}
-use mir.Val.{SFits}
-use Rattle.whole.specs.Numbers.{listOf}
 use Rattle.whole.specs.Lists.{is-listOf}
-use Rattle.riff.specs.Riff.{numberAt, bytesOf, Chunk, chunkAt, next, chunksFrom, chunks, firstOf, anyPast, fmtName, dataName}
+use Rattle.riff.specs.Riff.{numberAt, bytesOf, Chunk, chunkAt, next, chunksFrom, firstOf, anyPast, fmtName, dataName}
 use Rattle.riff.specs.Numbers.{length-bytesOf, number-behind, number-back}
 use Rattle.riff.specs.Walking.{chunks-end, chunks-more}
-use Rattle.wave.specs.Waves.{riffName, waveName, isWave, riffEnd, walkEnd, chunksOf, fmtOf, dataOf, known, plain, rateAt, fieldsRight, fmtRight, refusal, rateIn, rateOf, placeIn, placeOf, countIn, countOf, sampleOf, samplesAt, samplesOf}
+use Rattle.wave.specs.Waves.{isWave, riffEnd, walkEnd, chunksOf, fmtOf, dataOf, known, plain, rateAt, fieldsRight, fmtRight, rateIn, rateOf, placeIn, placeOf, countIn, countOf, sampleOf, samplesAt}
 use Rattle.wave.specs.Rates.{known-small}
 use Rattle.wave.specs.Judging.{Right, of-right}
 use Rattle.writing.specs.Canonical.{bitsOf, sampleBytes, format, header, canonical, limit, Samples, TakeOf}

@@ -1,7 +1,7 @@
 -- Reading and then writing gives the canonical form, which is its own reading and writing again; writing and then reading gives the samples back.
-use mathlib.Core.Path.{_≡_, refl, sym, ap, _∙_, subst}
+use mathlib.Core.Path.{_≡_, sym, ap, _∙_, subst}
 use mathlib.Core.Bool.{true, not}
-use mathlib.Core.List.{List, [], _∷_, _++_, append-nil}
+use mathlib.Core.List.{List, [], append-nil}
 use Prim.Native.Nat.{ℕ, _+_, _*_, _≤_, _<_}
 use native.Mathlib.Omega.{arith}
 use native.Mathlib.Decide.{decLt}
@@ -13,7 +13,7 @@ use lib.Seq.{take-at}
 use mir.Syntax.{w16}
 use mir.Val.{SFits}
 use Rattle.whole.specs.Lists.{length-listOf, getD-listOf}
-use Rattle.riff.specs.Riff.{numberAt, refusedBy}
+use Rattle.riff.specs.Riff.{numberAt}
 use Rattle.riff.specs.Numbers.{two-is}
 use Rattle.riff.specs.Refusals.{passed}
 use Rattle.wave.specs.declared.WaveRead.{WaveRead}

@@ -46,14 +46,11 @@ pub fn put_header(out: &mut [u8], hertz: u32, size: u32)
     requires { ⌜ (44 ≤ length (now out)) × (hertz < 2 ^ 31) × (44 + size < 2 ^ 32) ⌝ }
     ensures { λ r. ⌜ now (out .exit) ≡ sets (now (out .entry)) 0 (header hertz size) ⌝ }
 {
-    riff::put_four(out, 0, wave::RIFF);
-    riff::put_four(out, 4, 36 + size);
+    riff::put_head(out, 0, wave::RIFF, 36 + size);
     riff::put_four(out, 8, wave::WAVE);
-    riff::put_four(out, 12, riff::FMT);
-    riff::put_four(out, 16, 16);
+    riff::put_head(out, 12, riff::FMT, 16);
     put_format(out, 20, hertz);
-    riff::put_four(out, 36, riff::DATA);
-    riff::put_four(out, 40, size);
+    riff::put_head(out, 36, riff::DATA, size);
 }
 
 // The bytes of samples, from a place on.

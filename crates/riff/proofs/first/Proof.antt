@@ -2,7 +2,6 @@
 -- Assumes nothing.
 use mathlib.Core.Path.{sym}
 use Rattle.whole.specs.Tests.{cond-yes, cond-no}
-use borrow.Author.Needs.{needs}
 use Rattle.riff.proofs.first.Statement.{statement}
 use Rattle.riff.proofs.first.Tie as tie
 

@@ -1,16 +1,15 @@
 -- `writing::put_samples` meets its contract: the bytes of those before place i are stored.
 -- Assumes nothing.
-use mathlib.Core.Path.{_≡_, refl, sym, ap, _∙_, subst}
+use mathlib.Core.Path.{_≡_, refl, ap, _∙_}
 use Prim.Native.Nat.{ℕ, _+_, _*_, _-_, _≤_}
 use native.Mathlib.Omega.{arith}
-use borrow.Author.Needs.{needs}
+use borrow.Author.Needs.{needs, sfits-of}
 use mathlib.Core.List.{List}
 use lib.IntN.{ℤ, pos}
 use lib.ListN.{length, getD, take}
 use lib.Seq.{sets, take-all}
 use mir.Syntax.{w16}
 use mir.Facts.{toZ-ofZ}
-use borrow.Author.Needs.{sfits-of}
 use Rattle.riff.specs.Riff.{bytesOf}
 use Rattle.riff.specs.Stores.{stored-length}
 use Rattle.writing.specs.Canonical.{bitsOf, sampleBytes}
