@@ -1,3 +1,4 @@
 pub mod Mendings
 pub mod Deciding
 pub mod Twice
+pub mod Reading

@@ -7,11 +7,11 @@ use mathlib.Core.List.{List, _∷_}
 use mathlib.Core.Option.{Option, none, some, Option·some-injective, Option·some-ne-none}
 use Prim.Native.Nat.{ℕ, zero, suc, _+_, _-_, _%_, _≤_, _<_}
 use native.Mathlib.Omega.{arith}
-use borrow.Author.Tests.{leb-true, leb-false, ltb-false, eqb-true, not-false}
+use borrow.Author.Tests.{le-leb, leb-true, leb-false, ltb-false, eqb-true, not-false}
 use lib.Dec.{leb, ltb, eqb}
 use lib.ListN.{length, getD}
 use lib.Seq.{sets, length-sets}
-use Rattle.whole.specs.Tests.{by, cond-case, cond-no, yes-and-no, neither, and-left}
+use Rattle.whole.specs.Tests.{by, cond-case, cond-no, yes-and-no, neither, and-left, and-right}
 use Rattle.riff.specs.Riff.{numberAt, bytesOf, Chunk, chunkAt, body, next, chunksFrom, chunks, firstOf, fmtName, dataName, refusedBy}
 use Rattle.riff.specs.Stores.{Outside, outside-stays, inside-stored, stored-again}
 use Rattle.riff.specs.Numbers.{length-bytesOf, number-outside, number-stored}
@@ -111,13 +111,13 @@ unfolding riffSize
 riff-settled n riff end = settled (λ (s : ℕ). left s || ltb n (8 + s) || ltb (8 + s) end) (n - 8) riff
 
 -- they lie inside the file
-data-inside : (n from size : ℕ) → from ≤ n → from + dataSize n from size ≤ n
+pub data-inside : (n from size : ℕ) → from ≤ n → from + dataSize n from size ≤ n
 unfolding dataSize
 data-inside n from size h =
     let rest = n - from in
     cond-case (left size || ltb n (from + size)) (rest - rest % 2) size (λ (s : ℕ). from + s ≤ n) (λ e. omega arith) (λ e. ltb-false n (from + size) (neither (left size) (ltb n (from + size)) e .1))
 
-riff-inside : (n riff end : ℕ) → 8 ≤ n → 8 + riffSize n riff end ≤ n
+pub riff-inside : (n riff end : ℕ) → 8 ≤ n → 8 + riffSize n riff end ≤ n
 unfolding riffSize
 riff-inside n riff end h =
     cond-case (left riff || ltb n (8 + riff) || ltb (8 + riff) end) (n - 8) riff (λ (s : ℕ). 8 + s ≤ n) (λ e. omega arith)
@@ -160,36 +160,36 @@ module _ (file : List ℕ) (m : Mendable file) where
 
 -- ---- the mended file
 module _ (file : List ℕ) (m : Mendable file) where
-  abbrev at : ℕ
+  abbrev pub at : ℕ
   at = m .data′ .at
 
-  abbrev size : ℕ
+  abbrev pub size : ℕ
   size = dataSize (length file) (at + 8) (m .data′ .size)
 
-  abbrev riff : ℕ
+  abbrev pub riff : ℕ
   riff = riffSize (length file) (numberAt file 4 4) (at + 8 + size)
 
-  abbrev inner : List ℕ
+  abbrev pub inner : List ℕ
   inner = sets file 4 (bytesOf 4 riff)
 
-  abbrev outer : List ℕ
+  abbrev pub outer : List ℕ
   outer = sets inner (at + 4) (bytesOf 4 size)
 
   pub mended-is : mended file ≡ outer
   unfolding mended
   mended-is = rw (mending-is file m)
 
-  length-same : length outer ≡ length file
+  pub length-same : length outer ≡ length file
   length-same = length-sets inner (at + 4) (bytesOf 4 size) ∙ length-sets file 4 (bytesOf 4 riff)
 
   -- the data chunk's place
-  low : 12 ≤ at
+  pub low : 12 ≤ at
   low = first-before file (length file) dataName (length file) 12 (m .data′) (m .data-is) .from
 
-  high : at + 8 ≤ length file
+  pub high : at + 8 ≤ length file
   high = first-before file (length file) dataName (length file) 12 (m .data′) (m .data-is) .to
 
-  few : length file < 2147483648
+  pub few : length file < 2147483648
   few = leb-false 2147483648 (length file) (m .short)
 
   -- numbers of the mended file
@@ -198,10 +198,10 @@ module _ (file : List ℕ) (m : Mendable file) where
       number-outside inner (at + 4) (bytesOf 4 size) p k (subst (λ (n : ℕ). Outside (at + 4) n p k) (sym (length-bytesOf 4 size)) r)
       ∙ number-outside file 4 (bytesOf 4 riff) p k (subst (λ (n : ℕ). Outside 4 n p k) (sym (length-bytesOf 4 riff)) o)
 
-  size-stored : numberAt outer (at + 4) 4 ≡ size
+  pub size-stored : numberAt outer (at + 4) 4 ≡ size
   size-stored = number-stored inner (at + 4) 4 size (omega (arith, length-sets file 4 (bytesOf 4 riff), high)) (omega (arith, data-inside (length file) (at + 8) (m .data′ .size) high, few))
 
-  riff-stored : numberAt outer 4 4 ≡ riff
+  pub riff-stored : numberAt outer 4 4 ≡ riff
   riff-stored =
       number-outside inner (at + 4) (bytesOf 4 size) 4 4 (inl (omega (arith, low)))
       ∙ number-stored file 4 4 riff (omega (arith, high, low)) (omega (arith, riff-inside (length file) (numberAt file 4 4) (at + 8 + size) (omega (arith, high)), few))
@@ -210,28 +210,32 @@ module _ (file : List ℕ) (m : Mendable file) where
   from-12 p k l h = number-same p k (inr (omega arith)) (inl h)
 
   -- its chunks
-  data-new : dataIn outer ≡ some (record { at = at; name = m .data′ .name; size = size })
+  pub data-new : dataIn outer ≡ some (record { at = at; name = m .data′ .name; size = size })
   unfolding data′
   data-new =
       ap (λ (n : ℕ). firstOf dataName (chunks outer n)) length-same
       ∙ data-same file outer (length file) (m .data′) size from-12 size-stored (length file) 12 (omega arith) (m .data-is)
 
-  fmt-both : (firstOf fmtName (chunks outer (length file)) ≡ some (m .fmt)) × (next (m .fmt) ≤ at)
+  pub fmt-both : (firstOf fmtName (chunks outer (length file)) ≡ some (m .fmt)) × (next (m .fmt) ≤ at)
   fmt-both = fmt-same file outer (length file) (m .data′) size from-12 size-stored (m .fmt) (ltb-false at (m .fmt .at) (m .order)) (length file) 12 (omega arith) (m .data-is) (m .fmt-is)
 
-  fmt-kept : fmtIn outer ≡ some (m .fmt)
+  pub fmt-kept : fmtIn outer ≡ some (m .fmt)
   fmt-kept = ap (λ (n : ℕ). firstOf fmtName (chunks outer n)) length-same ∙ fmt-both .0
 
-  fmt-taken : fmtRight outer (length outer) (m .fmt) ≡ true
+  -- its fmt is taken, before any end that does not come before the data
+  pub fmt-taken : (end : ℕ) → at ≤ end → fmtRight outer end (m .fmt) ≡ true
   unfolding fmtRight
-  fmt-taken =
+  fmt-taken end h =
       let f = m .fmt in
-      let long = leb-true 16 (f .size) (and-left (leb 16 (f .size)) (leb (body f + 16) (length file)) (and-left (leb 16 (f .size) && leb (body f + 16) (length file)) (fieldsRight file (body f)) (m .fmt-right))) in
+      let t = leb 16 (f .size) in
+      let u = leb (body f + 16) (length file) in
+      let w = and-left (t && u) (fieldsRight file (body f)) (m .fmt-right) in
+      let long = leb-true 16 (f .size) (and-left t u w) in
       let l = first-before file (length file) fmtName (length file) 12 f (m .fmt-is) .from in
       let e = fields-same outer file (body f) (body f) (λ i k h. from-12 (body f + i) k (omega (arith, l)) (omega (arith, long, fmt-both .1))) in
-      (λ i. leb 16 (f .size) && leb (body f + 16) (length-same i) && e i) ∙ m .fmt-right
+      rw (and-left t u w, le-leb (body f + 16) end (omega (arith, long, fmt-both .1)), e ∙ and-right (t && u) (fieldsRight file (body f)) (m .fmt-right))
 
-  begins : isWave outer ≡ true
+  pub begins : isWave outer ≡ true
   unfolding isWave
   begins =
       (λ i. leb 12 (length-same i) && eqb (number-same 0 4 (inl (omega arith)) (inl (omega (arith, low))) i) riffName && eqb (number-same 8 4 (inr (omega arith)) (inl (omega (arith, low))) i) waveName)
@@ -244,7 +248,7 @@ module _ (file : List ℕ) (m : Mendable file) where
         short = ap (leb 2147483648) length-same ∙ m .short;
         fmt = m .fmt;
         fmt-is = fmt-kept;
-        fmt-right = fmt-taken;
+        fmt-right = fmt-taken (length outer) (omega (arith, length-same, high));
         data′ = record { at = at; name = m .data′ .name; size = size };
         data-is = data-new;
         order = m .order;

@@ -3,9 +3,9 @@ use mathlib.Core.Path.{_≡_, sym, ap, subst}
 use mathlib.Core.Bool.{true, false}
 use mathlib.Core.List.{List, [], _∷_}
 use mathlib.Core.Option.{some, Option·some-injective, Option·some-ne-none}
-use Prim.Native.Nat.{ℕ, zero, suc, _+_, _≤_}
+use Prim.Native.Nat.{ℕ, zero, suc, _+_, _*_, _≤_, _<_}
 use native.Mathlib.Omega.{arith}
-use borrow.Author.Tests.{leb-true, ltb-false}
+use borrow.Author.Tests.{le-leb, leb-true, ltb-false}
 use lib.Dec.{leb, ltb, eqb}
 use Rattle.whole.specs.Tests.{by, neither}
 use Rattle.riff.specs.Riff.{Chunk, chunkAt, body, behind, next, chunksFrom, firstOf, anyPast}
@@ -46,3 +46,18 @@ first-inside end name (d ∷ cs) c e p =
     by (eqb (d .name) name)
     (λ z. subst (λ (k : Chunk). behind k ≤ end) (Option·some-injective d c (rw z at e)) (ltb-false end (behind d) (n .0)))
     (λ z. first-inside end name cs c (rw z at e) (n .1))
+
+-- a walk to an end that does not come before its body finds it too
+module _ (file : List ℕ) (name end less : ℕ) (c : Chunk) (h : body c ≤ less) where
+  pub first-shorter : (n k at : ℕ) → less < at + 8 + 8 * k → firstOf name (chunksFrom n file end at) ≡ some c → firstOf name (chunksFrom k file less at) ≡ some c
+  unfolding chunksFrom firstOf
+  first-shorter zero k at l e = absurd (Option·some-ne-none c (sym e))
+  first-shorter (suc n) zero at l e = absurd (omega (arith, first-before file end name (suc n) at c e .from))
+  first-shorter (suc n) (suc k) at l e =
+      let y′ = le-leb (at + 8) less (omega (arith, first-before file end name (suc n) at c e .from)) in
+      by (leb (at + 8) end)
+      (λ y.
+      by (eqb (chunkAt file at .name) name)
+      (λ z. rw (y′, z) (rw (y, z) at e))
+      (λ z. rw (y′, z) (first-shorter n k (next (chunkAt file at)) (omega arith) (rw (y, z) at e))))
+      (λ y. absurd (Option·some-ne-none c (sym (rw y at e))))

@@ -13,7 +13,7 @@ use Rattle.whole.specs.Lists.{is-listOf}
 use Rattle.riff.specs.Riff.{numberAt, bytesOf, Chunk, chunkAt, next, chunksFrom, firstOf, anyPast, fmtName, dataName}
 use Rattle.riff.specs.Numbers.{length-bytesOf, number-behind, number-back}
 use Rattle.riff.specs.Walking.{chunks-end, chunks-more}
-use Rattle.wave.specs.Waves.{isWave, riffEnd, walkEnd, chunksOf, fmtOf, dataOf, known, plain, rateAt, fieldsRight, fmtRight, rateIn, rateOf, placeIn, placeOf, countIn, countOf, sampleOf, samplesAt}
+use Rattle.wave.specs.Waves.{isWave, riffEnd, walkEnd, chunksOf, fmtOf, dataOf, known, plain, fieldsRight, fmtRight, rateIn, rateOf, placeIn, placeOf, countIn, countOf, sampleOf, samplesAt}
 use Rattle.wave.specs.Rates.{known-small}
 use Rattle.wave.specs.Judging.{Right, of-right}
 use Rattle.writing.specs.Canonical.{bitsOf, sampleBytes, format, header, canonical, limit, Samples, TakeOf}
@@ -87,9 +87,6 @@ module _ (hertz size : ℕ) (k : known hertz ≡ true) (small : size < 2 ^ 32 - 
   data-first = ap (firstOf dataName) chunks-are
 
   -- ---- its fmt
-  rates : rateAt file 20 ≡ hertz
-  rates = rate-field
-
   fields : fieldsRight file 20 ≡ true
   unfolding fieldsRight plain file header format bytesOf numberAt
   fields = rw (ap known rate-field ∙ k) (eq-eqb (numberAt file 28 4) (2 * numberAt file 24 4) (bytes-field ∙ sym (ap (λ (n : ℕ). 2 * n) rate-field)))
