@@ -1,13 +1,9 @@
 // Samples copied between stores: the kept ones and a block's laid one after the other, and what is newest kept again.
-use rules::KEPT_EIGHTHS;
-use rules::KEPT_SAMPLES;
-use rules::OPEN_EIGHTHS;
-use rules::OPEN_SAMPLES;
 ghost use mathlib.Core.Path.{_≡_};
 ghost use mathlib.Core.List.{_++_, []};
 ghost use Prim.Native.Nat.{_+_, _≤_};
-ghost use lib.ListN.{length, take, drop};
-ghost use Rattle.rules.specs.Rules.{longestBlock};
+ghost use lib.IntN.{pos};
+ghost use lib.ListN.{length, take, drop, replicate};
 ghost use Rattle.ages.specs.Ages.{Samples};
 ghost use Rattle.copying.specs.Copies.{laid, Joined};
 
@@ -25,24 +21,21 @@ pub fn lay(into: &mut [i16], from: usize, xs: &[i16])
     }
 }
 
-// The kept samples, and the block's after them, in one store.
-pub fn joined(store: [i16; KEPT_SAMPLES], samples: &[i16]) -> [i16; OPEN_SAMPLES]
-    requires { ⌜ length (now samples) ≤ longestBlock ⌝ }
-    ensures { λ r. ⌜ Joined store (now (samples .entry)) 2276 r ⌝ }
+// The kept samples at the front of a store, with places for what comes after them.
+pub fn front(all: &mut [i16], kept: &[i16])
+    requires { ⌜ (length (now kept) ≤ length (now all)) × Samples (now all) ⌝ }
+    ensures { λ r. ⌜ Joined (now (kept .entry)) [] (length (now (all .entry))) (now (all .exit)) ⌝ }
 {
-    let mut all = [0i16; OPEN_SAMPLES];
-    lay(&mut all, 0, &store);
-    lay(&mut all, KEPT_SAMPLES, samples);
-    all
+    lay(all, 0, kept);
 }
 
-// The kept eighth-rate samples, with places for those of a block.
-pub fn opened(eighths: [i16; KEPT_EIGHTHS]) -> [i16; OPEN_EIGHTHS]
-    ensures { λ r. ⌜ Joined eighths [] 288 r ⌝ }
+// The kept samples, and the block's after them, in one store.
+pub fn join(all: &mut [i16], kept: &[i16], new: &[i16])
+    requires { ⌜ (length (now kept) + length (now new) ≤ length (now all)) × Samples (now all) ⌝ }
+    ensures { λ r. ⌜ Joined (now (kept .entry)) (now (new .entry)) (length (now (all .entry))) (now (all .exit)) ⌝ }
 {
-    let mut all = [0i16; OPEN_EIGHTHS];
-    lay(&mut all, 0, &eighths);
-    all
+    front(all, kept);
+    lay(all, kept.len(), new);
 }
 
 // Fills a store with the samples after the first n.
@@ -60,4 +53,15 @@ pub fn give(kept: &[i16], out: &mut [i16], n: usize)
     ensures { λ r. ⌜ now (out .exit) ≡ take n (now (kept .entry)) ++ drop n (now (out .entry)) ⌝ }
 {
     lay(out, 0, &kept[..n]);
+}
+
+// All of a store is 0.
+pub fn clear(all: &mut [i16])
+    ensures { λ r. ⌜ now (all .exit) ≡ replicate (length (now (all .entry))) (pos 0) ⌝ }
+{
+    let mut i: usize = 0;
+    while i < all.len() {
+        all[i] = 0;
+        i += 1;
+    }
 }
