@@ -1,4 +1,4 @@
--- What the type of what was heard says of its arrays: their lengths, and that each sample fits 16 bits. A proof of a function whose first parameter is h cites `stores (c .args .h) _ (c .good .0)`, with c its `Start`; a second parameter's is `c .good .1 .0`.
+-- What the type of what was heard says of its arrays: their lengths, and that each sample fits 16 bits.
 -- Assumes nothing.
 use mathlib.Core.Path.{_≡_, subst}
 use mathlib.Core.List.{List, [], _∷_, map, map-id}

@@ -22,6 +22,10 @@ use Rattle.record.specs.Records.{soundOf}
 
 -- ---- what was heard
 
+-- with these arrays, which may be lent
+abbrev pub heardOf : ℕ → List ℕ → List ℤ → List ℤ → List ℤ → Heard
+heardOf count energies correlations store eighths = record { count = count; energies = energies; correlations = correlations; store = store; eighths = eighths }
+
 -- the samples from before a take of n
 pub silent-of : {b : Bool} (s : List ℤ) (kept n m : ℕ) → m ≡ kept - n → Decides b ((i : ℕ) → i < m → valueAt s i ≡ pos 0) → Decides b ((i : ℕ) → i + n < kept → valueAt s i ≡ pos 0)
 silent-of s kept n m e d = decides-as d (λ p i l. p i (omega arith)) (λ p i l. p i (omega arith))

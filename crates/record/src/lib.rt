@@ -17,12 +17,13 @@ ghost use Prim.Native.Nat.{ℕ, _+_, _-_, _≤_, _<_};
 ghost use lib.IntN.{pos};
 ghost use lib.ListN.{length};
 ghost use Rattle.whole.specs.Tests.{Decides};
-ghost use Rattle.rules.specs.Rules.{settingsNumber, startNumber, defaults, keptSamples};
+ghost use Rattle.rules.specs.Rules.{settingsNumber, startNumber, defaults, longestBlock, keptSamples};
 ghost use Rattle.rules.specs.Facts.{ToneIn, valueAt};
 ghost use Rattle.ages.specs.Ages.{Samples};
 ghost use Rattle.pitch.specs.Pitches.{PitchRight};
-ghost use Rattle.record.specs.Records.{soundOf, HeardRight, LastRight, AllRight, freshHeard, freshPitch, freshHead, noLast};
-ghost use Rattle.record.specs.Parts.{TrackerRight};
+ghost use Rattle.record.specs.declared.Last.{Last};
+ghost use Rattle.record.specs.Records.{soundOf, HeardRight, AllRight, freshHeard, freshPitch, freshHead, noLast};
+ghost use Rattle.record.specs.Parts.{heardOf, Stores, TrackerRight};
 
 // A longest block and how far behind a head may lie, as the record's numbers have them.
 const LONGEST_LENGTH: u16 = LONGEST_BLOCK as u16;
@@ -187,23 +188,26 @@ fn before(count: u64, kept: usize) -> usize
 }
 
 // What was heard: the count, silence before the take, and the eighth-rate sums.
-fn heard_right(h: Heard) -> bool
-    ensures { λ r. ⌜ Decides r (HeardRight h) ⌝ }
+fn heard_right(
+    count: u64,
+    energies: &[u64; EIGHTH_LAGS],
+    correlations: &[i64; EIGHTH_LAGS],
+    store: &[i16; KEPT_SAMPLES],
+    eighths: &[i16; KEPT_EIGHTHS],
+) -> bool
+    requires { ⌜ Stores (heardOf count (now energies) (now correlations) (now store) (now eighths)) ⌝ }
+    ensures { λ r. ⌜ Decides r (HeardRight (heardOf count (now (energies .entry)) (now (correlations .entry)) (now (store .entry)) (now (eighths .entry)))) ⌝ }
 {
-    if h.count > rules::TAKE_LIMIT {
+    if count > rules::TAKE_LIMIT {
         return false;
     }
-    let s = h.store;
-    if !silent(&s, before(h.count, KEPT_SAMPLES)) {
+    if !silent(store, before(count, KEPT_SAMPLES)) {
         return false;
     }
-    let y = h.eighths;
-    if !silent(&y, before(h.count / 8, KEPT_EIGHTHS)) {
+    if !silent(eighths, before(count / 8, KEPT_EIGHTHS)) {
         return false;
     }
-    let e = h.energies;
-    let c = h.correlations;
-    sums::all_right(&e, &c, 2, &y, KEPT_EIGHTHS)
+    sums::all_right(energies, correlations, 2, eighths, KEPT_EIGHTHS)
 }
 
 // Either a period, a wanted note or none, and a rate in their ranges, or no period and the rate 65536; and what is kept, 0 to 255.
@@ -260,19 +264,32 @@ fn pitch_right(v: Pitch, store: &[i16]) -> bool
     tone.period == 0
 }
 
-// The last block, of a take of so many samples.
-fn last_right(l: Last, count: u64) -> bool
-    ensures { λ r. ⌜ Decides r (LastRight count l) ⌝ }
+// The length of the last block, in a take of so many samples.
+fn length_right(length: u16, count: u64) -> bool
+    ensures { λ r. ⌜ Decides r ((length ≤ longestBlock) × (length ≤ count)) ⌝ }
 {
-    if l.length > LONGEST_LENGTH {
+    if length > LONGEST_LENGTH {
         return false;
     }
-    l.length as u64 <= count
+    length as u64 <= count
 }
 
-// A record is good.
-pub fn all_right(s: Settings, hertz: u64, k: Keyboard, h: Heard, v: Pitch, d: Head, l: Last) -> bool
-    ensures { λ r. ⌜ Decides r (AllRight s hertz k h v d l) ⌝ }
+// A record with these parts is good; its arrays are lent.
+pub fn all_right(
+    s: Settings,
+    hertz: u64,
+    k: Keyboard,
+    count: u64,
+    energies: &[u64; EIGHTH_LAGS],
+    correlations: &[i64; EIGHTH_LAGS],
+    store: &[i16; KEPT_SAMPLES],
+    eighths: &[i16; KEPT_EIGHTHS],
+    v: Pitch,
+    d: Head,
+    length: u16,
+) -> bool
+    requires { ⌜ Stores (heardOf count (now energies) (now correlations) (now store) (now eighths)) ⌝ }
+    ensures { λ r. ⌜ ((l : Last) → l .length ≡ length → Decides r (AllRight s hertz k (heardOf count (now (energies .entry)) (now (correlations .entry)) (now (store .entry)) (now (eighths .entry))) v d l)) ⌝ }
 {
     if !notes::known_rate(hertz) {
         return false;
@@ -283,15 +300,14 @@ pub fn all_right(s: Settings, hertz: u64, k: Keyboard, h: Heard, v: Pitch, d: He
     if !keyboard::right(k) {
         return false;
     }
-    if !last_right(l, h.count) {
+    if !length_right(length, count) {
         return false;
     }
     if d.behind > FARTHEST {
         return false;
     }
-    if !heard_right(h) {
+    if !heard_right(count, energies, correlations, store, eighths) {
         return false;
     }
-    let store = h.store;
-    pitch_right(v, &store)
+    pitch_right(v, store)
 }

@@ -1,19 +1,15 @@
--- `record::last_right` meets its contract, test by test.
+-- `record::length_right` meets its contract, test by test.
 -- Assumes nothing.
 use native.Mathlib.Omega.{arith}
-use borrow.Author.Needs.{needs}
 use Rattle.whole.specs.Tests.{refused, decides-le, decides-as}
-use Rattle.record.proofs.last_right.Statement.{statement}
-use Rattle.record.proofs.last_right.Tie as tie
+use Rattle.record.proofs.length_right.Statement.{statement}
+use Rattle.record.proofs.length_right.Tie as tie
 
 returns : tie.Need-returns
-returns c = refused (λ p. omega (arith, p .length))
-
-cast-result : tie.Need-cast-result
-cast-result c = search needs
+returns c = refused (λ p. omega (arith, p .0))
 
 returns-2 : tie.Need-returns-2
-returns-2 c = decides-as (decides-le _ _) (λ p. record { length = omega arith; within = p }) (λ p. p .within)
+returns-2 c = decides-as (decides-le _ _) (λ p. (omega arith, p)) (λ p. p .1)
 
-pub last-right-spec : {M : Type 1} → statement M
-last-right-spec = tie.close (tie.spec returns cast-result returns-2)
+pub length-right-spec : {M : Type 1} → statement M
+length-right-spec = tie.close (tie.spec returns returns-2)
