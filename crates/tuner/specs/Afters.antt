@@ -62,8 +62,8 @@ module _ (t : Tuner) (g : Good t) (st : Stores (t .heard)) {xs s y : List ℤ} (
       λ i. record { count = t .heard .count; sound = sound-before i; eighths = eighths-before i; pitch = pitchOf (t .pitch); position = inputAt (t .heard .count) -ℤ pos (t .head .behind) }
 
   -- ---- where it ends
-  module _ (few : length xs ≤ 512) {y′ : List ℤ} {e : List ℕ} {h out : List ℤ} {ts ts′ : Tones} {q : Progress} (long : length y′ ≡ 288) (rd : Ready s (1764 + length xs) y′ e h q)
-      (ran : Ran (forceOf t) (takeSoFar s 1764 y (beginning t)) (take (length xs) (drop 1764 s)) (takeSoFar s (1764 + length xs) y′ q) (replicate 512 (pos 0)) out ts ts′ (beginning t) q)
+  module _ (few : length xs ≤ 512) {y′ : List ℤ} {e : List ℕ} {h zeros out : List ℤ} {ts ts′ : Tones} {q : Progress} (long : length y′ ≡ 288) (rd : Ready s (1764 + length xs) y′ e h q)
+      (ran : Ran (forceOf t) (takeSoFar s 1764 y (beginning t)) (take (length xs) (drop 1764 s)) (takeSoFar s (1764 + length xs) y′ q) zeros out ts ts′ (beginning t) q)
       (end : Ended (length xs) (beginning t) q) where
     block-is : take (length xs) (drop 1764 s) ≡ xs
     block-is = ap (λ (n : ℕ). take (length xs) (drop n s)) (sym (st .store)) ∙ joined-new j
@@ -91,14 +91,11 @@ module _ (t : Tuner) (g : Good t) (st : Stores (t .heard)) {xs s y : List ℤ} (
         (length-take-le (q .places) y′ (omega (arith, long, end-places-few)) ∙ end-places ∙ ap (λ (n : ℕ). n + length new8) (sym (st .eighths)) ∙ sym (length-append (t .heard .eighths) new8))
         (ap (λ (u : Take). u .eighths) end-take ∙ after-eighths (forceOf t) (takeOf t) xs ∙ sym (heardAll-append silence (t .heard .eighths) new8))
 
-    store-is : take 1764 (drop (length xs) s) ≡ keeping (t .heard .store) xs
-    store-is = ap (λ (n : ℕ). take n (drop (length xs) s)) (sym (st .store)) ∙ joined-keeping j
-
-    eighths-are : take 224 (drop (q .places - 224) y′) ≡ keeping (t .heard .eighths) new8
+    eighths-are : take (length (t .heard .eighths)) (drop (q .places - 224) y′) ≡ keeping (t .heard .eighths) new8
     eighths-are =
         let a : q .places - 224 + 224 ≡ q .places = omega (arith, end-places) in
         let b : q .places - 224 ≡ length new8 = omega (arith, end-places) in
-        take-drop (q .places - 224) 224 y′ ∙ ap (λ (n : ℕ). drop (q .places - 224) (take n y′)) a ∙ (λ i. drop (b i) (end-stored i))
+        ap (λ (n : ℕ). take n (drop (q .places - 224) y′)) (st .eighths) ∙ take-drop (q .places - 224) 224 y′ ∙ ap (λ (n : ℕ). drop (q .places - 224) (take n y′)) a ∙ (λ i. drop (b i) (end-stored i))
 
     -- the sums over what is kept
     kept8 : Right (soundOf (keeping (t .heard .eighths) new8)) 2 109 e h
@@ -131,10 +128,10 @@ module _ (t : Tuner) (g : Good t) (st : Stores (t .heard)) {xs s y : List ℤ} (
     dropped-is : q .dropped ≡ length (allDropped (gives (forceOf t) (takeOf t) xs))
     dropped-is = ran .dropped ∙ zero-add _ ∙ ap (λ (gs : List Given). length (allDropped gs)) end-gives
 
-    out-is : out ≡ samplesOut (gives (forceOf t) (takeOf t) xs) ++ drop (length xs) (replicate 512 (pos 0))
-    out-is = ran .out ∙ (λ i. samplesOut (end-gives i) ++ drop (length (block-is i)) (replicate 512 (pos 0)))
+    out-is : zeros ≡ replicate 512 (pos 0) → out ≡ samplesOut (gives (forceOf t) (takeOf t) xs) ++ drop (length xs) (replicate 512 (pos 0))
+    out-is z = ran .out ∙ (λ i. samplesOut (end-gives i) ++ drop (length (block-is i)) (z i))
 
-    pub after-is : (number : ℕ) {store eighths : List ℤ} {w : KeptPitch} → store ≡ take 1764 (drop (length xs) s) → eighths ≡ take 224 (drop (q .places - 224) y′)
+    pub after-is : (number : ℕ) {store eighths : List ℤ} {w : KeptPitch} → zeros ≡ replicate 512 (pos 0) → store ≡ take (length (t .heard .store)) (drop (length xs) s) → eighths ≡ take (length (t .heard .eighths)) (drop (q .places - 224) y′)
         → ((x : Sound) → PitchRight x (q .pitch) → w ≡ keptOf (pitchOf (q .pitch)) x)
         → record {
           settings = t .settings;
@@ -146,7 +143,7 @@ module _ (t : Tuner) (g : Good t) (st : Stores (t .heard)) {xs s y : List ℤ} (
           last = record { number = number; length = length xs; repeated = q .repeated; dropped = q .dropped; out = out };
         } ≡ afterBlock t number xs
     unfolding afterBlock heardAfter
-    after-is number {store} {eighths} {w} a b c =
+    after-is number {store} {eighths} {w} z a b c =
         let v : w ≡ keptOf (after (forceOf t) (takeOf t) xs .pitch) (soundOf (keeping (t .heard .store) xs)) =
         c (soundOf (keeping (t .heard .store) xs)) end-right ∙ ap (λ (u : Take). keptOf (u .pitch) (soundOf (keeping (t .heard .store) xs))) end-take in
         λ i. record {
@@ -158,10 +155,10 @@ module _ (t : Tuner) (g : Good t) (st : Stores (t .heard)) {xs s y : List ℤ} (
                 count = end .count i;
                 energies = right-energies kept8 i;
                 correlations = right-correlations kept8 i;
-                store = (a ∙ store-is) i;
+                store = (a ∙ joined-keeping j) i;
                 eighths = (b ∙ eighths-are) i;
               };
           pitch = v i;
           head = record { behind = behind-is i };
-          last = record { number = number; length = length xs; repeated = repeated-is i; dropped = dropped-is i; out = out-is i };
+          last = record { number = number; length = length xs; repeated = repeated-is i; dropped = dropped-is i; out = out-is z i };
         }

@@ -122,14 +122,14 @@ module _ {t : Tuner} {k : ℕ} {xs ys : List ℤ} where
       let by = by-refused t k xs ys v h in
       record { number = v; verdict = p; tuner = sym (tuner-kept t k xs (λ z. omega arith)); answer = e ∙ sym (by .0); out = sym (by .1) }
 
-  pub took-given : {v : ℕ} {u : Tuner} {ys′ : List ℤ} → Verdict t k xs (length ys) v → v ≤ 1 → u ≡ tunerBy v t k xs → ys′ ≡ overlaid u xs ys → Took t k xs ys u (counted v u xs) ys′
-  took-given {v} p h e o =
+  pub took-given : {v : ℕ} {u : Tuner} {a : Answer} {ys′ : List ℤ} → Verdict t k xs (length ys) v → v ≤ 1 → u ≡ tunerBy v t k xs → a ≡ counted v u xs → ys′ ≡ overlaid u xs ys → Took t k xs ys u a ys′
+  took-given {v} p h e c o =
       let by = by-given t k xs ys v h in
       record {
         number = v;
         verdict = p;
         tuner = e;
-        answer = ap (λ (u : Tuner). counted v u xs) e ∙ sym (by .0);
+        answer = c ∙ ap (λ (u : Tuner). counted v u xs) e ∙ sym (by .0);
         out = o ∙ ap (λ (u : Tuner). overlaid u xs ys) e ∙ sym (by .1);
       }
 

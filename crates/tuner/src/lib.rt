@@ -9,17 +9,26 @@ use record::Head;
 use record::Heard;
 use record::Last;
 use rules::CD_RATE;
+use rules::EIGHTH_LAGS;
 use rules::InForce;
 use rules::KEPT_EIGHTHS;
 use rules::KEPT_SAMPLES;
 use rules::LONGEST_BLOCK;
+use rules::OPEN_EIGHTHS;
+use rules::OPEN_SAMPLES;
 pub use rules::Settings;
 use steps::Progress;
 ghost use mathlib.Core.Path.{_≡_};
+ghost use mathlib.Core.List.{List};
 ghost use Prim.Native.Nat.{_+_, _≤_, _<_};
+ghost use lib.IntN.{ℤ};
 ghost use lib.ListN.{length};
 ghost use Rattle.whole.specs.Tests.{Decides};
 ghost use Rattle.rules.specs.Rules.{defaults, cdRate, takeLimit, longestBlock};
+ghost use Rattle.record.specs.declared.Last.{Last};
+ghost use Rattle.record.specs.Records.{AllRight};
+ghost use Rattle.record.specs.Parts.{heardOf, Stores};
+ghost use Rattle.tuner.specs.Parted.{tunerOf, lastWith, given};
 ghost use Rattle.tuner.specs.Tuners.{Good, freshTuner, afterBlock, Verdict, Took, Started, Changed, Reset, Keyed, Metered};
 
 // The record, in its parts.
@@ -39,18 +48,48 @@ pub struct Taken {
     pub answer: Answer,
 }
 
+// The numbers of the last block.
+pub struct LastNumbers {
+    pub number: u16,
+    pub length: u16,
+    pub repeated: u16,
+    pub dropped: u16,
+}
+
+// What a block answers, and what it leaves beside the arrays that were lent.
+pub struct Left {
+    pub answer: Answer,
+    pub count: u64,
+    pub pitch: Pitch,
+    pub head: Head,
+    pub last: LastNumbers,
+}
+
 // A record is good.
 fn good(t: Tuner) -> bool
     ensures { λ r. ⌜ Decides r (Good t) ⌝ }
 {
     let settings = t.settings;
-    let hertz = t.hertz;
     let keys = t.keyboard;
-    let heard = t.heard;
+    let energies = t.heard.energies;
+    let correlations = t.heard.correlations;
+    let store = t.heard.store;
+    let eighths = t.heard.eighths;
     let pitch = t.pitch;
     let head = t.head;
-    let last = t.last;
-    record::all_right(settings, hertz, keys, heard, pitch, head, last)
+    record::all_right(
+        settings,
+        t.hertz,
+        keys,
+        t.heard.count,
+        &energies,
+        &correlations,
+        &store,
+        &eighths,
+        pitch,
+        head,
+        t.last.length,
+    )
 }
 
 fn fresh_tuner(hertz: u64, s: Settings) -> Tuner
@@ -92,11 +131,39 @@ pub fn start_default() -> Taken
     start(CD_RATE, record::default_settings())
 }
 
-// The number of the answer to a block, with so much room for the output.
-fn judge(t: Tuner, number: u16, samples: &[i16], room: usize) -> u32
-    ensures { λ r. ⌜ Verdict t number (now (samples .entry)) room r ⌝ }
+// The number of the answer to a block, with so much room for the output, by the parts of a record.
+fn judge_parts(
+    settings: Settings,
+    hertz: u64,
+    keys: Keyboard,
+    count: u64,
+    energies: &[u64; EIGHTH_LAGS],
+    correlations: &[i64; EIGHTH_LAGS],
+    store: &[i16; KEPT_SAMPLES],
+    eighths: &[i16; KEPT_EIGHTHS],
+    v: Pitch,
+    head: Head,
+    last: LastNumbers,
+    number: u16,
+    samples: &[i16],
+    room: usize,
+) -> u32
+    requires { ⌜ Stores (heardOf count (now energies) (now correlations) (now store) (now eighths)) ⌝ }
+    ensures { λ r. ⌜ ((kept : List ℤ) → Verdict (tunerOf settings hertz keys (heardOf count (now (energies .entry)) (now (correlations .entry)) (now (store .entry)) (now (eighths .entry))) v head (lastWith last kept)) number (now (samples .entry)) room r) ⌝ }
 {
-    if !good(t) {
+    if !record::all_right(
+        settings,
+        hertz,
+        keys,
+        count,
+        energies,
+        correlations,
+        store,
+        eighths,
+        v,
+        head,
+        last.length,
+    ) {
         return 9;
     }
     let n = samples.len();
@@ -109,46 +176,47 @@ fn judge(t: Tuner, number: u16, samples: &[i16], room: usize) -> u32
     if room < n {
         return 4;
     }
-    let store = t.heard.store;
-    answers::judge_number(
-        t.heard.count,
-        t.last.number,
-        t.last.length,
-        &store,
-        number,
-        samples,
-    )
+    answers::judge_number(count, last.number, last.length, store, number, samples)
 }
 
-// The tuner after a block that is taken.
-fn after_block(t: Tuner, number: u16, samples: &[i16]) -> Tuner
-    requires { ⌜ Good t × (0 < length (now samples)) × (length (now samples) ≤ longestBlock) × (t .heard .count + length (now samples) ≤ takeLimit) ⌝ }
-    ensures { λ r. ⌜ r ≡ afterBlock t number (now (samples .entry)) ⌝ }
+// A block is taken, over the parts of a record: the lent arrays become those of the tuner after it.
+fn take_parts(
+    settings: Settings,
+    hertz: u64,
+    keys: Keyboard,
+    count: u64,
+    energies: &mut [u64; EIGHTH_LAGS],
+    correlations: &mut [i64; EIGHTH_LAGS],
+    store: &mut [i16; KEPT_SAMPLES],
+    eighths: &mut [i16; KEPT_EIGHTHS],
+    v: Pitch,
+    head: Head,
+    kept: &mut [i16; LONGEST_BLOCK],
+    number: u16,
+    samples: &[i16],
+) -> Left
+    requires { ⌜ ((l : Last) × AllRight settings hertz keys (heardOf count (now energies) (now correlations) (now store) (now eighths)) v head l) × Stores (heardOf count (now energies) (now correlations) (now store) (now eighths)) × (length (now kept) ≡ longestBlock) × (0 < length (now samples)) × (length (now samples) ≤ longestBlock) × (count + length (now samples) ≤ takeLimit) ⌝ }
+    ensures { λ r. ⌜ ((l : Last) → tunerOf settings hertz keys (heardOf (r .count) (now (energies .exit)) (now (correlations .exit)) (now (store .exit)) (now (eighths .exit))) (r .pitch) (r .head) (lastWith (r .last) (now (kept .exit))) ≡ afterBlock (tunerOf settings hertz keys (heardOf count (now (energies .entry)) (now (correlations .entry)) (now (store .entry)) (now (eighths .entry))) v head l) number (now (samples .entry))) × (r .answer ≡ given 0 (now (samples .entry)) (r .last)) ⌝ }
 {
-    let g = t.settings;
-    let hertz = t.hertz;
-    let keys = t.keyboard;
+    let rate = hertz as u32;
     let f = InForce {
-        settings: g,
+        settings: settings,
         key: keys.key,
-        hertz: hertz as u32,
+        hertz: rate,
     };
     let n = samples.len();
-    let store = t.heard.store;
-    let eighths = t.heard.eighths;
-    let mut e = t.heard.energies;
-    let mut h = t.heard.correlations;
-    let v = t.pitch;
-    let s = copying::joined(store, samples);
-    let mut y = copying::opened(eighths);
-    let mut out = [0i16; LONGEST_BLOCK];
+    let mut s = [0i16; OPEN_SAMPLES];
+    copying::join(&mut s, store, samples);
+    let mut y = [0i16; OPEN_EIGHTHS];
+    copying::front(&mut y, eighths);
+    copying::clear(kept);
     let mut periods = [0u32; LONGEST_BLOCK];
     let mut notes = [0u32; LONGEST_BLOCK];
     let mut rates = [0u32; LONGEST_BLOCK];
-    let count = t.heard.count as u32;
-    let behind = t.head.behind as u32;
+    let from = count as u32;
+    let behind = head.behind as u32;
     let p = Progress {
-        count: count,
+        count: from,
         places: KEPT_EIGHTHS,
         behind: behind,
         repeated: 0,
@@ -159,48 +227,143 @@ fn after_block(t: Tuner, number: u16, samples: &[i16]) -> Tuner
         p,
         f,
         &mut y,
-        &mut e,
-        &mut h,
+        energies,
+        correlations,
         &s,
         KEPT_SAMPLES,
         n,
-        &mut out,
+        kept,
         &mut periods,
         &mut notes,
         &mut rates,
     );
-    let mut kept = [0i16; KEPT_SAMPLES];
-    copying::keep(&mut kept, &s, n);
-    let mut kept8 = [0i16; KEPT_EIGHTHS];
-    copying::keep(&mut kept8, &y, q.places - KEPT_EIGHTHS);
+    copying::keep(store, &s, n);
+    copying::keep(eighths, &y, q.places - KEPT_EIGHTHS);
     let counted = q.count as u64;
     let left_behind = q.behind as u64;
     let length = n as u16;
     let repeated = q.repeated as u16;
     let dropped = q.dropped as u16;
-    Tuner {
-        settings: g,
-        hertz: hertz,
-        keyboard: keys,
-        heard: Heard {
-            count: counted,
-            energies: e,
-            correlations: h,
-            store: kept,
-            eighths: kept8,
+    Left {
+        answer: Answer {
+            number: 0,
+            written: length,
+            repeated: repeated,
+            dropped: dropped,
         },
+        count: counted,
         pitch: pitch::settled(q.pitch),
         head: Head {
             behind: left_behind,
         },
-        last: Last {
+        last: LastNumbers {
             number: number,
             length: length,
             repeated: repeated,
             dropped: dropped,
-            out: out,
         },
     }
+}
+
+// A block over the parts of a record: taken, given again or refused.
+fn block_parts(
+    settings: Settings,
+    hertz: u64,
+    keys: Keyboard,
+    count: u64,
+    energies: &mut [u64; EIGHTH_LAGS],
+    correlations: &mut [i64; EIGHTH_LAGS],
+    store: &mut [i16; KEPT_SAMPLES],
+    eighths: &mut [i16; KEPT_EIGHTHS],
+    v: Pitch,
+    head: Head,
+    last: LastNumbers,
+    kept: &mut [i16; LONGEST_BLOCK],
+    number: u16,
+    samples: &[i16],
+    out: &mut [i16],
+) -> Left
+    requires { ⌜ Stores (heardOf count (now energies) (now correlations) (now store) (now eighths)) × (length (now kept) ≡ longestBlock) ⌝ }
+    ensures { λ r. ⌜ Took (tunerOf settings hertz keys (heardOf count (now (energies .entry)) (now (correlations .entry)) (now (store .entry)) (now (eighths .entry))) v head (lastWith last (now (kept .entry)))) number (now (samples .entry)) (now (out .entry)) (tunerOf settings hertz keys (heardOf (r .count) (now (energies .exit)) (now (correlations .exit)) (now (store .exit)) (now (eighths .exit))) (r .pitch) (r .head) (lastWith (r .last) (now (kept .exit)))) (r .answer) (now (out .exit)) ⌝ }
+{
+    let verdict = judge_parts(
+        settings,
+        hertz,
+        keys,
+        count,
+        energies,
+        correlations,
+        store,
+        eighths,
+        v,
+        head,
+        last,
+        number,
+        samples,
+        out.len(),
+    );
+    if verdict > 1 {
+        return Left {
+            answer: answers::plain(verdict),
+            count: count,
+            pitch: v,
+            head: head,
+            last: last,
+        };
+    }
+    let n = samples.len();
+    if verdict == 1 {
+        copying::give(kept, out, n);
+        let length = n as u16;
+        return Left {
+            answer: Answer {
+                number: 1,
+                written: length,
+                repeated: last.repeated,
+                dropped: last.dropped,
+            },
+            count: count,
+            pitch: v,
+            head: head,
+            last: last,
+        };
+    }
+    // from two places, so that the compiler leaves it a function of its own: its arrays then take no stack where a block is not taken
+    let left = if count == 0 {
+        take_parts(
+            settings,
+            hertz,
+            keys,
+            0,
+            energies,
+            correlations,
+            store,
+            eighths,
+            v,
+            head,
+            kept,
+            number,
+            samples,
+        )
+    } else {
+        take_parts(
+            settings,
+            hertz,
+            keys,
+            count,
+            energies,
+            correlations,
+            store,
+            eighths,
+            v,
+            head,
+            kept,
+            number,
+            samples,
+        )
+    };
+    copying::give(kept, out, n);
+    left
 }
 
 impl Tuner {
@@ -272,28 +435,65 @@ impl Tuner {
     pub fn block(self, number: u16, samples: &[i16], out: &mut [i16]) -> Taken
         ensures { λ r. ⌜ Took self number (now (samples .entry)) (now (out .entry)) (r .tuner) (r .answer) (now (out .exit)) ⌝ }
     {
-        let v = judge(self, number, samples, out.len());
-        if v > 1 {
-            return Taken {
-                tuner: self,
-                answer: answers::plain(v),
-            };
-        }
-        let n = samples.len();
-        let t = if v == 0 {
-            after_block(self, number, samples)
-        } else {
-            self
+        let settings = self.settings;
+        let hertz = self.hertz;
+        let keys = self.keyboard;
+        let mut energies = self.heard.energies;
+        let mut correlations = self.heard.correlations;
+        let mut store = self.heard.store;
+        let mut eighths = self.heard.eighths;
+        let v = self.pitch;
+        let head = self.head;
+        let last = LastNumbers {
+            number: self.last.number,
+            length: self.last.length,
+            repeated: self.last.repeated,
+            dropped: self.last.dropped,
         };
-        copying::give(&t.last.out, out, n);
+        let mut kept = self.last.out;
+        let left = block_parts(
+            settings,
+            hertz,
+            keys,
+            self.heard.count,
+            &mut energies,
+            &mut correlations,
+            &mut store,
+            &mut eighths,
+            v,
+            head,
+            last,
+            &mut kept,
+            number,
+            samples,
+            out,
+        );
+        let answer = left.answer;
+        let pitch = left.pitch;
+        let behind = left.head;
         Taken {
-            tuner: t,
-            answer: Answer {
-                number: v,
-                written: n as u16,
-                repeated: t.last.repeated,
-                dropped: t.last.dropped,
+            tuner: Tuner {
+                settings: settings,
+                hertz: hertz,
+                keyboard: keys,
+                heard: Heard {
+                    count: left.count,
+                    energies: energies,
+                    correlations: correlations,
+                    store: store,
+                    eighths: eighths,
+                },
+                pitch: pitch,
+                head: behind,
+                last: Last {
+                    number: left.last.number,
+                    length: left.last.length,
+                    repeated: left.last.repeated,
+                    dropped: left.last.dropped,
+                    out: kept,
+                },
             },
+            answer: answer,
         }
     }
 
@@ -309,11 +509,43 @@ impl Tuner {
     }
 }
 
-// The block call over a record lent and altered there, with equal answers.
+// The block call over a record lent and altered there, with equal answers: no copy of the record is taken.
 pub fn block_in_place(t: &mut Tuner, number: u16, samples: &[i16], out: &mut [i16]) -> Answer
     ensures { λ r. ⌜ Took (now (t .entry)) number (now (samples .entry)) (now (out .entry)) (now (t .exit)) r (now (out .exit)) ⌝ }
 {
-    let d = Tuner::block(*t, number, samples, out);
-    *t = d.tuner;
-    d.answer
+    let settings = t.settings;
+    let keys = t.keyboard;
+    let v = t.pitch;
+    let head = t.head;
+    let last = LastNumbers {
+        number: t.last.number,
+        length: t.last.length,
+        repeated: t.last.repeated,
+        dropped: t.last.dropped,
+    };
+    let left = block_parts(
+        settings,
+        t.hertz,
+        keys,
+        t.heard.count,
+        &mut t.heard.energies,
+        &mut t.heard.correlations,
+        &mut t.heard.store,
+        &mut t.heard.eighths,
+        v,
+        head,
+        last,
+        &mut t.last.out,
+        number,
+        samples,
+        out,
+    );
+    t.heard.count = left.count;
+    t.pitch = left.pitch;
+    t.head = left.head;
+    t.last.number = left.last.number;
+    t.last.length = left.last.length;
+    t.last.repeated = left.last.repeated;
+    t.last.dropped = left.last.dropped;
+    left.answer
 }

@@ -1,0 +1,34 @@
+-- A tuner by its parts, whose arrays may be lent, and the answer to a block that is taken or given again.
+use mathlib.Core.Path.{_≡_, refl}
+use mathlib.Core.List.{List}
+use Prim.Native.Nat.{ℕ}
+use lib.IntN.{ℤ}
+use lib.ListN.{length}
+use Rattle.rules.specs.declared.Settings.{Settings}
+use Rattle.keyboard.specs.declared.Keyboard.{Keyboard}
+use Rattle.pitch.specs.declared.Pitch.{Pitch as KeptPitch}
+use Rattle.answers.specs.declared.Answer.{Answer}
+use Rattle.record.specs.declared.Heard.{Heard}
+use Rattle.record.specs.declared.Head.{Head}
+use Rattle.record.specs.declared.Last.{Last}
+use Rattle.tuner.specs.declared.LastNumbers.{LastNumbers}
+use Rattle.tuner.specs.declared.Tuner.{Tuner}
+use Rattle.tuner.specs.Tuners.{takeOf, afterBlock}
+
+-- the last block with these numbers and this output
+abbrev pub lastWith : LastNumbers → List ℤ → Last
+lastWith n out = record { number = n .number; length = n .length; repeated = n .repeated; dropped = n .dropped; out = out }
+
+-- the tuner with these parts
+abbrev pub tunerOf : Settings → ℕ → Keyboard → Heard → KeptPitch → Head → Last → Tuner
+tunerOf settings hertz keyboard heard pitch head last = record { settings = settings; hertz = hertz; keyboard = keyboard; heard = heard; pitch = pitch; head = head; last = last }
+
+-- the answer to the samples xs, with the counts of a last block
+abbrev pub given : ℕ → List ℤ → LastNumbers → Answer
+given number xs n = record { number = number; written = length xs; repeated = n .repeated; dropped = n .dropped }
+
+-- what a block that is taken leaves is made of the other parts alone
+pub last-unread : (settings : Settings) (hertz : ℕ) (keyboard : Keyboard) (heard : Heard) (pitch : KeptPitch) (head : Head) (last last′ : Last) (number : ℕ) (xs : List ℤ)
+    → afterBlock (tunerOf settings hertz keyboard heard pitch head last) number xs ≡ afterBlock (tunerOf settings hertz keyboard heard pitch head last′) number xs
+unfolding afterBlock takeOf
+last-unread settings hertz keyboard heard pitch head last last′ number xs = refl
