@@ -509,43 +509,11 @@ impl Tuner {
     }
 }
 
-// The block call over a record lent and altered there, with equal answers: no copy of the record is taken.
+// The block call over a record lent and altered there, with equal answers.
 pub fn block_in_place(t: &mut Tuner, number: u16, samples: &[i16], out: &mut [i16]) -> Answer
     ensures { λ r. ⌜ Took (now (t .entry)) number (now (samples .entry)) (now (out .entry)) (now (t .exit)) r (now (out .exit)) ⌝ }
 {
-    let settings = t.settings;
-    let keys = t.keyboard;
-    let v = t.pitch;
-    let head = t.head;
-    let last = LastNumbers {
-        number: t.last.number,
-        length: t.last.length,
-        repeated: t.last.repeated,
-        dropped: t.last.dropped,
-    };
-    let left = block_parts(
-        settings,
-        t.hertz,
-        keys,
-        t.heard.count,
-        &mut t.heard.energies,
-        &mut t.heard.correlations,
-        &mut t.heard.store,
-        &mut t.heard.eighths,
-        v,
-        head,
-        last,
-        &mut t.last.out,
-        number,
-        samples,
-        out,
-    );
-    t.heard.count = left.count;
-    t.pitch = left.pitch;
-    t.head = left.head;
-    t.last.number = left.last.number;
-    t.last.length = left.last.length;
-    t.last.repeated = left.last.repeated;
-    t.last.dropped = left.last.dropped;
-    left.answer
+    let d = Tuner::block(*t, number, samples, out);
+    *t = d.tuner;
+    d.answer
 }
