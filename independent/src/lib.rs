@@ -16,6 +16,7 @@ pub mod rules;
 pub mod settings;
 pub mod statistics;
 pub mod table;
+pub mod takes;
 pub mod tuner;
 pub mod words;
 

@@ -5,7 +5,7 @@ use crate::keyboard::{Event, Keyboard, Message};
 use crate::rules::*;
 use crate::settings::Settings;
 use crate::table::{notes_at, CD, FILM};
-use crate::tuner::{Answer, Standing};
+use crate::tuner::{Answer, Mode, Standing};
 use std::fmt;
 
 /// Numbers of answers, 10 for a line that cannot be read among them.
@@ -150,6 +150,12 @@ counters! {
     reads_before_take,
     /// Reads beyond their second neighbour.
     reads_between,
+    /// Blocks taken: the shortest, the longest, and those that begin between two
+    /// searches, or two steps, and not where one has just been.
+    blocks_of_1,
+    blocks_of_512,
+    blocks_begun_between_searches,
+    blocks_begun_between_steps,
     /// Values that are held, above 32767 and below -32768.
     values_held_above,
     values_held_below,
@@ -430,6 +436,17 @@ impl Statistics {
         self.reads_before_take += u64::from(read_index(position) < 0);
         self.reads_between += u64::from(read_steps(position) > 0);
         self.largest_behind = self.largest_behind.max(behind);
+    }
+
+    /// A block of this length, taken after so many samples.
+    pub fn block(&mut self, length: usize, count: usize, mode: Mode) {
+        self.blocks_of_1 += u64::from(length == 1);
+        self.blocks_of_512 += u64::from(length == LONGEST_BLOCK);
+        let (counter, apart) = match mode {
+            Mode::Searching => (&mut self.blocks_begun_between_searches, 8),
+            Mode::Tracking(_) => (&mut self.blocks_begun_between_steps, 5),
+        };
+        *counter += u64::from(!count.is_multiple_of(apart));
     }
 
     pub fn value(&mut self, value: i64) {

@@ -274,6 +274,7 @@ impl Tuner {
         output: &mut [i16],
         seen: &mut Statistics,
     ) -> Counts {
+        seen.block(samples.len(), self.take.count(), self.mode);
         let mut counts = Counts::default();
         for (&sample, out) in samples.iter().zip(output.iter_mut()) {
             let (read, cycle) = self.sample(sample, seen);

@@ -38,7 +38,7 @@ fn the_program_is_equal_to_itself() {
     assert!(said[0].starts_with("seed 7: "));
     assert!(said[1].starts_with("seed 8: "));
     assert!(said[2].starts_with("equal: "));
-    assert!(said[2].contains("; 38 kinds, seeds 7 to 8, "));
+    assert!(said[2].contains("; 39 kinds, seeds 7 to 8, "));
     assert_eq!(said.len(), 3);
     let words: Vec<&str> = said[2].split(' ').collect();
     let (lines, samples): (u64, u64) = (words[1].parse().unwrap(), words[3].parse().unwrap());

@@ -1,13 +1,20 @@
 //! The night: what it is put together from, and that it can be stored.
 
+use independent::generator::cuts::CUTTINGS;
 use independent::generator::kinds::KINDS;
 use independent::generator::night::{script_of, write_night, AT_ONCE, NIGHT};
 use independent::lines::answers_to;
+use independent::takes::{hold_cuttings, takes_of, Stretch};
 
 fn night() -> Vec<u8> {
     let mut bytes = Vec::new();
     write_night(&mut bytes).unwrap();
     bytes
+}
+
+/// How many lines end there.
+fn lines(bytes: &[u8]) -> usize {
+    bytes.iter().filter(|&&byte| byte == b'\n').count()
 }
 
 #[test]
@@ -61,7 +68,32 @@ fn it_is_answered_to_its_last_line() {
     let whole_case = answers.strip_prefix(&opening[..]).unwrap();
     assert!(whole_case.starts_with(&answers_to(WHOLE_CASE).0));
     assert!(answers.ends_with(b"\n0\n0\t3\t0\t0\t0\t0\t0\n"));
-    let lines = |bytes: &[u8]| bytes.iter().filter(|&&byte| byte == b'\n').count();
     assert_eq!(lines(&answers), lines(&night) + 1);
     assert!(night.len() + answers.len() < 4_500_000);
+}
+
+/// A take at each rate, cut in every way, with changes and keys between: in the
+/// night's own answers all cuttings give the same.
+#[test]
+fn its_takes_may_be_cut_in_any_way() {
+    let row = NIGHT.iter().find(|row| row.0 == "cuts").unwrap();
+    let (night, script) = (night(), script_of(row));
+    let parts = &mut night.windows(script.len());
+    let begins = parts.position(|part| part == script).unwrap();
+    let (answers, _) = answers_to(&night);
+    let answers = answers.split_inclusive(|&byte| byte == b'\n');
+    let answers = answers.skip(lines(&night[..begins])).take(lines(&script));
+    let answers = &answers.collect::<Vec<_>>().concat();
+    assert_eq!(hold_cuttings(&script, answers, CUTTINGS.len()), Ok(2));
+    let played = takes_of(&script, answers);
+    let rates = [&played[0], &played[CUTTINGS.len()]].map(|played| {
+        let stretches = &played.take.stretches;
+        let is_key = |stretch: &Stretch| matches!(stretch, Stretch::Bytes(_));
+        let is_change = |stretch: &Stretch| matches!(stretch, Stretch::Change(line) if line.starts_with(b"change\t"));
+        assert!(stretches.iter().any(is_key) && stretches.iter().any(is_change));
+        assert!(played.output.len() > 900, "{} samples", played.output.len());
+        played.take.start.ends_with(b"\t48000")
+    });
+    assert_eq!(rates, [true, false]);
+    assert!(played.iter().any(|played| played.counts[1] > 0));
 }

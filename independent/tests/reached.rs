@@ -80,6 +80,10 @@ const REACHED: &[(&str, &str, u64)] = &[
     ("cycles_dropped", "shifted", 2),
     ("reads_before_take", "rough", 1),
     ("reads_between", "tones", 1),
+    ("blocks_of_1", "cuts", 1),
+    ("blocks_of_512", "cuts", 1),
+    ("blocks_begun_between_searches", "cuts", 1),
+    ("blocks_begun_between_steps", "cuts", 1),
     ("values_held_above", "squares", 2),
     ("values_held_below", "squares", 2),
     ("bytes_of_real_time", "bytes", 1),
@@ -279,7 +283,7 @@ fn reached_tuners_are_good() {
     let kinds = ["mixed", "rough", "glides", "settings"];
     let played = ["played", "octaves", "pieces", "bytes"];
     let held = ["goals", "decays", "keys"];
-    let filmed = ["film", "rates", "ends"];
+    let filmed = ["film", "rates", "ends", "cuts"];
     let kinds = kinds.into_iter().chain(played).chain(held).chain(filmed);
     for (kind, seed) in kinds.map(|kind| (kind, 3)) {
         let script = script(kind_named(kind).unwrap(), seed, 50_000);

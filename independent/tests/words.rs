@@ -42,3 +42,11 @@ fn wrong_words_are_status_2_and_the_usage_on_standard_error() {
         assert!(begins(&output.stderr, name), "{name}");
     }
 }
+
+/// Takes that are cut in several ways have no one length of blocks.
+#[test]
+fn cuts_take_no_length() {
+    let generate = |kind| run(COMMANDS[1].1, &[kind, "1", "100", "64"]).status.code();
+    assert_eq!(generate("tones"), Some(0));
+    assert_eq!(generate("cuts"), Some(2));
+}

@@ -8,7 +8,7 @@ use independent::words::{words, wrong};
 use std::io::{self, BufWriter};
 use std::process::ExitCode;
 
-const USAGE: &str = "generate KIND SEED SAMPLES [LENGTH of blocks, 1 to 512]
+const USAGE: &str = "generate KIND SEED SAMPLES [LENGTH of blocks, 1 to 512, but for cuts]
        generate --kinds";
 
 fn main() -> ExitCode {
@@ -43,7 +43,8 @@ fn generate(kind: &str, seed: &str, samples: &str, length: Option<&str>) -> Opti
         None => None,
         Some(length) => Some(length.parse().ok()?),
     };
-    if length.is_some_and(|length| !(1..=LONGEST_BLOCK).contains(&length)) {
+    let can_be = |length| (1..=LONGEST_BLOCK).contains(&length) && !kind.cut;
+    if length.is_some_and(|length| !can_be(length)) {
         return None;
     }
     let to = BufWriter::new(io::stdout().lock());

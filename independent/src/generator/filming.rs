@@ -25,6 +25,11 @@ fn start(random: &mut Random) -> String {
     format!("start\t{WILLING}{}", random.one_of(RATES))
 }
 
+/// Such a start, and keyboard mode again.
+pub fn played_start(random: &mut Random) -> Vec<u8> {
+    format!("{}\nmode\t1", start(random)).into_bytes()
+}
+
 /// Starts, changes, resets and keys, among starts that are refused and lines that
 /// would have to be read wrongly to alter the rate.
 pub fn switches(random: &mut Random, moment: &Moment) -> Option<Vec<u8>> {
@@ -51,10 +56,10 @@ pub fn switches(random: &mut Random, moment: &Moment) -> Option<Vec<u8>> {
 }
 
 /// Keys inside and outside the tables' ends, most often of the end near which it
-/// is sung, and now and then a start, after which it is keyboard mode again.
+/// is sung, and now and then a start.
 pub fn ends(random: &mut Random, moment: &Moment) -> Option<Vec<u8>> {
     match random.whole(0, 99) {
-        0..=1 => Some(format!("{}\nmode\t1", start(random)).into_bytes()),
+        0..=1 => Some(played_start(random)),
         2..=24 => {
             let low = random.one_of(&[31, 32, 32, 33, 33, 34]);
             let high = random.one_of(&[99, 100, 101, 102, 103, 103]);

@@ -1,6 +1,7 @@
 //! The kinds of script: what is sung, and how it is sent.
 
 use super::choices::choice_line;
+use super::cuts;
 use super::filming;
 use super::holding;
 use super::hostile::{endless_line, hostile_line};
@@ -17,7 +18,7 @@ const FULL: f64 = 32_768.0;
 type Singing = fn(&mut Random, usize) -> Passage;
 
 /// Lines after a block, if there are any, by chance and by what then stands.
-type Following = fn(&mut Random, &Moment) -> Option<Vec<u8>>;
+pub type Following = fn(&mut Random, &Moment) -> Option<Vec<u8>>;
 
 pub struct Kind {
     pub name: &'static str,
@@ -42,6 +43,8 @@ pub struct Kind {
     pub unreadable: usize,
     /// What may follow each block.
     pub following: Option<Following>,
+    /// Whether each of its takes is sent several times, cut in other ways.
+    pub cut: bool,
 }
 
 const fn kind(name: &'static str, meaning: &'static str, singing: Singing) -> Kind {
@@ -58,6 +61,7 @@ const fn kind(name: &'static str, meaning: &'static str, singing: Singing) -> Ki
         trouble: 0,
         unreadable: 0,
         following: None,
+        cut: false,
     }
 }
 
@@ -234,6 +238,14 @@ pub const KINDS: &[Kind] = &[
         lengths: (1, 60),
         following: Some(filming::ends),
         ..played("ends", "keys at the ends of both tables", at_the_ends)
+    },
+    Kind {
+        settings: Some("4095\t409\t0\t1\t48000"),
+        lengths: (1, 400),
+        changes: 60,
+        following: Some(cuts::falls),
+        cut: true,
+        ..played("cuts", "each take cut in several ways", both)
     },
     Kind {
         settings: Some("4095\t409\t0\t1"),

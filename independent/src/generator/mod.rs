@@ -5,6 +5,7 @@
 
 pub mod cases;
 mod choices;
+pub mod cuts;
 pub mod edges;
 mod filming;
 mod holding;

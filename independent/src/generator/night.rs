@@ -13,7 +13,7 @@ pub const NIGHT: &[(&str, u64, usize)] = &[
     ("opening", 3, 5_000),
     ("tones", 29, 8_000),
     ("glides", 192, 30_000),
-    ("vibrato", 3, 8_000),
+    ("vibrato", 3, 2_000),
     ("hollow", 54, 8_000),
     ("noise", 86, 8_000),
     ("tails", 91, 8_000),
@@ -21,7 +21,7 @@ pub const NIGHT: &[(&str, u64, usize)] = &[
     ("steps", 32, 8_000),
     ("pulses", 4, 8_000),
     ("soft", 2, 8_000),
-    ("cycles", 3, 8_000),
+    ("cycles", 3, 5_000),
     ("shifted", 73, 20_000),
     ("halves", 33, 8_000),
     ("level", 72, 8_000),
@@ -46,6 +46,7 @@ pub const NIGHT: &[(&str, u64, usize)] = &[
     ("film", 9, 8_000),
     ("rates", 231, 10_000),
     ("ends", 236, 9_000),
+    ("cuts", 2409, 7_000),
     ("hostile", 29, 9_400),
 ];
 

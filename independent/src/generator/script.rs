@@ -1,5 +1,6 @@
 //! A script: the sound of a kind cut into blocks, with what else is sent.
 
+use super::cuts::write_cuts;
 use super::filming::{any_rate, RATES};
 use super::kinds::Kind;
 use super::random::Random;
@@ -12,7 +13,8 @@ use crate::tuner::{Answer, Tuner};
 use std::io::{self, Write};
 
 /// Writes the script of a kind and a seed that has at least so many samples
-/// in blocks to be taken. With a length, those blocks have just that one.
+/// in blocks to be taken. With a length, those blocks have just that one, unless
+/// the kind cuts its takes itself.
 pub fn write_script(
     kind: &Kind,
     seed: u64,
@@ -20,30 +22,11 @@ pub fn write_script(
     length: Option<usize>,
     to: impl Write,
 ) -> io::Result<()> {
-    let mut random = Random::seeded(seed);
-    let mut script = Script {
-        kind,
-        passages: random.whole(0, 99),
-        random,
-        rates: rates_of(kind, seed),
-        to,
-        sung: Vec::new(),
-        phase: 0.0,
-        period: 0.0,
-        followed: 0,
-        hertz: CD,
-        last: None,
-    };
-    script.open()?;
-    let lengths = length.map_or(kind.lengths, |length| (length, length));
-    let mut sent = 0;
-    while sent < samples {
-        let length = script.random.whole(lengths.0, lengths.1);
-        script.next_block(length)?;
-        sent += length;
-        script.between_blocks()?;
+    if kind.cut {
+        return write_cuts(kind, seed, samples, to);
     }
-    script.close()
+    let lengths = length.map_or(kind.lengths, |length| (length, length));
+    Script::of(kind, seed, to).write(samples, lengths)
 }
 
 /// Chance for the rates on start lines alone, so that all else of a script is
@@ -51,6 +34,15 @@ pub fn write_script(
 fn rates_of(kind: &Kind, seed: u64) -> Random {
     let bytes = kind.name.bytes().map(u64::from);
     Random::seeded(bytes.fold(!seed, |mixed, byte| mixed.rotate_left(8) ^ byte))
+}
+
+/// So many choices are there of a block that changes nothing.
+pub const IN_VAIN: usize = 70;
+
+/// The line of this block.
+pub fn block_line(number: u16, samples: &[i16]) -> Vec<u8> {
+    let fields = samples.iter().map(|sample| format!("\t{sample}"));
+    format!("block\t{number}{}", fields.collect::<String>()).into_bytes()
 }
 
 /// What stands when a block was sent and something may follow it.
@@ -72,11 +64,11 @@ pub fn script(kind: &Kind, seed: u64, samples: usize) -> Vec<u8> {
     bytes
 }
 
-struct Script<'a, W> {
+pub struct Script<'a, W> {
     kind: &'a Kind,
-    random: Random,
+    pub random: Random,
     rates: Random,
-    to: W,
+    pub to: W,
     /// Sung and not yet sent.
     sung: Vec<i16>,
     phase: f64,
@@ -92,7 +84,38 @@ struct Script<'a, W> {
     last: Option<(u16, Vec<i16>)>,
 }
 
-impl<W: Write> Script<'_, W> {
+impl<'a, W: Write> Script<'a, W> {
+    /// One of which nothing is sent yet.
+    pub fn of(kind: &'a Kind, seed: u64, to: W) -> Script<'a, W> {
+        let mut random = Random::seeded(seed);
+        Script {
+            kind,
+            passages: random.whole(0, 99),
+            random,
+            rates: rates_of(kind, seed),
+            to,
+            sung: Vec::new(),
+            phase: 0.0,
+            period: 0.0,
+            followed: 0,
+            hertz: CD,
+            last: None,
+        }
+    }
+
+    /// Writes it as it is sung, in blocks of such lengths.
+    pub fn write(mut self, samples: usize, lengths: (usize, usize)) -> io::Result<()> {
+        self.open()?;
+        let mut sent = 0;
+        while sent < samples {
+            let length = self.random.whole(lengths.0, lengths.1);
+            self.next_block(length)?;
+            sent += length;
+            self.between_blocks()?;
+        }
+        self.close()
+    }
+
     /// One script in four begins with the settings that the program has,
     /// unless its kind has its own or none.
     fn open(&mut self) -> io::Result<()> {
@@ -173,11 +196,37 @@ impl<W: Write> Script<'_, W> {
 
     /// Something that is not the next block.
     fn trouble(&mut self) -> io::Result<()> {
+        let Some((_, samples)) = self.last.clone() else {
+            return Ok(());
+        };
+        match self.random.whole(0, 99) {
+            which @ 0..IN_VAIN => self.send_in_vain(which),
+            IN_VAIN..=74 => {
+                // As long as a line may be, and its only sample is 0.
+                let beginning = format!("block\t{}\t", self.next());
+                let line = filled_line(beginning.as_bytes(), LONGEST_LINE);
+                self.send(&line)
+            }
+            75..=84 => self.send_settings("change"),
+            85..=89 => self.send_refused_settings("change"),
+            90..=94 => self.send_refused_settings("start"),
+            95..=96 => self.send_settings("start"),
+            97..=98 => self.send(b"reset"),
+            _ => {
+                // The old samples as a first block are no repeat.
+                self.send(b"reset")?;
+                self.send_block(0, &samples)
+            }
+        }
+    }
+
+    /// A block that changes nothing: the last one again, or one to be refused.
+    pub fn send_in_vain(&mut self, which: usize) -> io::Result<()> {
         let Some((number, samples)) = self.last.clone() else {
             return Ok(());
         };
         let next = self.next();
-        match self.random.whole(0, 99) {
+        match which {
             0..=29 => self.send_block(number, &samples),
             30..=39 => {
                 let mut other = samples;
@@ -192,7 +241,8 @@ impl<W: Write> Script<'_, W> {
                 self.send_block(number, &longer)
             }
             50..=54 => {
-                let other = self.random.next() as u16;
+                let any = self.random.next() as u16;
+                let other = if any == next { number } else { any };
                 self.send_block(other, &samples)
             }
             55..=59 => {
@@ -204,26 +254,10 @@ impl<W: Write> Script<'_, W> {
                 let number = self.random.one_of(&[number, next, 65_535]);
                 self.send_block(number, &[])
             }
-            65..=69 => {
+            _ => {
                 let length = self.random.one_of(&[513, 600, 2_000]);
                 let number = self.random.one_of(&[number, next, 65_535]);
                 self.send_block(number, &vec![7; length])
-            }
-            70..=74 => {
-                // As long as a line may be, and its only sample is 0.
-                let beginning = format!("block\t{next}\t");
-                let line = filled_line(beginning.as_bytes(), LONGEST_LINE);
-                self.send(&line)
-            }
-            75..=84 => self.send_settings("change"),
-            85..=89 => self.send_refused_settings("change"),
-            90..=94 => self.send_refused_settings("start"),
-            95..=96 => self.send_settings("start"),
-            97..=98 => self.send(b"reset"),
-            _ => {
-                // The old samples as a first block are no repeat.
-                self.send(b"reset")?;
-                self.send_block(0, &samples)
             }
         }
     }
@@ -251,7 +285,7 @@ impl<W: Write> Script<'_, W> {
     }
 
     /// Settings that can be read, one or more of them out of range.
-    fn send_refused_settings(&mut self, word: &str) -> io::Result<()> {
+    pub fn send_refused_settings(&mut self, word: &str) -> io::Result<()> {
         let settings = self.random.one_of(&[
             "0\t100\t0\t100",
             "4096\t100\t0\t100",
@@ -268,15 +302,11 @@ impl<W: Write> Script<'_, W> {
     }
 
     fn send_block(&mut self, number: u16, samples: &[i16]) -> io::Result<()> {
-        let mut line = format!("block\t{number}").into_bytes();
-        for sample in samples {
-            write!(line, "\t{sample}")?;
-        }
-        self.send(&line)
+        self.send(&block_line(number, samples))
     }
 
     /// Sends lines and keeps account of the last block that was taken.
-    fn send(&mut self, lines: &[u8]) -> io::Result<()> {
+    pub fn send(&mut self, lines: &[u8]) -> io::Result<()> {
         for line in lines.split(|&byte| byte == b'\n') {
             match Record::on(line) {
                 Some(Record::Block(number, samples)) => {
