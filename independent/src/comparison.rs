@@ -5,6 +5,7 @@
 //! it never stands still for this program, nor this one for it.
 
 use crate::lines::Program;
+use crate::takes::Disagreement;
 use std::fmt;
 use std::io::{self, Read, Write};
 use std::process::{ChildStdin, ChildStdout, Command, ExitStatus, Stdio};
@@ -67,6 +68,8 @@ pub enum Unequal {
     Silence { line: u64, input: Vec<u8> },
     /// All answers are equal, but the other program says that it failed.
     Status(ExitStatus),
+    /// All answers are equal, but those to the cuttings of a take do not agree.
+    Cutting(Disagreement),
     /// The other program cannot be run.
     NotRun(io::Error),
 }
@@ -93,6 +96,7 @@ impl fmt::Display for Unequal {
                 write!(to, "  input     {}", shown(input, 0))
             }
             Unequal::Status(status) => write!(to, "all answers are equal, but then: {status}"),
+            Unequal::Cutting(disagreement) => write!(to, "{disagreement}"),
             Unequal::NotRun(error) => write!(to, "the program cannot be run: {error}"),
         }
     }
@@ -111,13 +115,13 @@ fn shown(line: &[u8], from: usize) -> String {
 }
 
 /// Gives a script to both programs, the other being this command, and counts
-/// what is equal.
+/// what is equal. Gives the other's answers.
 pub fn compare(
-    script: Vec<u8>,
+    script: &[u8],
     command: &[String],
     host: Host,
     equal: &mut Equal,
-) -> Result<(), Unequal> {
+) -> Result<Vec<u8>, Unequal> {
     let mut child = Command::new(&command[0])
         .args(&command[1..])
         .stdin(Stdio::piped())
@@ -151,14 +155,15 @@ fn writer(mut input: ChildStdin, script: Arc<[u8]>, host: Host) -> Sender<()> {
     go
 }
 
-/// Holds the answers to this program's.
+/// Holds the answers to this program's, and gives them.
 fn hold(
     script: &[u8],
     go: Sender<()>,
     mut answers: Answers,
     equal: &mut Equal,
-) -> Result<(), Unequal> {
+) -> Result<Vec<u8>, Unequal> {
     let mut program = Program::default();
+    let mut got = Vec::new();
     let mut line = 1;
     for input in script.split_inclusive(|&byte| byte == b'\n') {
         // A streaming writer is told once, and then no longer listens.
@@ -168,11 +173,12 @@ fn hold(
         if !input.ends_with(b"\n") {
             program.end(&mut expected);
         }
-        answers.hold(line, input, &expected)?;
+        got.extend(answers.hold(line, input, &expected)?);
         equal.add_answer(&expected);
         line += 1;
     }
-    answers.hold(line, b"", b"")
+    answers.hold(line, b"", b"")?;
+    Ok(got)
 }
 
 /// What the other program writes, as it comes.
@@ -202,14 +208,14 @@ impl Answers {
         }
     }
 
-    /// Holds the next line to the one that is expected.
-    fn hold(&mut self, line: u64, input: &[u8], expected: &[u8]) -> Result<(), Unequal> {
+    /// Holds the next line to the one that is expected, and gives it.
+    fn hold(&mut self, line: u64, input: &[u8], expected: &[u8]) -> Result<Vec<u8>, Unequal> {
         let got = self.next(expected.len()).ok_or_else(|| Unequal::Silence {
             line,
             input: input.to_vec(),
         })?;
         if got == expected {
-            return Ok(());
+            return Ok(got);
         }
         Err(Unequal::Answer {
             line,

@@ -1,9 +1,12 @@
 //! `compare [--waiting] FIRST_SEED SEEDS SAMPLES -- COMMAND ARG..`: holds
-//! another line program to this one, by a script of each kind for each seed.
+//! another line program to this one, by a script of each kind for each seed; and
+//! its answers to the cuttings of a take to one another.
 
 use independent::comparison::{compare, Equal, Host, Unequal};
-use independent::generator::kinds::KINDS;
+use independent::generator::cuts::CUTTINGS;
+use independent::generator::kinds::{Kind, KINDS};
 use independent::generator::script::script;
+use independent::takes::hold_cuttings;
 use independent::words::{words, wrong};
 use std::ops::RangeInclusive;
 use std::process::ExitCode;
@@ -66,8 +69,16 @@ fn main() -> ExitCode {
 /// A script of each kind, up to the kind where the programs differ.
 fn compare_kinds(seed: u64, task: &Task, equal: &mut Equal) -> Result<(), (&'static str, Unequal)> {
     for kind in KINDS {
-        let script = script(kind, seed, task.samples);
-        compare(script, &task.command, task.host, equal).map_err(|unequal| (kind.name, unequal))?;
+        compare_kind(kind, seed, task, equal).map_err(|unequal| (kind.name, unequal))?;
+    }
+    Ok(())
+}
+
+fn compare_kind(kind: &Kind, seed: u64, task: &Task, equal: &mut Equal) -> Result<(), Unequal> {
+    let script = script(kind, seed, task.samples);
+    let answers = compare(&script, &task.command, task.host, equal)?;
+    if kind.cut {
+        hold_cuttings(&script, &answers, CUTTINGS.len()).map_err(Unequal::Cutting)?;
     }
     Ok(())
 }
