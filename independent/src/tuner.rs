@@ -396,6 +396,14 @@ impl Tuner {
         Some(wanted_note(self.hertz, scale, period))
     }
 
+    /// All of it that does not depend on how a take is cut.
+    pub fn without_last_block(&self) -> Tuner {
+        Tuner {
+            last: None,
+            ..self.clone()
+        }
+    }
+
     fn pitch(&self) -> Option<Pitch> {
         match self.mode {
             Mode::Searching => None,

@@ -1,10 +1,15 @@
-//! The cutting of a take does not matter: its cuttings give the same, and what
-//! holds them to one another finds where they do not.
+//! The cutting of a take does not matter: its cuttings give the same and leave
+//! the same tuner, and what holds them to one another finds where they do not.
 
 use independent::generator::cuts::CUTTINGS;
+use independent::generator::edges::bytes_of;
 use independent::generator::kinds::kind_named;
 use independent::generator::script::script;
 use independent::lines::{answers_to, Program, Record};
+use independent::record::{self, made, Call};
+use independent::rules::LONGEST_BLOCK;
+use independent::settings::Settings;
+use independent::table::CD;
 use independent::takes::{hold_cuttings, takes_of, Stretch};
 use std::collections::HashSet;
 
@@ -129,6 +134,85 @@ fn cuttings_give_the_same() {
     });
     let takes: usize = takes.sum();
     assert!(takes > 40, "{takes} takes");
+}
+
+/// After every cutting of a take the tuner is the same, its last block apart.
+#[test]
+fn cuttings_leave_the_same_tuner() {
+    for seed in 1..=30 {
+        let left = cuttings(&cuts(seed, 10_000)).into_iter().map(|cutting| {
+            let mut program = Program::default();
+            for (line, _) in cutting {
+                read(&mut program, &line);
+            }
+            program.tuner().clone()
+        });
+        let left: Vec<_> = left.collect();
+        for take in left.chunks(WAYS) {
+            for tuner in take {
+                assert_eq!(tuner.meter(), take[0].meter());
+                assert!(tuner.without_last_block() == take[0].without_last_block());
+            }
+            // The last block itself is not the same.
+            assert!(take.iter().any(|tuner| *tuner != take[0]));
+        }
+    }
+}
+
+/// The call that a line makes of a record.
+fn call(line: Record, record: &record::Record) -> Call {
+    let now = record.settings;
+    match line {
+        Record::Start(hertz, settings) => Call::Start(hertz.unwrap_or(CD), settings),
+        Record::Change(to) => Call::Change(Settings {
+            mode: now.mode,
+            channel: now.channel,
+            ..to
+        }),
+        Record::Mode(mode) => Call::Change(Settings { mode, ..now }),
+        Record::Channel(channel) => Call::Change(Settings { channel, ..now }),
+        Record::Midi(bytes) => Call::Midi(bytes),
+        Record::Block(number, samples) => Call::Block {
+            number,
+            samples,
+            out: vec![0; LONGEST_BLOCK],
+        },
+        Record::Reset => Call::Reset,
+    }
+}
+
+/// The record that these lines leave; only what is answered 0 alters it.
+fn record_after(cutting: &[Answered]) -> record::Record {
+    let mut left = record::Record::default_start();
+    for record in cutting.iter().filter_map(|(line, _)| Record::on(line)) {
+        let made = made(&bytes_of(left.bytes()), &call(record, &left));
+        if made.number == 0 {
+            left = record::Record::of_bytes(&bytes_of(made.record));
+        }
+    }
+    left
+}
+
+/// So does the record that hosts keep, with every store and sum of it.
+#[test]
+fn cuttings_leave_the_same_record() {
+    for seed in 1..=4 {
+        for take in cuttings(&cuts(seed, 8_000)).chunks(WAYS) {
+            let left: Vec<_> = take.iter().map(|cutting| record_after(cutting)).collect();
+            assert!(left[0].count > 0);
+            for record in &left {
+                let with_last_block_of_first = record::Record {
+                    number: left[0].number,
+                    length: left[0].length,
+                    repeated: left[0].repeated,
+                    dropped: left[0].dropped,
+                    out: left[0].out,
+                    ..record.clone()
+                };
+                assert!(with_last_block_of_first == left[0]);
+            }
+        }
+    }
 }
 
 /// What is said of a script with these answers, from the take and cutting on.
