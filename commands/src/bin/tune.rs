@@ -1,0 +1,324 @@
+//! `./tune IN.wav OUT.wav`: a take through the tuner, block after block.
+
+use commands::options::{scale, Words};
+use commands::{failed, finish, limits_are_errors, no, on, print, End, Source, WINDOW};
+use daxfolin::wave::{self, Seek, Take};
+use daxfolin::{Meter, Record, Settings, LONGEST_BLOCK, TAKEN};
+use std::ffi::{c_int, OsString};
+use std::fs::{self, File};
+use std::io::{self, BufReader, BufWriter, ErrorKind, IsTerminal, Read, Write};
+use std::os::unix::ffi::OsStrExt;
+use std::os::unix::fs::MetadataExt;
+use std::path::{Path, PathBuf};
+use std::process::ExitCode;
+use std::sync::atomic::{AtomicI32, Ordering::Relaxed};
+
+const HELP: &str = include_str!("../../tune.txt");
+
+fn main() -> ExitCode {
+    finish("tune", HELP, run)
+}
+
+fn run(words: Vec<OsString>) -> Result<(), End> {
+    let valued = ["--scale", "--eps", "--decay", "--floor"];
+    let words = Words::part(words, &valued, &["-f", "--help", "--version"], HELP)?;
+    if words.has("--help") {
+        return print(HELP);
+    }
+    if words.has("--version") {
+        return print(&commands::version("tune"));
+    }
+    let [name, out] = words.files(["IN.wav", "OUT.wav"])?.map(Path::new);
+    let settings = settings(&words)?;
+
+    let source = Source::open(name, |name| File::open(name))?;
+    let refused = |number| End::Refused(name.display().to_string(), number);
+    let seek = source.walk(Seek::take(source.was.len()))?;
+    let take = seek.found().map_err(refused)?;
+    let header = wave::header(take.hertz, take.count).map_err(refused)?;
+    let (number, tuner) = Record::start(take.hertz, settings);
+    if number != TAKEN {
+        return Err(End::Refused("the settings".to_string(), number));
+    }
+
+    let place = place(out, &source, words.has("-f"))?;
+    for number in ENDS {
+        on(number, note);
+    }
+    limits_are_errors();
+    let mut part = Part::beside(&place).map_err(|error| failed(out, &error))?;
+    part.write(&header).map_err(|error| failed(out, &error))?;
+    let tuned = tune(&source, &take, tuner, out, &mut part)?;
+    source.unchanged()?;
+    part.flush().map_err(|error| failed(out, &error))?;
+    ended()?;
+    part.becomes(&place, words.has("-f"))
+        .map_err(|error| unplaced(out, &error))?;
+    print(&tuned.line(&take))
+}
+
+fn settings(words: &Words) -> Result<Settings, End> {
+    let unless = Settings::default();
+    let scale = match words.value("--scale") {
+        None => unless.scale,
+        Some(text) => scale(text).ok_or_else(|| {
+            let notes = "notes like C,D,E, a scale like A-minor, chromatic, or a number";
+            End::Usage(format!("--scale is {notes}, not '{text}'"))
+        })?,
+    };
+    Ok(Settings {
+        scale,
+        eps: words.number("--eps", unless.eps)?,
+        decay: words.number("--decay", unless.decay)?,
+        floor: words.number("--floor", unless.floor)?,
+        ..unless
+    })
+}
+
+// ---- the take
+
+/// What was done to a take.
+#[derive(Default)]
+struct Tuned {
+    repeated: u64,
+    dropped: u64,
+    blocks: u64,
+    /// Blocks after which the meter shows a pitch.
+    pitched: u64,
+}
+
+impl Tuned {
+    fn line(&self, take: &Take) -> String {
+        let hertz = u64::from(take.hertz);
+        let thousandths = (1000 * take.count + hertz / 2) / hertz;
+        let share = match self.blocks {
+            0 => String::new(),
+            blocks => {
+                let tenths = (1000 * self.pitched + blocks / 2) / blocks;
+                format!(" ({}.{} %)", tenths / 10, tenths % 10)
+            }
+        };
+        format!(
+            "{} samples, {}.{:03} s, {} cycles repeated, {} dropped, pitched after {} of {} blocks{share}\n",
+            take.count,
+            thousandths / 1000,
+            thousandths % 1000,
+            self.repeated,
+            self.dropped,
+            self.pitched,
+            self.blocks
+        )
+    }
+}
+
+/// Every block of the take through the tuner, one after the other, in the same few kilobytes.
+fn tune(
+    source: &Source,
+    take: &Take,
+    mut tuner: Record,
+    out: &Path,
+    part: &mut Part,
+) -> Result<Tuned, End> {
+    let mut from = BufReader::with_capacity(WINDOW, &source.file);
+    io::Seek::seek(&mut from, io::SeekFrom::Start(take.at))
+        .map_err(|error| source.unread(&error))?;
+    let mut progress = Progress::of(take);
+    let (mut sung, mut tuned) = ([0; LONGEST_BLOCK], [0; LONGEST_BLOCK]);
+    let mut bytes = [0; 2 * LONGEST_BLOCK];
+    let mut sums = Tuned::default();
+    let mut left = take.count;
+    while left > 0 {
+        ended()?;
+        let count = left.min(LONGEST_BLOCK as u64) as usize;
+        let bytes = &mut bytes[..2 * count];
+        from.read_exact(bytes)
+            .map_err(|error| source.unread(&error))?;
+        wave::samples(bytes, &mut sung);
+        // numbers of blocks begin again after 65535
+        let answer = tuner.block(sums.blocks as u16, &sung[..count], &mut tuned);
+        if answer.number != TAKEN {
+            return Err(End::Refused(
+                source.name.display().to_string(),
+                answer.number,
+            ));
+        }
+        wave::bytes(&tuned[..count], bytes);
+        part.write(bytes).map_err(|error| failed(out, &error))?;
+        sums.blocks += 1;
+        sums.repeated += u64::from(answer.repeated);
+        sums.dropped += u64::from(answer.dropped);
+        sums.pitched += u64::from(matches!(tuner.meter(), Meter::Pitched { .. }));
+        left -= count as u64;
+        progress.show(take.count - left);
+    }
+    Ok(sums)
+}
+
+/// How far a long take is, on a terminal.
+struct Progress {
+    samples: u64,
+    hundredths: u64,
+    shown: bool,
+}
+
+impl Progress {
+    fn of(take: &Take) -> Progress {
+        let long = take.count > 60 * u64::from(take.hertz);
+        Progress {
+            samples: take.count,
+            hundredths: 0,
+            shown: long && io::stderr().is_terminal(),
+        }
+    }
+
+    fn show(&mut self, done: u64) {
+        let hundredths = 100 * done / self.samples;
+        if self.shown && hundredths > self.hundredths {
+            self.hundredths = hundredths;
+            let _ = write!(io::stderr(), "\rtune: {hundredths} %");
+        }
+    }
+}
+
+/// What is said next has the line for itself.
+impl Drop for Progress {
+    fn drop(&mut self) {
+        if self.shown {
+            let _ = write!(io::stderr(), "\r\x1b[K");
+        }
+    }
+}
+
+// ---- OUT
+
+/// Where OUT is to stand: a new name, or with -f a regular file that is written over, by its own name where OUT is a link to it.
+fn place(out: &Path, source: &Source, over: bool) -> Result<PathBuf, End> {
+    match fs::metadata(out) {
+        Ok(is) if (is.dev(), is.ino()) == (source.was.dev(), source.was.ino()) => {
+            Err(no(out, &format!("it is {} itself", source.name.display())))
+        }
+        Ok(is) if is.is_dir() => Err(no(out, "it is a directory")),
+        Ok(is) if !is.is_file() => Err(no(out, "it is no regular file")),
+        Ok(_) if !over => Err(no(out, EXISTS)),
+        Ok(_) => fs::canonicalize(out).map_err(|error| failed(out, &error)),
+        Err(error) if error.kind() != ErrorKind::NotFound => Err(failed(out, &error)),
+        Err(_) if fs::symlink_metadata(out).is_ok() => {
+            Err(no(out, "it is a link that leads nowhere"))
+        }
+        Err(_) if out.as_os_str().as_bytes().ends_with(b"/") => {
+            Err(no(out, "it names a directory"))
+        }
+        Err(_) => Ok(out.to_path_buf()),
+    }
+}
+
+const EXISTS: &str = "it exists; -f writes over it";
+
+fn unplaced(out: &Path, error: &io::Error) -> End {
+    match error.kind() {
+        ErrorKind::AlreadyExists => no(out, EXISTS),
+        _ => failed(out, error),
+    }
+}
+
+/// OUT while it is not whole: a file beside it, with a name of its own, which goes when this does.
+///
+/// A name, and not a file without one (O_TMPFILE), since that is not to be had on the sticks and shares that takes come on. So a signal that
+/// asks the command to end is noted and looked for at each block, and the file goes as on every other failure; what ends it without asking
+/// (SIGKILL, a power cut) leaves a file whose name says what it is.
+struct Part {
+    name: PathBuf,
+    folder: PathBuf,
+    to: BufWriter<File>,
+    /// Its name was given away to OUT.
+    renamed: bool,
+}
+
+impl Part {
+    fn beside(place: &Path) -> io::Result<Part> {
+        let folder = match place.parent() {
+            Some(folder) if !folder.as_os_str().is_empty() => folder.to_path_buf(),
+            _ => PathBuf::from("."),
+        };
+        let mut tried = 0;
+        loop {
+            let name = folder.join(format!(".tune-{}-{tried}.part", std::process::id()));
+            match File::create_new(&name) {
+                // another process of this number left it, or has it: in another container, or on another machine
+                Err(error) if error.kind() == ErrorKind::AlreadyExists => tried += 1,
+                made => {
+                    return Ok(Part {
+                        name,
+                        folder,
+                        to: BufWriter::with_capacity(WINDOW, made?),
+                        renamed: false,
+                    })
+                }
+            }
+        }
+    }
+
+    fn write(&mut self, bytes: &[u8]) -> io::Result<()> {
+        self.to.write_all(bytes)
+    }
+
+    fn flush(&mut self) -> io::Result<()> {
+        self.to.flush()?;
+        self.to.get_ref().sync_all()
+    }
+
+    /// Takes its place at once.
+    fn becomes(mut self, place: &Path, over: bool) -> io::Result<()> {
+        if over {
+            self.rename(place)?;
+        } else {
+            self.link(place)?;
+        }
+        // The name outlasts a power cut once the folder is on the disk; not every folder can be opened, nor every file system asked for that.
+        let _ = File::open(&self.folder).and_then(|folder| folder.sync_all());
+        Ok(())
+    }
+
+    fn rename(&mut self, place: &Path) -> io::Result<()> {
+        fs::rename(&self.name, place)?;
+        self.renamed = true;
+        Ok(())
+    }
+
+    /// A second name of a file is made only where there is no such name yet. A file system without second names is asked once more whether
+    /// there is one, and the file is then renamed.
+    fn link(&mut self, place: &Path) -> io::Result<()> {
+        match fs::hard_link(&self.name, place) {
+            Err(error) if error.kind() == ErrorKind::AlreadyExists => Err(error),
+            Err(error) if fs::symlink_metadata(place).is_ok() => Err(error),
+            Err(_) => self.rename(place),
+            Ok(()) => Ok(()),
+        }
+    }
+}
+
+impl Drop for Part {
+    fn drop(&mut self) {
+        if !self.renamed {
+            let _ = fs::remove_file(&self.name);
+        }
+    }
+}
+
+// ---- signals that ask the command to end
+
+/// SIGHUP, SIGINT and SIGTERM.
+const ENDS: [c_int; 3] = [1, 2, 15];
+
+static NOTED: AtomicI32 = AtomicI32::new(0);
+
+extern "C" fn note(number: c_int) {
+    NOTED.store(number, Relaxed);
+}
+
+fn ended() -> Result<(), End> {
+    match NOTED.load(Relaxed) {
+        0 => Ok(()),
+        number => Err(End::Signal(number)),
+    }
+}
