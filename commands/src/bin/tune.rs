@@ -28,8 +28,8 @@ fn run(words: Vec<OsString>) -> Result<(), End> {
     if words.has("--version") {
         return print(&commands::version("tune"));
     }
-    let [name, out] = words.files(["IN.wav", "OUT.wav"])?.map(Path::new);
     let settings = settings(&words)?;
+    let [name, out] = words.files(["IN.wav", "OUT.wav"])?.map(Path::new);
 
     let source = Source::open(name, |name| File::open(name))?;
     let refused = |number| End::Refused(name.display().to_string(), number);
