@@ -12,6 +12,7 @@ pub const HEADER: usize = 44;
 pub const LIMIT: usize = 1000000000;
 
 // The answer to writing: a refusal, or how many bytes were written.
+#[repr(C)]
 pub struct WaveWritten {
     pub number: u32,
     pub length: usize,
