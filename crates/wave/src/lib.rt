@@ -25,8 +25,8 @@ pub struct WaveTake {
 #[repr(C)]
 pub struct WaveRead {
     pub number: u32,
-    pub count: usize,
     pub hertz: u32,
+    pub count: usize,
 }
 
 // A sample rate that is known.
