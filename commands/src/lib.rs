@@ -4,7 +4,13 @@
 
 pub mod options;
 
-use daxfolin::wave::Seek;
+use daxfolin::wave::{
+    Seek, FILE_TOO_LONG, FMT_WRONG, NOT_RIFF_WAVE, NO_DATA, NO_DATA_REACHED, NO_FMT, NO_GOOD_FMT,
+    RUNS_PAST,
+};
+use daxfolin::{
+    DECAY_OUT_OF_RANGE, EPS_OUT_OF_RANGE, FLOOR_OUT_OF_RANGE, SCALE_OUT_OF_RANGE, TAKE_FULL,
+};
 use std::ffi::{c_int, OsString};
 use std::fs::{self, File, Metadata};
 use std::io::{self, BufReader, ErrorKind, Read, Write};
@@ -29,20 +35,19 @@ pub enum End {
 /// The words for a proved call's number.
 fn meaning(number: u32) -> &'static str {
     match number {
-        7 => "the take has more than 1,000,000,000 samples",
-        8 => "the scale is 1 to 4095",
-        11 => "eps is 0 to 409",
-        12 => "decay is 0 to 255",
-        13 => "floor is 1 to 1000000",
-        16 => "the sample rate is neither 44,100 nor 48,000",
-        20 => "this is no RIFF WAVE file",
-        21 => "there is no fmt chunk before the data or the end",
-        22 => "the fmt chunk does not say PCM, one channel, 16 bits, 44,100 or 48,000 a second, or the data size is odd",
-        23 => "there is no data chunk",
-        24 => "a chunk runs past the RIFF chunk, or that past the file",
-        26 => "there is no fmt chunk that says PCM, one channel, 16 bits, 44,100 or 48,000 a second before the data or the end",
-        27 => "no data chunk is reached",
-        29 => "the file has 2,147,483,648 bytes or more",
+        TAKE_FULL => "the take has more than 1,000,000,000 samples",
+        SCALE_OUT_OF_RANGE => "the scale is 1 to 4095",
+        EPS_OUT_OF_RANGE => "eps is 0 to 409",
+        DECAY_OUT_OF_RANGE => "decay is 0 to 255",
+        FLOOR_OUT_OF_RANGE => "floor is 1 to 1000000",
+        NOT_RIFF_WAVE => "this is no RIFF WAVE file",
+        NO_FMT => "there is no fmt chunk before the data or the end",
+        FMT_WRONG => "the fmt chunk does not say PCM, one channel, 16 bits, 44,100 or 48,000 a second, or the data size is odd",
+        NO_DATA => "there is no data chunk",
+        RUNS_PAST => "a chunk runs past the RIFF chunk, or that past the file",
+        NO_GOOD_FMT => "there is no fmt chunk that says PCM, one channel, 16 bits, 44,100 or 48,000 a second before the data or the end",
+        NO_DATA_REACHED => "no data chunk is reached",
+        FILE_TOO_LONG => "the file has 2,147,483,648 bytes or more",
         _ => "the library refuses it",
     }
 }
