@@ -230,8 +230,8 @@ struct Part {
     name: PathBuf,
     folder: PathBuf,
     to: BufWriter<File>,
-    /// Its name was given away to OUT.
-    renamed: bool,
+    /// Its name is gone already.
+    gone: bool,
 }
 
 impl Part {
@@ -251,7 +251,7 @@ impl Part {
                         name,
                         folder,
                         to: BufWriter::with_capacity(WINDOW, made?),
-                        renamed: false,
+                        gone: false,
                     })
                 }
             }
@@ -281,7 +281,7 @@ impl Part {
 
     fn rename(&mut self, place: &Path) -> io::Result<()> {
         fs::rename(&self.name, place)?;
-        self.renamed = true;
+        self.gone = true;
         Ok(())
     }
 
@@ -292,14 +292,17 @@ impl Part {
             Err(error) if error.kind() == ErrorKind::AlreadyExists => Err(error),
             Err(error) if fs::symlink_metadata(place).is_ok() => Err(error),
             Err(_) => self.rename(place),
-            Ok(()) => Ok(()),
+            Ok(()) => {
+                self.gone = fs::remove_file(&self.name).is_ok();
+                Ok(())
+            }
         }
     }
 }
 
 impl Drop for Part {
     fn drop(&mut self) {
-        if !self.renamed {
+        if !self.gone {
             let _ = fs::remove_file(&self.name);
         }
     }
