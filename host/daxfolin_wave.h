@@ -142,7 +142,7 @@ daxfolin_wave_mending daxfolin_wave_mend(const uint8_t *bytes, size_t length);
  *     daxfolin_wave_take take = daxfolin_seek_found(seek);
  *
  * Given each time the file's bytes as it wants them, a seek wants bytes that lie in the file, comes to its end after at most an eighth as
- * many pieces as the file has bytes, and two, and has then found what reading, or mending, finds in the whole file. */
+ * many pieces as the file has bytes, and one, and has then found what reading, or mending, finds in the whole file. */
 
 /* A seek in a file of so many bytes: for its take, and for what is mended in it. (No file has 2^63 bytes: such a length is answered 20.) */
 daxfolin_seek daxfolin_seek_take(uint64_t length);

@@ -1,6 +1,6 @@
 -- What a whole walk to the file's end decides, over what was found: that it is what the definition says of the file.
 use mathlib.Core.Path.{_≡_, refl, sym, ap, _∙_}
-use mathlib.Core.Bool.{Bool, true, false, not, cond, _&&_, _||_}
+use mathlib.Core.Bool.{Bool, true, false, not, cond, _||_}
 use mathlib.Core.List.{List, [], _∷_}
 use mathlib.Core.Option.{Option, none, some}
 use Prim.Native.Nat.{ℕ, _+_}
@@ -16,7 +16,6 @@ use Rattle.riff.specs.Walking.{Seen}
 use Rattle.wave.specs.Waves.{isWave, noFmt, wrongFmt, noData}
 use Rattle.wave.specs.Judged.{fmtRate, noFmtFound}
 use Rattle.wave.specs.Judging.{wrong-is}
-use Rattle.mending.specs.declared.Mending.{Mending}
 use Rattle.mending.specs.Decided.{reached, decided}
 use Rattle.mending.specs.Mendings.{fmtIn, dataIn, unmended, sizesOf, noMending, mendingIn, mendingOf}
 

@@ -3,7 +3,7 @@ use mathlib.Core.Path.{_≡_, refl, sym, ap, _∙_, subst}
 use mathlib.Core.Bool.{Bool, true, false, not, cond, _&&_, _||_, or-true}
 use mathlib.Core.List.{List, [], _∷_}
 use mathlib.Core.Option.{Option, none, some}
-use Prim.Native.Nat.{ℕ, _+_, _-_, _*_, _/_, _%_, _≤_, _<_, min}
+use Prim.Native.Nat.{ℕ, _+_, _*_, _/_, _%_, _≤_, _<_, min}
 use native.Mathlib.Omega.{arith}
 use borrow.Author.Tests.{leb-true, ltb-false, le-ltb, not-false}
 use lib.Dec.{leb, ltb, eqb}
@@ -20,7 +20,7 @@ use Rattle.riff.specs.Walking.{Seen}
 use Rattle.wave.specs.declared.WaveTake.{WaveTake}
 use Rattle.wave.specs.declared.WaveRead.{WaveRead}
 use Rattle.wave.specs.Rates.{known-some}
-use Rattle.wave.specs.Judged.{fieldsRate, wholeFmt, fmtRate, noFmtFound, judged, TakeIn, no-take, a-take}
+use Rattle.wave.specs.Judged.{fmtRate, noFmtFound, judged, TakeIn, no-take, a-take}
 use Rattle.wave.specs.Waves.{riffName, waveName, isWave, riffEnd, walkEnd, chunksOf, fmtOf, dataOf, known, plain, rateAt, fieldsRight, fmtRight, noFmt, wrongFmt, oddData, noData, runsPast, tests, refusal, rateIn, rateOf, placeIn, placeOf, countIn, countOf, samplesAt, over, WasRead, not-taken, no-room, taken}
 
 -- which of them is answered

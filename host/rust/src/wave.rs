@@ -254,7 +254,7 @@ impl Seek {
     }
 
     /// The place and the number of the bytes that it wants, 12, 8 or 16, all inside the file; or none, and it is at its end. It is so after
-    /// at most an eighth as many pieces as the file has bytes, and two.
+    /// at most an eighth as many pieces as the file has bytes, and one.
     pub fn wanted(&self) -> Option<(u64, usize)> {
         // SAFETY: it takes numbers.
         let piece = unsafe { archive::daxfolin_seek_wanted(*self) };

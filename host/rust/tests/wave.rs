@@ -38,7 +38,7 @@ fn sought(mut seek: Seek, file: &[u8]) -> Seek {
     let mut pieces = 0;
     while let Some((place, count)) = seek.wanted() {
         assert!(
-            pieces < file.len() / 8 + 2,
+            pieces < file.len() / 8 + 1,
             "more pieces than a file can have"
         );
         let before = seek;

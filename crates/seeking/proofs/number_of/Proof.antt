@@ -1,7 +1,7 @@
 -- `seeking::number_of` meets its contract: a number that stands is kept, and else the walk is judged.
 -- Assumes nothing.
 use mathlib.Core.Path.{sym, ap, _∙_}
-use Prim.Native.Nat.{ℕ, _+_}
+use Prim.Native.Nat.{_+_}
 use Rattle.riff.specs.declared.Walk.{Walk}
 use Rattle.wave.specs.Judged.{judged}
 use Rattle.seeking.specs.Asking.{number-kept, number-judged}

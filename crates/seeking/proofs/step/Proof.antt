@@ -2,13 +2,13 @@
 -- Assumes nothing.
 use mathlib.Core.Path.{_≡_, sym, ap, _∙_}
 use mathlib.Core.Bool.{Bool, not, _||_}
-use Prim.Native.Nat.{ℕ, _+_, _^_, _<_}
+use Prim.Native.Nat.{_+_, _^_}
 use native.Mathlib.Omega.{arith}
 use borrow.Author.Tests.{leb-true, leb-false, not-false}
 use lib.Dec.{leb}
 use Rattle.whole.specs.Tests.{neither}
 use Rattle.riff.specs.Walks.{stepped}
-use Rattle.seeking.specs.Seeks.{endOf, walkOf, walkedOn}
+use Rattle.seeking.specs.Seeks.{endOf, walkedOn}
 use Rattle.seeking.specs.Asking.{stepped-not, stepped-on}
 use borrow.Author.Needs.{needs}
 use Rattle.seeking.proofs.step.Statement.{statement}

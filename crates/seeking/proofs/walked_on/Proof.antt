@@ -1,8 +1,6 @@
 -- `seeking::walked_on` meets its contract: what its walk asks for, to its end.
 -- Assumes nothing.
 use mathlib.Core.Path.{ap, _∙_}
-use Prim.Native.Nat.{ℕ}
-use Rattle.seeking.specs.declared.Piece.{Piece}
 use Rattle.seeking.specs.Seeks.{seekOf, asks}
 use borrow.Author.Needs.{needs}
 use Rattle.seeking.proofs.walked_on.Statement.{statement}
