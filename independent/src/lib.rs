@@ -20,6 +20,7 @@ pub mod table;
 pub mod takes;
 pub mod tuner;
 pub mod wave;
+pub mod waves;
 pub mod words;
 
 #[cfg(test)]
