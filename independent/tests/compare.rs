@@ -73,11 +73,11 @@ fn wrong_programs_are_found() {
     assert_unequal(
         "lines | sed 's/^5/6/'",
         &[
-            "not equal: kind hostile, seed 1, line ",
+            "not equal: kind cuts, seed 1, line ",
             "\n  input     block\\t",
             "\n  expected  5\\t0\\t0\\t0\\n\n",
             "\n  got       6\\t0\\t0\\t0\\n\n",
-            "\n  script    generate hostile 1 3000\n",
+            "\n  script    generate cuts 1 3000\n",
             "\nequal before that: ",
         ],
     );
