@@ -1,6 +1,6 @@
 -- What a whole walk to the file's end decides, over what was found: that it is what the definition says of the file.
 use mathlib.Core.Path.{_≡_, refl, sym, ap, _∙_}
-use mathlib.Core.Bool.{Bool, true, false, not, cond, _&&_, _||_}
+use mathlib.Core.Bool.{Bool, true, false, not, cond, _||_}
 use mathlib.Core.List.{List, [], _∷_}
 use mathlib.Core.Option.{Option, none, some}
 use Prim.Native.Nat.{ℕ, _+_}
@@ -11,22 +11,13 @@ use Rattle.riff.specs.declared.Found.{Found}
 use Rattle.riff.specs.declared.Walk.{Walk}
 use Rattle.riff.specs.Riff.{numberAt, Chunk, chunks, dataName, refusedBy}
 use Rattle.riff.specs.Chunks.{first-before}
-use Rattle.riff.specs.Walking.{foundOf, Seen}
+use Rattle.riff.specs.Walks.{foundOf}
+use Rattle.riff.specs.Walking.{Seen}
 use Rattle.wave.specs.Waves.{isWave, noFmt, wrongFmt, noData}
-use Rattle.wave.specs.Judging.{fmtRate, noFmtFound, wrong-is}
-use Rattle.mending.specs.declared.Mending.{Mending}
+use Rattle.wave.specs.Judged.{fmtRate, noFmtFound}
+use Rattle.wave.specs.Judging.{wrong-is}
+use Rattle.mending.specs.Decided.{reached, decided}
 use Rattle.mending.specs.Mendings.{fmtIn, dataIn, unmended, sizesOf, noMending, mendingIn, mendingOf}
-
--- a chunk was found, and its eight bytes lie before the end
-abbrev pub reached : Found → ℕ → Bool
-reached f end = f .ok && leb (f .at + 8) end
-
--- 29, 26, 27, or the two sizes
-abbrev pub decided : Walk → (hertz riff length : ℕ) → Mending
-decided w hertz riff length =
-    cond (leb 2147483648 length) (noMending 29)
-    (cond (noFmtFound (w .fmt) (w .data) || eqb hertz 0) (noMending 26)
-    (cond (reached (w .data) length) (sizesOf length riff (w .data .at) (w .data .size)) (noMending 27)))
 
 module _ (file : List ℕ) where
   pub not-wave : isWave file ≡ false → mendingOf file ≡ noMending 20

@@ -1,11 +1,9 @@
 // Mends the two sizes of a WAVE file that a recorder left when it stopped.
 ghost use mathlib.Core.Path.{_≡_};
-ghost use mathlib.Core.Bool.{_&&_};
 ghost use Prim.Native.Nat.{_+_, _^_, _≤_, _<_};
-ghost use lib.Dec.{leb};
 ghost use lib.ListN.{length};
 ghost use Rattle.mending.specs.Mendings.{left, dataSize, riffSize, sizesOf, noMending, mendingOf};
-ghost use Rattle.mending.specs.Deciding.{decided};
+ghost use Rattle.mending.specs.Decided.{reached, decided};
 use riff::Found;
 use riff::Walk;
 
@@ -13,6 +11,7 @@ use riff::Walk;
 pub const TOO_LONG: usize = 2147483648;
 
 // A size of four bytes: its place, what it is, and what it becomes.
+#[repr(C)]
 pub struct Size {
     pub at: usize,
     pub old: u32,
@@ -20,6 +19,7 @@ pub struct Size {
 }
 
 // What is mended in a file, where number is 0.
+#[repr(C)]
 pub struct Mending {
     pub number: u32,
     pub riff: Size,
@@ -58,8 +58,8 @@ fn riff_size(riff: u32, end: usize, length: usize) -> u32
 }
 
 // A chunk was found, and its eight bytes lie before the end.
-fn is_reached(chunk: Found, end: usize) -> bool
-    ensures { λ r. ⌜ r ≡ chunk .ok && leb (chunk .at + 8) end ⌝ }
+pub fn is_reached(chunk: Found, end: usize) -> bool
+    ensures { λ r. ⌜ r ≡ reached chunk end ⌝ }
 {
     if end < 8 {
         return false;
@@ -77,7 +77,7 @@ fn no_size() -> Size
     }
 }
 
-fn not_mended(number: u32) -> Mending
+pub fn not_mended(number: u32) -> Mending
     ensures { λ r. ⌜ r ≡ noMending number ⌝ }
 {
     Mending {

@@ -12,18 +12,7 @@ use Rattle.riff.specs.Chunks.{first-before}
 use Rattle.riff.specs.declared.Found.{Found}
 use Rattle.riff.specs.declared.Walk.{Walk}
 use Rattle.riff.specs.Riff.{Chunk, chunkAt, behind, next, chunksFrom, chunks, firstOf, anyPast, fmtName, dataName}
-
--- a chunk that was found, or none
-abbrev pub foundAt : Chunk → Found
-foundAt c = record { ok = true; at = c .at; size = c .size }
-
-abbrev pub foundOf : Option Chunk → Found
-foundOf none = record { ok = false; at = 0; size = 0 }
-foundOf (some c) = foundAt c
-
--- the first chunk of a name stays, after one chunk more
-abbrev pub foundFirst : Found → ℕ → Chunk → Found
-foundFirst f name c = cond (f .ok || not (eqb (c .name) name)) f (foundAt c)
+use Rattle.riff.specs.Walks.{foundAt, foundOf, foundFirst, setOut, stepped}
 
 -- a walk to an end has seen these chunks
 pub record Seen (end : ℕ) (cs : List Chunk) (w : Walk) : Type 0 where
@@ -56,15 +45,21 @@ unfolding anyPast
 past-more end c [] = or-false (ltb end (behind c))
 past-more end c (d ∷ cs) = ap (λ (t : Bool). ltb end (behind d) || t) (past-more end c cs) ∙ sym (or-assoc (ltb end (behind d)) (anyPast end cs) (ltb end (behind c)))
 
--- a walk that keeps what it found first has seen the chunk as well
-pub seen-more : {end : ℕ} {w r : Walk} (c : Chunk) → r .fmt ≡ foundFirst (w .fmt) fmtName c → r .data ≡ foundFirst (w .data) dataName c → r .past ≡ w .past || ltb end (behind c) →
-    (cs : List Chunk) → Seen end cs w → Seen end (cs ++ (c ∷ [])) r
-seen-more {end} c f d p cs s =
+-- a walk that sets out has seen none, and one that keeps what it found first has seen the chunk as well
+pub seen-none : (end : ℕ) → Seen end [] setOut
+unfolding firstOf anyPast
+seen-none end = record { fmt = refl; data′ = refl; past = refl }
+
+pub seen-more : {end : ℕ} {w : Walk} (c : Chunk) (cs : List Chunk) → Seen end cs w → Seen end (cs ++ (c ∷ [])) (stepped end w c)
+seen-more {end} c cs s =
     record {
-      fmt = f ∙ ap (λ (k : Found). foundFirst k fmtName c) (s .fmt) ∙ sym (found-more fmtName c cs);
-      data′ = d ∙ ap (λ (k : Found). foundFirst k dataName c) (s .data′) ∙ sym (found-more dataName c cs);
-      past = p ∙ ap (λ (t : Bool). t || ltb end (behind c)) (s .past) ∙ sym (past-more end c cs);
+      fmt = ap (λ (k : Found). foundFirst k fmtName c) (s .fmt) ∙ sym (found-more fmtName c cs);
+      data′ = ap (λ (k : Found). foundFirst k dataName c) (s .data′) ∙ sym (found-more dataName c cs);
+      past = ap (λ (t : Bool). t || ltb end (behind c)) (s .past) ∙ sym (past-more end c cs);
     }
+
+pub steps : {end : ℕ} {w r : Walk} (c : Chunk) → r ≡ stepped end w c → Stepped end w c r
+steps {end} {w} c e = subst (Stepped end w c) (sym e) (record { at = refl; seen = seen-more c })
 
 -- ---- the walk over bytes in memory
 module _ (file : List ℕ) (end : ℕ) where
@@ -86,15 +81,8 @@ pub record Walking (file : List ℕ) (end : ℕ) (w : Walk) : Type 0 where
   pub enough : end < w .at + 8 + 8 * n
 
 module _ {file : List ℕ} {end : ℕ} where
-  pub walk-begins : {w : Walk} → Seen end [] w → w .at ≡ 12 → Walking file end w
-  walk-begins s e =
-      record {
-        cs = [];
-        n = end;
-        seen = s;
-        rest = ap (chunksFrom end file end) (sym e);
-        enough = omega arith;
-      }
+  pub walk-begins : {w : Walk} → w ≡ setOut → Walking file end w
+  walk-begins e = subst (Walking file end) (sym e) (record { cs = []; n = end; seen = seen-none end; rest = refl; enough = omega arith })
 
   pub walk-goes-on : {w r : Walk} → Walking file end w → w .at + 8 ≤ end → Stepped end w (chunkAt file (w .at)) r → Walking file end r
   walk-goes-on {w} {r} p h s = by-count (p .n) (p .rest) (p .enough)

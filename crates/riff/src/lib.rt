@@ -1,13 +1,13 @@
 // RIFF files: numbers of two and four bytes, and the walk over chunks, of which each step asks for eight bytes at a place.
 ghost use mathlib.Core.Path.{_≡_};
 ghost use mathlib.Core.Bool.{false};
-ghost use mathlib.Core.List.{[]};
-ghost use Prim.Native.Nat.{ℕ, _+_, _*_, _^_, _≤_, _<_};
+ghost use Prim.Native.Nat.{_+_, _*_, _^_, _≤_, _<_};
 ghost use lib.Dec.{leb};
 ghost use lib.ListN.{length};
 ghost use lib.Seq.{sets};
 ghost use Rattle.riff.specs.Riff.{numberAt, bytesOf, chunkAt, headBytes, chunks};
-ghost use Rattle.riff.specs.Walking.{foundFirst, Seen, Stepped};
+ghost use Rattle.riff.specs.Walks.{foundFirst, setOut, stepped};
+ghost use Rattle.riff.specs.Walking.{Seen, Stepped};
 
 // The names "fmt " and "data".
 pub const FMT: u32 = 544501094;
@@ -92,7 +92,7 @@ fn not_found() -> Found
 
 // Nothing was found yet, and the first chunk stands behind "RIFF", a size and "WAVE".
 pub fn begin() -> Walk
-    ensures { λ r. ⌜ (r .at ≡ 12) × ((end : ℕ) → Seen end [] r) ⌝ }
+    ensures { λ r. ⌜ r ≡ setOut ⌝ }
 {
     Walk {
         at: 12,
@@ -129,7 +129,7 @@ pub fn goes_on(w: Walk, end: usize) -> bool
 // A step of the walk to an end: `name` and `size` are the eight bytes at its place.
 pub fn step(w: Walk, end: usize, name: u32, size: u32) -> Walk
     requires { ⌜ (w .at + 8 ≤ end) × (end < 2 ^ 63) ⌝ }
-    ensures { λ r. ⌜ Stepped end w (record { at = w .at; name = name; size = size }) r ⌝ }
+    ensures { λ r. ⌜ r ≡ stepped end w (record { at = w .at; name = name; size = size }) ⌝ }
 {
     let at = w.at;
     let fmt = w.fmt;

@@ -3,7 +3,7 @@ use mathlib.Core.Path.{_≡_, refl, sym, ap, _∙_, subst}
 use mathlib.Core.Bool.{Bool, true, false, not, cond, _&&_, _||_, or-true}
 use mathlib.Core.List.{List, [], _∷_}
 use mathlib.Core.Option.{Option, none, some}
-use Prim.Native.Nat.{ℕ, _+_, _-_, _*_, _/_, _%_, _≤_, _<_, min}
+use Prim.Native.Nat.{ℕ, _+_, _*_, _/_, _%_, _≤_, _<_, min}
 use native.Mathlib.Omega.{arith}
 use borrow.Author.Tests.{leb-true, ltb-false, le-ltb, not-false}
 use lib.Dec.{leb, ltb, eqb}
@@ -15,34 +15,13 @@ use Rattle.riff.specs.declared.Walk.{Walk}
 use Rattle.riff.specs.Riff.{numberAt, Chunk, body, chunks, anyPast, dataName, refusedBy}
 use Rattle.riff.specs.Chunks.{first-inside}
 use Rattle.riff.specs.Refusals.{passed}
-use Rattle.riff.specs.Walking.{foundAt, foundOf, Seen}
+use Rattle.riff.specs.Walks.{foundAt, foundOf}
+use Rattle.riff.specs.Walking.{Seen}
 use Rattle.wave.specs.declared.WaveTake.{WaveTake}
 use Rattle.wave.specs.declared.WaveRead.{WaveRead}
 use Rattle.wave.specs.Rates.{known-some}
+use Rattle.wave.specs.Judged.{fmtRate, noFmtFound, judged, TakeIn, no-take, a-take}
 use Rattle.wave.specs.Waves.{riffName, waveName, isWave, riffEnd, walkEnd, chunksOf, fmtOf, dataOf, known, plain, rateAt, fieldsRight, fmtRight, noFmt, wrongFmt, oddData, noData, runsPast, tests, refusal, rateIn, rateOf, placeIn, placeOf, countIn, countOf, samplesAt, over, WasRead, not-taken, no-room, taken}
-
--- the sample rate by the fields from a place on, and of a fmt that was found; 0 where it is not taken
-abbrev pub fieldsRate : List ℕ → ℕ → ℕ
-fieldsRate file at = cond (fieldsRight file at) (rateAt file at) 0
-
-abbrev pub wholeFmt : Found → ℕ → Bool
-wholeFmt fmt end = fmt .ok && leb 16 (fmt .size) && leb (fmt .at + 8 + 16) end
-
-abbrev pub fmtRate : List ℕ → ℕ → Found → ℕ
-fmtRate file end fmt = cond (wholeFmt fmt end) (fieldsRate file (fmt .at + 8)) 0
-
--- the tests of 21 to 24 over what was found
-abbrev pub noFmtFound : (fmt data′ : Found) → Bool
-noFmtFound fmt data′ = not (fmt .ok) || (data′ .ok && ltb (data′ .at) (fmt .at))
-
-abbrev pub judged : Walk → (hertz riffEnd length : ℕ) → ℕ
-judged w hertz riffEnd length =
-    refusedBy
-    ((21, noFmtFound (w .fmt) (w .data))
-    ∷ (22, eqb hertz 0 || eqb (w .data .size % 2) 1)
-    ∷ (23, not (w .data .ok))
-    ∷ (24, w .past || ltb length riffEnd)
-    ∷ [])
 
 -- which of them is answered
 module _ (w : Walk) (hertz riff n : ℕ) where
@@ -67,11 +46,6 @@ module _ (w : Walk) (hertz riff n : ℕ) where
       pub judged-0 : not (w .data .ok) ≡ false → w .past || ltb n riff ≡ false → judged w hertz riff n ≡ 0
       unfolding refusedBy
       judged-0 d p = rw (a, b, d, p)
-
--- the take in a file, or why there is none
-pub data TakeIn (file : List ℕ) (t : WaveTake) : Type 0 where
-  no-take : (refusal file ≡ 0 → ⊥) → t ≡ record { number = refusal file; hertz = 0; at = 0; count = 0 } → TakeIn file t
-  a-take : refusal file ≡ 0 → t ≡ record { number = 0; hertz = rateOf file; at = placeOf file; count = countOf file } → placeOf file + 2 * countOf file ≤ length file → TakeIn file t
 
 -- ---- the fmt
 

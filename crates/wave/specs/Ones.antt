@@ -1,4 +1,4 @@
--- No second answer to reading, and that the number answered is the least that applies.
+-- No second answer to reading, no second take in a file, and that the number answered is the least that applies.
 use mathlib.Core.Path.{_≡_, refl, sym, ap, _∙_, subst}
 use mathlib.Core.List.{List, [], _∷_}
 use Prim.Native.Nat.{ℕ}
@@ -10,6 +10,8 @@ use lib.ListN.{length}
 use Rattle.riff.specs.Riff.{refusedBy, Least}
 use Rattle.riff.specs.Refusals.{refused-least, refused-first, refused-next}
 use Rattle.wave.specs.declared.WaveRead.{WaveRead}
+use Rattle.wave.specs.declared.WaveTake.{WaveTake}
+use Rattle.wave.specs.Judged.{TakeIn, no-take, a-take}
 use Rattle.wave.specs.Waves.{tests, refusal, countOf, readTests, WasRead, not-taken, no-room, taken}
 
 pub read-one : {file : List ℕ} {out : List ℤ} {r₁ r₂ : WaveRead} {o₁ o₂ : List ℤ} → WasRead file out r₁ o₁ → WasRead file out r₂ o₂ → (r₁ ≡ r₂) × (o₁ ≡ o₂)
@@ -22,6 +24,13 @@ read-one (no-room z l p o) (taken z′ l′ p′ o′) = absurd (omega arith)
 read-one (taken z l p o) (not-taken n p′ o′) = absurd (n z)
 read-one (taken z l p o) (no-room z′ l′ p′ o′) = absurd (omega arith)
 read-one (taken z l p o) (taken z′ l′ p′ o′) = (p ∙ sym p′, o ∙ sym o′)
+
+-- the take in a file
+pub take-one : {file : List ℕ} {t u : WaveTake} → TakeIn file t → TakeIn file u → t ≡ u
+take-one (no-take n e) (no-take m f) = e ∙ sym f
+take-one (no-take n e) (a-take z f l) = absurd (n z)
+take-one (a-take z e l) (no-take m f) = absurd (m z)
+take-one (a-take z e l) (a-take y f k) = e ∙ sym f
 
 -- ---- the least number
 pub file-least : (file : List ℕ) → Least (tests file) (refusal file)

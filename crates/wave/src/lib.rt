@@ -3,7 +3,7 @@ ghost use mathlib.Core.Path.{_≡_};
 ghost use Prim.Native.Nat.{_+_, _*_, _≤_, _<_, min};
 ghost use lib.ListN.{length};
 ghost use Rattle.wave.specs.Waves.{known, isWave, plain, sampleOf, samplesAt, over, WasRead};
-ghost use Rattle.wave.specs.Judging.{fieldsRate, wholeFmt, fmtRate, noFmtFound, judged, TakeIn};
+ghost use Rattle.wave.specs.Judged.{fieldsRate, wholeFmt, fmtRate, noFmtFound, judged, TakeIn};
 use riff::Found;
 use riff::Walk;
 
@@ -13,6 +13,7 @@ pub const RIFF: u32 = 1179011410;
 pub const WAVE: u32 = 1163280727;
 
 // The take in a file, where number is 0: its sample rate, the place of its samples and their count.
+#[repr(C)]
 pub struct WaveTake {
     pub number: u32,
     pub hertz: u32,
@@ -21,10 +22,11 @@ pub struct WaveTake {
 }
 
 // The answer to reading: a refusal, or how many samples were written, and their rate.
+#[repr(C)]
 pub struct WaveRead {
     pub number: u32,
-    pub count: usize,
     pub hertz: u32,
+    pub count: usize,
 }
 
 // A sample rate that is known.
@@ -128,7 +130,7 @@ pub fn least(a: usize, b: usize) -> usize
     a
 }
 
-fn no_take(number: u32) -> WaveTake
+pub fn no_take(number: u32) -> WaveTake
     ensures { λ r. ⌜ r ≡ record { number = number; hertz = 0; at = 0; count = 0 } ⌝ }
 {
     WaveTake {

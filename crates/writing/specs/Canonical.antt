@@ -40,13 +40,21 @@ abbrev pub limit : ℕ
 limit = 1000000000
 
 -- the number that writing is refused by: 16 for a sample rate that is not known, then 7 over the limit, then 25 where the output has not room for all bytes
-unfoldable pub unwritten : (hertz : ℕ) → List ℤ → (room : ℕ) → ℕ
-unwritten hertz xs room = refusedBy ((16, not (known hertz)) ∷ (7, ltb limit (length xs)) ∷ (25, ltb room (44 + 2 * length xs)) ∷ [])
+unfoldable pub unwrittenBy : (hertz count bytes room : ℕ) → ℕ
+unwrittenBy hertz count bytes room = refusedBy ((16, not (known hertz)) ∷ (7, ltb limit count) ∷ (25, ltb room bytes) ∷ [])
+
+abbrev pub unwritten : (hertz : ℕ) → List ℤ → (room : ℕ) → ℕ
+unwritten hertz xs room = unwrittenBy hertz (length xs) (44 + 2 * length xs) room
 
 -- the promise of writing: it is refused, and nothing is written; or the canonical form is
 pub data WasWritten (hertz : ℕ) (xs : List ℤ) (out : List ℕ) (r : WaveWritten) (out′ : List ℕ) : Type 0 where
   not-written : (unwritten hertz xs (length out) ≡ 0 → ⊥) → r ≡ record { number = unwritten hertz xs (length out); length = 0 } → out′ ≡ out → WasWritten hertz xs out r out′
   written : unwritten hertz xs (length out) ≡ 0 → r ≡ record { number = 0; length = 44 + 2 * length xs } → out′ ≡ over (canonical hertz xs) out → WasWritten hertz xs out r out′
+
+-- the promise of writing the header alone, before so many samples
+pub data HeaderWritten (hertz count : ℕ) (out : List ℕ) (r : WaveWritten) (out′ : List ℕ) : Type 0 where
+  no-header : (unwrittenBy hertz count 44 (length out) ≡ 0 → ⊥) → r ≡ record { number = unwrittenBy hertz count 44 (length out); length = 0 } → out′ ≡ out → HeaderWritten hertz count out r out′
+  a-header : unwrittenBy hertz count 44 (length out) ≡ 0 → r ≡ record { number = 0; length = 44 } → out′ ≡ over (header hertz (2 * count)) out → HeaderWritten hertz count out r out′
 
 -- ---- the statements of the theorems
 

@@ -21,7 +21,7 @@ use Rattle.wave.specs.Waves.{known, refusal, rateOf, placeOf, countOf, sampleOf
 use Rattle.wave.specs.Samples.{sample-fits}
 use Rattle.wave.specs.Judging.{right-of, rate-known}
 use Rattle.writing.specs.declared.WaveWritten.{WaveWritten}
-use Rattle.writing.specs.Canonical.{canonical, limit, unwritten, WasWritten, not-written, written, Bytes, Samples, TakeOf, formOf}
+use Rattle.writing.specs.Canonical.{canonical, limit, unwrittenBy, WasWritten, not-written, written, Bytes, Samples, TakeOf, formOf}
 use Rattle.writing.specs.Writing.{length-canonical}
 use Rattle.writing.specs.ReadBack.{canonical-back}
 
@@ -62,7 +62,7 @@ pub record Wrote (hertz : ℕ) (xs : List ℤ) (out : List ℕ) (w : WaveWritten
   pub text : out′ ≡ over (canonical hertz xs) out
 
 wrote : {hertz : ℕ} {xs : List ℤ} {out out′ : List ℕ} {w : WaveWritten} → WasWritten hertz xs out w out′ → w .number ≡ 0 → Wrote hertz xs out w out′
-unfolding unwritten
+unfolding unwrittenBy
 wrote (not-written n p o) z = absurd (n (sym (ap (λ (k : WaveWritten). k .number) p) ∙ z))
 wrote {hertz} {xs} {out} (written u p o) z =
     let a = passed 15 (not (known hertz)) _ u in

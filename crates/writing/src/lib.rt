@@ -3,7 +3,7 @@ ghost use mathlib.Core.Path.{_≡_};
 ghost use Prim.Native.Nat.{_+_, _*_, _^_, _≤_, _<_};
 ghost use lib.ListN.{length};
 ghost use lib.Seq.{sets};
-ghost use Rattle.writing.specs.Canonical.{bitsOf, sampleBytes, format, header, WasWritten};
+ghost use Rattle.writing.specs.Canonical.{bitsOf, sampleBytes, format, header, WasWritten, HeaderWritten};
 
 // The bytes before the samples in the canonical form.
 pub const HEADER: usize = 44;
@@ -12,6 +12,7 @@ pub const HEADER: usize = 44;
 pub const LIMIT: usize = 1000000000;
 
 // The answer to writing: a refusal, or how many bytes were written.
+#[repr(C)]
 pub struct WaveWritten {
     pub number: u32,
     pub length: usize,
@@ -93,5 +94,25 @@ pub fn write(hertz: u32, xs: &[i16], out: &mut [u8]) -> WaveWritten
     WaveWritten {
         number: 0,
         length: length,
+    }
+}
+
+// Writes the canonical header before so many samples to the front of the output.
+pub fn write_header(hertz: u32, count: usize, out: &mut [u8]) -> WaveWritten
+    ensures { λ r. ⌜ HeaderWritten hertz count (now (out .entry)) r (now (out .exit)) ⌝ }
+{
+    if !wave::known(hertz) {
+        return not_written(16);
+    }
+    if LIMIT < count {
+        return not_written(7);
+    }
+    if out.len() < HEADER {
+        return not_written(25);
+    }
+    put_header(out, hertz, (2 * count) as u32);
+    WaveWritten {
+        number: 0,
+        length: HEADER,
     }
 }

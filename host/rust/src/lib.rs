@@ -21,6 +21,8 @@
 
 use std::fmt;
 
+pub mod wave;
+
 /// The version of the calls.
 pub const VERSION: u32 = 8;
 /// The number of the record's layout, which stands first in it.

@@ -6,9 +6,9 @@ use Prim.Native.Nat.{_+_}
 use borrow.Author.Tests.{le-leb, lt-leb, leb-true, not-true, not-false}
 use lib.Dec.{leb, eqb}
 use Rattle.whole.specs.Tests.{cond-yes, cond-no, and-right}
-use Rattle.wave.specs.Judging.{noFmtFound}
+use Rattle.wave.specs.Judged.{noFmtFound}
 use Rattle.mending.specs.Mendings.{sizesOf, noMending}
-use Rattle.mending.specs.Deciding.{reached, decided}
+use Rattle.mending.specs.Decided.{reached, decided}
 use borrow.Author.Needs.{needs}
 use Rattle.mending.proofs.decide.Statement.{statement}
 use Rattle.mending.proofs.decide.Tie as tie

@@ -1,8 +1,9 @@
 -- `riff::step` meets its contract: what was found first stays, and a chunk that runs past the end is noted.
 -- Assumes nothing.
-use mathlib.Core.Path.{refl}
+use Prim.Native.Nat.{_+_, _%_}
+use mathlib.Core.Bool.{_||_}
+use lib.Dec.{ltb}
 use Rattle.riff.specs.Riff.{numberAt}
-use Rattle.riff.specs.Walking.{seen-more}
 use borrow.Author.Needs.{needs}
 use Rattle.riff.proofs.step.Statement.{statement}
 use Rattle.riff.proofs.step.Tie as tie
@@ -30,10 +31,8 @@ unfolding numberAt
 returns c =
     let q = c .before .before in
     let a = q .before .before .before .args in
-    record {
-      at = refl;
-      seen = seen-more (record { at = a .w .at; name = a .name; size = a .size }) (q .first .ensures) (c .before .first2 .ensures) refl;
-    }
+    let behind = a .w .at + 8 + a .size in
+    λ i. record { at = behind + a .size % 2; fmt = q .first .ensures i; «data» = c .before .first2 .ensures i; past = a .w .past || ltb (a .end) behind }
 
 pub step-spec : {M : Type 1} → statement M
 step-spec =

@@ -19,7 +19,7 @@ begin-requires : tie.Need-begin-requires Inv-loop μ-loop
 begin-requires c κs = search needs
 
 loop-holds : tie.Need-loop-holds Inv-loop μ-loop
-loop-holds c = walk-begins (c .begin .ensures .1 (c .before .before .args .end)) (c .begin .ensures .0)
+loop-holds c = walk-begins (c .begin .ensures)
 
 goes-on-requires : tie.Need-goes-on-requires Inv-loop μ-loop
 goes-on-requires c κs = search needs

@@ -4,7 +4,8 @@ use mathlib.Core.Path.{_≡_, sym, ap, _∙_}
 use native.Mathlib.Omega.{arith}
 use borrow.Author.Tests.{not-true, not-false}
 use Rattle.riff.specs.Walking.{seen-near}
-use Rattle.wave.specs.Judging.{no-take, not-wave, wave-long, Surveyed, take-refused, take-found}
+use Rattle.wave.specs.Judged.{no-take}
+use Rattle.wave.specs.Judging.{not-wave, wave-long, Surveyed, take-refused, take-found}
 use Rattle.wave.specs.Waves.{isWave}
 use mathlib.Core.Bool.{true}
 use Prim.Native.Nat.{ℕ, _+_}

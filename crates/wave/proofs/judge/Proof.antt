@@ -2,7 +2,8 @@
 -- Assumes nothing.
 use mathlib.Core.Path.{_≡_, sym, _∙_}
 use mathlib.Core.Bool.{false}
-use Rattle.wave.specs.Judging.{noFmtFound, judged-21, judged-22, judged-23, judged-24, judged-0}
+use Rattle.wave.specs.Judged.{noFmtFound}
+use Rattle.wave.specs.Judging.{judged-21, judged-22, judged-23, judged-24, judged-0}
 use borrow.Author.Needs.{needs}
 use Rattle.wave.proofs.judge.Statement.{statement}
 use Rattle.wave.proofs.judge.Tie as tie

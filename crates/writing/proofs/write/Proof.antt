@@ -3,7 +3,7 @@
 use mathlib.Core.Path.{_≡_, refl, sym, _∙_}
 use mathlib.Core.Bool.{true}
 use lib.ListN.{length}
-use Prim.Native.Nat.{_*_}
+use Prim.Native.Nat.{_+_, _*_}
 use Rattle.riff.specs.Stores.{stored-then, sets-front}
 use Rattle.wave.specs.Waves.{known}
 use Rattle.writing.specs.Canonical.{sampleBytes, header, canonical, written}
@@ -26,7 +26,7 @@ rate-known : (c : tie.Else1) → known (c .before .before .before .args .hertz) 
 rate-known c = sym (c .before .known .ensures) ∙ not-false _ (c .if1 .left)
 
 returns : tie.Need-returns
-returns c = write-refused (rate-unknown (c .before .before .before .before .args .hertz) (c .before .before .before .before .args .xs .now) _ (sym (c .before .before .known .ensures) ∙ not-true _ (c .before .if1 .taken))) (c .not-written .ensures) refl
+returns c = write-refused (rate-unknown (c .before .before .before .before .args .hertz) (length (c .before .before .before .before .args .xs .now)) _ _ (sym (c .before .before .known .ensures) ∙ not-true _ (c .before .if1 .taken))) (c .not-written .ensures) refl
 
 not-written-requires-2 : tie.Need-not-written-requires-2
 not-written-requires-2 c κs = search needs
@@ -34,7 +34,7 @@ not-written-requires-2 c κs = search needs
 returns-2 : tie.Need-returns-2
 returns-2 c =
     let a = c .before .before .before .before .before .args in
-    write-refused (too-long (a .hertz) (a .xs .now) (length (a .out .now)) (rate-known (c .before .before)) (c .before .if2 .taken)) (c .not-written2 .ensures) refl
+    write-refused (too-long (a .hertz) (length (a .xs .now)) (44 + 2 * length (a .xs .now)) (length (a .out .now)) (rate-known (c .before .before)) (c .before .if2 .taken)) (c .not-written2 .ensures) refl
 
 mul-length : tie.Need-mul-length
 mul-length c = search needs
@@ -48,7 +48,7 @@ not-written-requires-3 c κs = search needs
 returns-3 : tie.Need-returns-3
 returns-3 c =
     let a = c .before .before .before .before .before .before .args in
-    write-refused (too-small (a .hertz) (a .xs .now) (length (a .out .now)) (rate-known (c .before .before .before)) (c .before .before .if2 .left) (c .before .if3 .taken)) (c .not-written3 .ensures) refl
+    write-refused (too-small (a .hertz) (length (a .xs .now)) (44 + 2 * length (a .xs .now)) (length (a .out .now)) (rate-known (c .before .before .before)) (c .before .before .if2 .left) (c .before .if3 .taken)) (c .not-written3 .ensures) refl
 
 mul-put-header : tie.Need-mul-put-header
 mul-put-header c = search needs
@@ -77,7 +77,7 @@ returns-4 c =
     let e = stored-then (a .out .now) 0 44 text (sampleBytes (a .xs .now)) (length-header (a .hertz) (2 * length (a .xs .now))) (h .put-header .ensures) (p .put-samples .ensures) in
     let n = length-canonical (a .hertz) (a .xs .now) in
     written
-    (writable (a .hertz) (a .xs .now) (length (a .out .now)) (rate-known (q .before)) (q .if2 .left) (h .before .before .if3 .left))
+    (writable (a .hertz) (length (a .xs .now)) (44 + 2 * length (a .xs .now)) (length (a .out .now)) (rate-known (q .before)) (q .if2 .left) (h .before .before .if3 .left))
     refl
     (e ∙ sets-front (a .out .now) (canonical (a .hertz) (a .xs .now)) (omega (arith, n, h .before .before .if3 .left)))
 

@@ -1,0 +1,4 @@
+pub mod Files
+pub mod Parts
+pub mod Ones
+pub mod Shared

@@ -1,0 +1,4 @@
+pub mod Seeks
+pub mod Asking
+pub mod Sought
+pub mod Feeding
