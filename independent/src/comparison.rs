@@ -1,11 +1,13 @@
-//! Another line program, held to this one: a script to both, and the first
-//! answer that differs.
+//! Another program, held to this one: a script of lines or cases of WAVE files to
+//! both, and the first answer that differs.
 //!
 //! Threads of their own write the other's input and read its output, so that
 //! it never stands still for this program, nor this one for it.
 
+use crate::generator::files::Files;
 use crate::lines::Program;
 use crate::takes::Disagreement;
+use crate::waves::{Case, Independent};
 use std::fmt;
 use std::io::{self, Read, Write};
 use std::process::{ChildStdin, ChildStdout, Command, ExitStatus, Stdio};
@@ -33,12 +35,15 @@ pub enum Host {
 pub struct Equal {
     pub lines: u64,
     pub samples: u64,
+    /// Cases of WAVE files.
+    pub files: u64,
 }
 
 impl Equal {
     pub fn add(&mut self, other: &Equal) {
         self.lines += other.lines;
         self.samples += other.samples;
+        self.files += other.files;
     }
 
     /// Written, repeated and dropped come before a block's samples.
@@ -51,7 +56,11 @@ impl Equal {
 
 impl fmt::Display for Equal {
     fn fmt(&self, to: &mut fmt::Formatter) -> fmt::Result {
-        write!(to, "{} lines, {} samples out", self.lines, self.samples)
+        write!(to, "{} lines, {} samples out", self.lines, self.samples)?;
+        match self.files {
+            0 => Ok(()),
+            files => write!(to, ", {files} cases of files"),
+        }
     }
 }
 
@@ -122,17 +131,51 @@ pub fn compare(
     host: Host,
     equal: &mut Equal,
 ) -> Result<Vec<u8>, Unequal> {
+    with_program(command, script, host, |go, answers| {
+        hold(script, go, answers, equal)
+    })
+}
+
+/// Gives the first cases of WAVE files of a seed to both programs, the other being
+/// this command, and counts what is equal.
+pub fn compare_files(
+    seed: u64,
+    cases: u64,
+    command: &[String],
+    equal: &mut Equal,
+) -> Result<(), Unequal> {
+    let mut source = Files::seeded(seed);
+    let cases: Vec<Case> = (0..cases).map(|_| source.case()).collect();
+    let bytes: Vec<u8> = cases.iter().flat_map(Case::bytes).collect();
+    with_program(command, &bytes, Host::Streaming, |go, mut answers| {
+        // A program that has ended is told by its answers.
+        let _ = go.send(());
+        for (line, case) in (1..).zip(&cases) {
+            let expected = case.answer(&Independent) + "\n";
+            answers.hold(line, &case.bytes(), expected.as_bytes())?;
+            equal.files += 1;
+        }
+        answers.hold(cases.len() as u64 + 1, b"", b"").map(drop)
+    })
+}
+
+/// Runs a command on this input, and holds its answers as they come.
+fn with_program<T>(
+    command: &[String],
+    input: &[u8],
+    host: Host,
+    hold: impl FnOnce(Sender<()>, Answers) -> Result<T, Unequal>,
+) -> Result<T, Unequal> {
     let mut child = Command::new(&command[0])
         .args(&command[1..])
         .stdin(Stdio::piped())
         .stdout(Stdio::piped())
         .spawn()
         .map_err(Unequal::NotRun)?;
-    let script: Arc<[u8]> = script.into();
-    let input = child.stdin.take().expect("the input is a pipe");
+    let to = child.stdin.take().expect("the input is a pipe");
     let output = child.stdout.take().expect("the output is a pipe");
-    let go = writer(input, script.clone(), host);
-    let compared = hold(&script, go, Answers::of(output), equal);
+    let go = writer(to, input.into(), host);
+    let compared = hold(go, Answers::of(output));
     if compared.is_err() {
         // It may have ended by itself, and then cannot be stopped.
         let _ = child.kill();
@@ -144,13 +187,13 @@ pub fn compare(
     compared
 }
 
-/// Writes the script once it is told to; for a host that waits, one line each
+/// Writes the input once it is told to; for a host that waits, one line each
 /// time. A program that does not take it all is told by its answers.
-fn writer(mut input: ChildStdin, script: Arc<[u8]>, host: Host) -> Sender<()> {
+fn writer(mut to: ChildStdin, input: Arc<[u8]>, host: Host) -> Sender<()> {
     let (go, told) = channel();
     thread::spawn(move || {
-        let mut pieces = script.split_inclusive(|&byte| host == Host::Waiting && byte == b'\n');
-        pieces.all(|piece| told.recv().is_ok() && input.write_all(piece).is_ok())
+        let mut pieces = input.split_inclusive(|&byte| host == Host::Waiting && byte == b'\n');
+        pieces.all(|piece| told.recv().is_ok() && to.write_all(piece).is_ok())
     });
     go
 }

@@ -10,6 +10,7 @@ pub mod generator;
 pub mod history;
 pub mod keyboard;
 pub mod lines;
+pub mod mend;
 pub mod play;
 pub mod record;
 pub mod rules;
@@ -18,6 +19,8 @@ pub mod statistics;
 pub mod table;
 pub mod takes;
 pub mod tuner;
+pub mod wave;
+pub mod waves;
 pub mod words;
 
 #[cfg(test)]

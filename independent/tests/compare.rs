@@ -4,6 +4,7 @@
 use std::process::{Command, Output};
 
 const LINES: &str = env!("CARGO_BIN_EXE_lines");
+const WAVES: &str = env!("CARGO_BIN_EXE_waves");
 
 fn compare(arguments: &[&str]) -> Output {
     Command::new(env!("CARGO_BIN_EXE_compare"))
@@ -72,11 +73,11 @@ fn wrong_programs_are_found() {
     assert_unequal(
         "lines | sed 's/^5/6/'",
         &[
-            "not equal: kind hostile, seed 1, line ",
+            "not equal: kind cuts, seed 1, line ",
             "\n  input     block\\t",
             "\n  expected  5\\t0\\t0\\t0\\n\n",
             "\n  got       6\\t0\\t0\\t0\\n\n",
-            "\n  script    generate hostile 1 3000\n",
+            "\n  script    generate cuts 1 3000\n",
             "\nequal before that: ",
         ],
     );
@@ -108,6 +109,32 @@ fn wrong_programs_are_found() {
     );
 }
 
+/// Files come after the scripts, so many for each seed.
+#[test]
+fn files_are_compared_too() {
+    let with_files = |program: &str| {
+        let words = ["--files", "3000", program, "7", "2", "300", "--", LINES];
+        let output = compare(&words);
+        let said = String::from_utf8(output.stdout).unwrap();
+        (output.status.code(), said)
+    };
+    let (status, said) = with_files(WAVES);
+    assert_eq!(status, Some(0), "{said}");
+    assert!(said.contains(", 6000 cases of files; 39 kinds, seeds 7 to 8, "));
+    let (status, said) = with_files(LINES);
+    assert_eq!(status, Some(1));
+    let parts = [
+        "not equal: files, seed 7, line 1, from byte 1 ",
+        "\n  input     r",
+        "\n  expected  r\\t0\\t44100\\t0\\n\n",
+        "\n  got       10\\n\n",
+        "\n  script    files 7 3000\n",
+    ];
+    for part in parts {
+        assert!(said.contains(part), "no {part:?} in\n{said}");
+    }
+}
+
 #[test]
 fn a_program_that_is_not_there_is_told() {
     let output = compare(&["1", "1", "100", "--", "there/is/no/such/program"]);
@@ -126,6 +153,8 @@ fn wrong_arguments_are_refused() {
         &["1", "1", "many", "--", LINES],
         &["18446744073709551615", "2", "100", "--", LINES],
         &["--hasty", "1", "1", "100", "--", LINES],
+        &["--files", "1", "1", "100", "--", LINES],
+        &["--files", "many", WAVES, "1", "1", "100", "--", LINES],
     ];
     for arguments in refused {
         let output = compare(arguments);

@@ -91,7 +91,7 @@ fn its_takes_may_be_cut_in_any_way() {
         let is_key = |stretch: &Stretch| matches!(stretch, Stretch::Bytes(_));
         let is_change = |stretch: &Stretch| matches!(stretch, Stretch::Change(line) if line.starts_with(b"change\t"));
         assert!(stretches.iter().any(is_key) && stretches.iter().any(is_change));
-        assert!(played.output.len() > 900, "{} samples", played.output.len());
+        assert!(played.output.len() > 700, "{} samples", played.output.len());
         played.take.start.ends_with(b"\t48000")
     });
     assert_eq!(rates, [true, false]);

@@ -2,8 +2,9 @@
 
 use std::process::{Command, Output, Stdio};
 
-const COMMANDS: [(&str, &str); 8] = [
+const COMMANDS: [(&str, &str); 10] = [
     ("compare", env!("CARGO_BIN_EXE_compare")),
+    ("files", env!("CARGO_BIN_EXE_files")),
     ("generate", env!("CARGO_BIN_EXE_generate")),
     ("lines", env!("CARGO_BIN_EXE_lines")),
     ("night", env!("CARGO_BIN_EXE_night")),
@@ -11,6 +12,7 @@ const COMMANDS: [(&str, &str); 8] = [
     ("raw", env!("CARGO_BIN_EXE_raw")),
     ("records", env!("CARGO_BIN_EXE_records")),
     ("smoothness", env!("CARGO_BIN_EXE_smoothness")),
+    ("waves", env!("CARGO_BIN_EXE_waves")),
 ];
 
 fn run(program: &str, words: &[&str]) -> Output {
@@ -46,7 +48,7 @@ fn wrong_words_are_status_2_and_the_usage_on_standard_error() {
 /// Takes that are cut in several ways have no one length of blocks.
 #[test]
 fn cuts_take_no_length() {
-    let generate = |kind| run(COMMANDS[1].1, &[kind, "1", "100", "64"]).status.code();
+    let generate = |kind| run(COMMANDS[2].1, &[kind, "1", "100", "64"]).status.code();
     assert_eq!(generate("tones"), Some(0));
     assert_eq!(generate("cuts"), Some(2));
 }

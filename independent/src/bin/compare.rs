@@ -1,8 +1,9 @@
-//! `compare [--waiting] FIRST_SEED SEEDS SAMPLES -- COMMAND ARG..`: holds
-//! another line program to this one, by a script of each kind for each seed; and
-//! its answers to the cuttings of a take to one another.
+//! `compare [--waiting] [--files CASES PROGRAM] FIRST_SEED SEEDS SAMPLES -- COMMAND
+//! ARG..`: holds another line program to this one, by a script of each kind for
+//! each seed; and its answers to the cuttings of a take to one another. With
+//! `--files` then PROGRAM to `waves`, by so many cases of WAVE files for each seed.
 
-use independent::comparison::{compare, Equal, Host, Unequal};
+use independent::comparison::{compare, compare_files, Equal, Host, Unequal};
 use independent::generator::cuts::CUTTINGS;
 use independent::generator::kinds::{Kind, KINDS};
 use independent::generator::script::script;
@@ -12,10 +13,13 @@ use std::ops::RangeInclusive;
 use std::process::ExitCode;
 use std::time::Instant;
 
-const USAGE: &str = "compare [--waiting] FIRST_SEED SEEDS SAMPLES -- COMMAND ARG..";
+const USAGE: &str = "compare [--waiting] [--files CASES PROGRAM] FIRST_SEED SEEDS SAMPLES \
+                     -- COMMAND ARG..";
 
 struct Task {
     host: Host,
+    /// So many cases of WAVE files, and the program that is to answer them.
+    files: Option<(u64, String)>,
     seeds: RangeInclusive<u64>,
     samples: usize,
     command: Vec<String>,
@@ -27,12 +31,19 @@ fn task(arguments: &[String]) -> Option<Task> {
         [switch, rest @ ..] if switch == "--waiting" => (Host::Waiting, rest),
         _ => (Host::Streaming, arguments),
     };
+    let (files, arguments) = match arguments {
+        [switch, cases, program, rest @ ..] if switch == "--files" => {
+            (Some((cases.parse().ok()?, program.clone())), rest)
+        }
+        _ => (None, arguments),
+    };
     match arguments {
         [first, seeds, samples, dashes, command @ ..] if dashes == "--" && !command.is_empty() => {
             let first: u64 = first.parse().ok()?;
             let more = seeds.parse::<u64>().ok()?.checked_sub(1)?;
             Some(Task {
                 host,
+                files,
                 seeds: first..=first.checked_add(more)?,
                 samples: samples.parse().ok()?,
                 command: command.to_vec(),
@@ -52,9 +63,9 @@ fn main() -> ExitCode {
         let mut equal = Equal::default();
         let compared = compare_kinds(seed, &task, &mut equal);
         all.add(&equal);
-        if let Err((kind, unequal)) = compared {
-            println!("not equal: kind {kind}, seed {seed}, {unequal}");
-            println!("  script    generate {kind} {seed} {}", task.samples);
+        if let Err((what, made, unequal)) = compared {
+            println!("not equal: {what}, seed {seed}, {unequal}");
+            println!("  script    {made}");
             println!("equal before that: {all}");
             return ExitCode::FAILURE;
         }
@@ -66,12 +77,25 @@ fn main() -> ExitCode {
     ExitCode::SUCCESS
 }
 
-/// A script of each kind, up to the kind where the programs differ.
-fn compare_kinds(seed: u64, task: &Task, equal: &mut Equal) -> Result<(), (&'static str, Unequal)> {
+/// What differs, the command that wrote the input, and how they differ.
+type Difference = (String, String, Unequal);
+
+/// A script of each kind, and then files, up to where the programs differ.
+fn compare_kinds(seed: u64, task: &Task, equal: &mut Equal) -> Result<(), Difference> {
     for kind in KINDS {
-        compare_kind(kind, seed, task, equal).map_err(|unequal| (kind.name, unequal))?;
+        let (name, samples) = (kind.name, task.samples);
+        compare_kind(kind, seed, task, equal).map_err(|unequal| {
+            let made = format!("generate {name} {seed} {samples}");
+            (format!("kind {name}"), made, unequal)
+        })?;
     }
-    Ok(())
+    let Some((cases, program)) = &task.files else {
+        return Ok(());
+    };
+    compare_files(seed, *cases, std::slice::from_ref(program), equal).map_err(|unequal| {
+        let made = format!("files {seed} {cases}");
+        ("files".to_string(), made, unequal)
+    })
 }
 
 fn compare_kind(kind: &Kind, seed: u64, task: &Task, equal: &mut Equal) -> Result<(), Unequal> {

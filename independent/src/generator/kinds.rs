@@ -241,11 +241,11 @@ pub const KINDS: &[Kind] = &[
     },
     Kind {
         settings: Some("4095\t409\t0\t1\t48000"),
-        lengths: (1, 400),
-        changes: 60,
+        lengths: (1, 300),
+        changes: 30,
         following: Some(cuts::falls),
         cut: true,
-        ..played("cuts", "each take cut in several ways", both)
+        ..played("cuts", "each take cut in several ways", song)
     },
     Kind {
         settings: Some("4095\t409\t0\t1"),
@@ -312,6 +312,25 @@ fn film(random: &mut Random, place: usize) -> Passage {
 /// The notes of either table.
 fn both(random: &mut Random, place: usize) -> Passage {
     tones_at([CD, FILM][place % 2], random, place)
+}
+
+/// Notes of either table, glides and swings among them, and silence: lags are
+/// found, follow and are lost.
+fn song(random: &mut Random, place: usize) -> Passage {
+    let period = random.real(30.0, 300.0);
+    let length = (6.0 * period) as usize + random.whole(300, 2_000);
+    let passage =
+        Passage::of(voice(random, 1.0), period, length).loud(random.real(500.0, 30_000.0));
+    match place % 5 {
+        0 => both(random, place / 5),
+        1 => {
+            let speed = random.real(-0.02, 0.02);
+            passage.gliding((period + speed * length as f64).max(20.0))
+        }
+        2 => passage.swinging(random.real(0.002, 0.03), random.real(3_000.0, 8_000.0)),
+        3 => passage,
+        _ => passage.lasting(random.whole(20, 300)).loud(0.0),
+    }
 }
 
 /// The first and the last notes of either table.

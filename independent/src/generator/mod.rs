@@ -1,4 +1,5 @@
-//! Scripts for the line program, by kind and seed.
+//! Scripts for the line program, by kind and seed; and cases of calls, over
+//! records and over WAVE files.
 //!
 //! Sound is made with +, -, x, / and floor of IEEE doubles alone, so a kind
 //! and a seed give the same bytes on every machine.
@@ -7,6 +8,7 @@ pub mod cases;
 mod choices;
 pub mod cuts;
 pub mod edges;
+pub mod files;
 mod filming;
 mod holding;
 mod hostile;
