@@ -66,7 +66,7 @@ pub struct Left {
 }
 
 // A record is good.
-fn good(t: Tuner) -> bool
+pub fn good(t: Tuner) -> bool
     ensures { λ r. ⌜ Decides r (Good t) ⌝ }
 {
     let settings = t.settings;
@@ -173,7 +173,7 @@ fn take_parts(
     samples: &[i16],
 ) -> Left
     requires { ⌜ ((l : Last) × AllRight settings hertz keys (heardOf count (now energies) (now correlations) (now store) (now eighths)) v head l) × Stores (heardOf count (now energies) (now correlations) (now store) (now eighths)) × (length (now kept) ≡ longestBlock) × (0 < length (now samples)) × (length (now samples) ≤ longestBlock) × (count + length (now samples) ≤ takeLimit) ⌝ }
-    ensures { λ r. ⌜ ((l : Last) → tunerOf settings hertz keys (heardOf (r .count) (now (energies .exit)) (now (correlations .exit)) (now (store .exit)) (now (eighths .exit))) (r .pitch) (r .head) (lastWith (r .last) (now (kept .exit))) ≡ afterBlock (tunerOf settings hertz keys (heardOf count (now (energies .entry)) (now (correlations .entry)) (now (store .entry)) (now (eighths .entry))) v head l) number (now (samples .entry))) × (r .answer ≡ given 0 (now (samples .entry)) (r .last)) ⌝ }
+    ensures { λ r. ⌜ ((l : Last) → tunerOf settings hertz keys (heardOf (r .count) (now (energies .exit)) (now (correlations .exit)) (now (store .exit)) (now (eighths .exit))) (r .pitch) (r .head) (lastWith (r .last) (now (kept .exit))) ≡ afterBlock (tunerOf settings hertz keys (heardOf count (now (energies .entry)) (now (correlations .entry)) (now (store .entry)) (now (eighths .entry))) v head l) number (now (samples .entry))) × (r .answer ≡ given 0 (now (samples .entry)) (r .last)) × Stores (heardOf (r .count) (now (energies .exit)) (now (correlations .exit)) (now (store .exit)) (now (eighths .exit))) ⌝ }
 {
     let rate = hertz as u32;
     let f = InForce {
@@ -261,7 +261,7 @@ pub fn block_to_good(
     out: &mut [i16],
 ) -> Left
     requires { ⌜ AllRight settings hertz keys (heardOf count (now energies) (now correlations) (now store) (now eighths)) v head (lastWith last (now kept)) × Stores (heardOf count (now energies) (now correlations) (now store) (now eighths)) × (length (now kept) ≡ longestBlock) ⌝ }
-    ensures { λ r. ⌜ Took (tunerOf settings hertz keys (heardOf count (now (energies .entry)) (now (correlations .entry)) (now (store .entry)) (now (eighths .entry))) v head (lastWith last (now (kept .entry)))) number (now (samples .entry)) (now (out .entry)) (tunerOf settings hertz keys (heardOf (r .count) (now (energies .exit)) (now (correlations .exit)) (now (store .exit)) (now (eighths .exit))) (r .pitch) (r .head) (lastWith (r .last) (now (kept .exit)))) (r .answer) (now (out .exit)) ⌝ }
+    ensures { λ r. ⌜ Took (tunerOf settings hertz keys (heardOf count (now (energies .entry)) (now (correlations .entry)) (now (store .entry)) (now (eighths .entry))) v head (lastWith last (now (kept .entry)))) number (now (samples .entry)) (now (out .entry)) (tunerOf settings hertz keys (heardOf (r .count) (now (energies .exit)) (now (correlations .exit)) (now (store .exit)) (now (eighths .exit))) (r .pitch) (r .head) (lastWith (r .last) (now (kept .exit)))) (r .answer) (now (out .exit)) × Stores (heardOf (r .count) (now (energies .exit)) (now (correlations .exit)) (now (store .exit)) (now (eighths .exit))) ⌝ }
 {
     let verdict = judge_parts(count, last, store, number, samples, out.len());
     if verdict > 1 {

@@ -32,7 +32,7 @@ same-length : tie.Need-same-length
 same-length c = search needs
 
 returns-2 : tie.Need-returns-2
-returns-2 c = c .before .block-to-good .ensures
+returns-2 c = c .before .block-to-good .ensures .0
 
 pub block-parts-spec : {M : Type 1} → statement M
 block-parts-spec = tie.close (tie.spec all-right-requires plain-requires returns block-to-good-requires same-length returns-2)

@@ -66,7 +66,7 @@ plain-requires : tie.Need-plain-requires
 plain-requires c κs = search needs
 
 returns : tie.Need-returns
-returns c = took-refused (verdict (c .before .before)) (c .before .if1 .taken) (c .plain .ensures)
+returns c = (took-refused (verdict (c .before .before)) (c .before .if1 .taken) (c .plain .ensures), c .before .before .before .before .pre .1)
 
 give-requires : tie.Need-give-requires
 give-requires c κs = let d = c .before .before .before .before in let f = fits-here d in (omega (arith, start d .pre .2, f .most), f .written)
@@ -82,7 +82,7 @@ returns-2 c =
     let d = c .before .before .before .before .before in
     let s = start (d .before) in
     let a = s .args in
-    took-given (subst (Verdict (whole s) (a .number) (a .samples .now) (length (a .out .now))) (d .if2 .taken) (verdict (d .before .before))) (omega arith) (sym (tuner-kept (whole s) (a .number) (a .samples .now) (λ z. omega arith))) refl (c .before .give .ensures)
+    (took-given (subst (Verdict (whole s) (a .number) (a .samples .now) (length (a .out .now))) (d .if2 .taken) (verdict (d .before .before))) (omega arith) (sym (tuner-kept (whole s) (a .number) (a .samples .now) (λ z. omega arith))) refl (c .before .give .ensures), s .pre .1)
 
 take-parts-requires : tie.Need-take-parts-requires
 take-parts-requires c κs = let d = c .before .before .before .before .before in subst (Asked (start (d .before .before))) (d .if3 .taken) (asked (d .before))
@@ -90,14 +90,14 @@ take-parts-requires c κs = let d = c .before .before .before .before .before in
 take-parts-requires-2 : tie.Need-take-parts-requires-2
 take-parts-requires-2 c κs = asked (c .before .before .before .before .before .before)
 
--- the tuner that is left, and its answer
+-- the tuner that is left, its answer, and its stores
 abbrev after : tie.Joined3 → Tuner
 after c =
     let a = start (c .before .before) .args in
     let j = c .if3 in
     tunerOf (a .settings) (a .hertz) (a .keys) (heardOf (j .left .count) (j .energies) (j .correlations) (j .store) (j .eighths)) (j .left .pitch) (j .left .head) (lastWith (j .left .last) (j .kept))
 
-left-is : (c : tie.Joined3) → let s = start (c .before .before) in (after c ≡ afterBlock (whole s) (s .args .number) (s .args .samples .now)) × (c .if3 .left .answer ≡ given 0 (s .args .samples .now) (c .if3 .left .last))
+left-is : (c : tie.Joined3) → let s = start (c .before .before) in (after c ≡ afterBlock (whole s) (s .args .number) (s .args .samples .now)) × (c .if3 .left .answer ≡ given 0 (s .args .samples .now) (c .if3 .left .last)) × Stores (after c .heard)
 left-is c =
     let s = start (c .before .before) in
     let a = s .args in
@@ -107,11 +107,13 @@ left-is c =
           ∙ w .6 .ensures .0 (last s)
           ∙ ap (λ (n : ℕ). afterBlock (tuner s n (last s)) (a .number) (a .samples .now)) (sym (w .0 .taken)),
       ap (λ (l : Left). l .answer) (w .12) ∙ w .6 .ensures .1 ∙ ap (λ (l : Left). given 0 (a .samples .now) (l .last)) (sym (w .12)),
+      subst Stores (sym (λ i. heardOf (w .12 i .count) (w .7 i) (w .8 i) (w .9 i) (w .10 i))) (w .6 .ensures .2),
     ))
     (λ w. (
       (λ i. tunerOf (a .settings) (a .hertz) (a .keys) (heardOf (w .12 i .count) (w .7 i) (w .8 i) (w .9 i) (w .10 i)) (w .12 i .pitch) (w .12 i .head) (lastWith (w .12 i .last) (w .11 i)))
           ∙ w .6 .ensures .0 (last s),
       ap (λ (l : Left). l .answer) (w .12) ∙ w .6 .ensures .1 ∙ ap (λ (l : Left). given 0 (a .samples .now) (l .last)) (sym (w .12)),
+      subst Stores (sym (λ i. heardOf (w .12 i .count) (w .7 i) (w .8 i) (w .9 i) (w .10 i))) (w .6 .ensures .2),
     ))
     (c .if3 .came)
 
@@ -132,7 +134,7 @@ same-length-2 c = search needs
 returns-3 : tie.Need-returns-3
 returns-3 c =
     let j = c .before .before .before .before .before in
-    took-given (zero-here (j .before)) (omega arith) (by-zero j) (left-is j .1) (c .before .give2 .ensures)
+    (took-given (zero-here (j .before)) (omega arith) (by-zero j) (left-is j .1) (c .before .give2 .ensures), left-is j .2)
 
 pub block-to-good-spec : {M : Type 1} → statement M
 block-to-good-spec =
