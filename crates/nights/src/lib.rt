@@ -316,3 +316,18 @@ pub fn night(
         answer: answer,
     }
 }
+
+// A night over a record lent and altered there, with equal answers.
+pub fn night_in_place(
+    t: &mut Tuner,
+    number: u16,
+    size: usize,
+    samples: &[i16],
+    out: &mut [i16],
+) -> NightAnswer
+    ensures { λ r. ⌜ Nighted (now (t .entry)) number size (now (samples .entry)) (now (out .entry)) (now (t .exit)) r (now (out .exit)) ⌝ }
+{
+    let d = night(*t, number, size, samples, out);
+    *t = d.tuner;
+    d.answer
+}
