@@ -277,6 +277,10 @@ module _ {r : Received} {t : Tuner} (k : Keeps r t) where
 pub holds : Theorem
 holds cs t h = kept-accounted (series-keeps h)
 
+-- the arrays of such a tuner are as long as they were
+pub series-lengths : {cs : List Call} {t : Tuner} → Series cs t → Lengths t
+series-lengths h = series-keeps h .lengths
+
 pub again-holds : SentAgain
 again-holds cs t u w w′ k xs ys zs ys₂ zs₂ a b h p z m room q = let kept = series-keeps h in again-after (kept .good) (kept .lengths) p z m room q
 
