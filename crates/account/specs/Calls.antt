@@ -1,41 +1,29 @@
 -- A good tuner is never answered 9.
 -- The last block sent again, whatever was refused or set in between, gives the same samples and counts and leaves the same tuner.
 use mathlib.Core.Path.{_≡_, refl, sym, ap, _∙_, subst}
-use mathlib.Core.Bool.{true, false, cond}
+use mathlib.Core.Bool.{cond}
 use mathlib.Core.List.{List, _++_}
-use Prim.Native.Nat.{ℕ, zero, suc, _+_, _-_, _*_, _≤_, _<_}
+use Prim.Native.Nat.{ℕ, _+_, _-_, _≤_, _<_}
 use native.Mathlib.Omega.{arith}
-use borrow.Author.Tests.{eqb-true, ne-eqb}
+use borrow.Author.Tests.{ne-eqb}
 use lib.Dec.{eqb}
-use lib.IntN.{ℤ, pos, _*ℤ_}
-use lib.ListN.{length, take, drop, replicate, length-append, length-drop, length-replicate, getD-replicate, List·getD-append}
-use lib.Seq.{drop-drop, drop-at, take-at, length-take-le, getD-drop}
-use Rattle.whole.specs.Tests.{by, cond-case, cond-yes, cond-no, yes-and-no}
-use Rattle.whole.specs.Bounds.{natAbs-zero}
-use Rattle.whole.specs.Lists.{length-listOf, getD-listOf}
-use Rattle.whole.specs.Sums.{sum-within, total-zero}
+use lib.IntN.{ℤ}
+use lib.ListN.{length, take, drop}
+use lib.Seq.{drop-drop, drop-at}
+use Rattle.whole.specs.Tests.{cond-case, cond-no}
 use Rattle.rules.specs.declared.Settings.{Settings}
-use Rattle.rules.specs.Rules.{Sound, silence, heard, heardAll, sq, E, H, noTone, inRange, defaults, cdRate, startNumber, after}
-use Rattle.rules.specs.Ranges.{unrefused-start, default-start, settings-not-nine}
-use Rattle.rules.specs.Facts.{InRange, SampleRate, ForceIn, unpitched, valueAt, Right, keeping}
-use Rattle.rules.specs.Hearing.{all-heard}
-use Rattle.rules.specs.Position.{behind-in-bounds, in-bounds-behind}
-use Rattle.rules.specs.Sane.{Sane, after-sane}
+use Rattle.rules.specs.Rules.{heard, after}
+use Rattle.rules.specs.Ranges.{settings-not-nine}
+use Rattle.rules.specs.Facts.{keeping}
 use Rattle.pitch.specs.declared.Pitch.{Pitch as KeptPitch}
-use Rattle.pitch.specs.Keeping.{listed-right, kept-right}
 use Rattle.answers.specs.declared.Answer.{Answer}
 use Rattle.answers.specs.Numbering.{plain}
 use Rattle.meters.specs.declared.Meter.{Meter}
 use Rattle.meters.specs.Meters.{Exact}
-use Rattle.keyboard.specs.declared.Keyboard.{Keyboard}
-use Rattle.keyboard.specs.Keys.{KeyboardIn}
-use Rattle.keyboard.specs.Playing.{fresh-in, played-in, onChannel-in}
 use Rattle.record.specs.declared.Last.{Last}
-use Rattle.record.specs.Records.{soundOf, freshHeard, freshPitch, freshHead, noLast}
 use Rattle.tuner.specs.declared.Tuner.{Tuner}
-use Rattle.tuner.specs.Tuners.{takeOf, forceOf, Good, freshTuner, defaultTuner, made, heardAfter, afterBlock, lastSamples, Fits, Verdict, record-out-of-range, given-again, tunerBy, answerBy, Took, Started, withSettings, ChangeVerdict, by-settings, Changed, NineOnly, Reset, withBytes, Keyed, Metered, read}
-use Rattle.tuner.specs.Taking.{made-length}
-use Rattle.tuner.specs.Verdicts.{verdict-one, verdict-fits, verdict-zero, tuner-taken, tuner-kept, by-refused, by-given, counted, overlaid, out-length}
+use Rattle.tuner.specs.Tuners.{Good, freshTuner, heardAfter, afterBlock, lastSamples, Fits, Verdict, record-out-of-range, given-again, Took, withSettings, ChangeVerdict, by-settings, Changed, NineOnly, Reset, withBytes, Keyed, Metered, read}
+use Rattle.tuner.specs.Verdicts.{verdict-one, verdict-fits, tuner-taken}
 use Rattle.account.specs.Account.{Call, Leaves, by-start, by-change, by-block, by-midi, by-reset, by-meter, TakesNone, Meanwhile, nothing, and-meanwhile, GivenAgain, NeverNine}
 use Rattle.staying.specs.Staying.{Lengths, took-good, changed-good, keyed-good, reset-good, started-good, after-lengths, took-number, took-keeps, untaken-unchanged, overlaid-starts}
 

@@ -1,7 +1,7 @@
 -- No second answer to a night.
-use mathlib.Core.Path.{_≡_, refl, sym, ap, transport, subst, _∙_}
+use mathlib.Core.Path.{_≡_, refl, sym, ap, transport, _∙_}
 use mathlib.Core.Logic.{⊎-elim}
-use mathlib.Core.List.{List, [], _∷_, _++_}
+use mathlib.Core.List.{List, _++_}
 use Prim.Native.Nat.{ℕ, _≤_, _<_}
 use native.Mathlib.Omega.{arith}
 use lib.IntN.{ℤ}
@@ -9,7 +9,7 @@ use lib.ListN.{length, take, drop}
 use Rattle.rules.specs.Rules.{longestBlock}
 use Rattle.answers.specs.declared.Answer.{Answer}
 use Rattle.tuner.specs.declared.Tuner.{Tuner}
-use Rattle.tuner.specs.Tuners.{Good, Took}
+use Rattle.tuner.specs.Tuners.{Good}
 use Rattle.tuner.specs.Verdicts.{Step, isn't, is, step-one, took-one}
 use Rattle.nights.specs.declared.NightAnswer.{NightAnswer}
 use Rattle.nights.specs.Nights.{numberAfter, noNight, added, stretches, OneByOne, all-done, and-on, refused, Untouched, Nighted, record-out-of-range, size-out-of-range, output-short, one-by-one}

@@ -48,7 +48,7 @@ pub struct Reached {
 }
 
 // The answer with this number, and nothing taken.
-fn refused_night(number: u32) -> NightAnswer
+pub fn refused_night(number: u32) -> NightAnswer
     ensures { λ r. ⌜ r ≡ refusedNight number ⌝ }
 {
     NightAnswer {
@@ -231,13 +231,7 @@ fn judge(t: Tuner, size: usize, length: usize, room: usize) -> u32
 }
 
 // A recording's blocks of so many samples, from a block number on, as by the single calls one by one; it stops at the first that is refused.
-pub fn night(
-    t: Tuner,
-    number: u16,
-    size: usize,
-    samples: &[i16],
-    out: &mut [i16],
-) -> NightTaken
+pub fn night(t: Tuner, number: u16, size: usize, samples: &[i16], out: &mut [i16]) -> NightTaken
     ensures { λ r. ⌜ Nighted t number size (now (samples .entry)) (now (out .entry)) (r .tuner) (r .answer) (now (out .exit)) ⌝ }
 {
     let verdict = judge(t, size, samples.len(), out.len());

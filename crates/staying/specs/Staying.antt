@@ -1,40 +1,35 @@
 -- Every call leaves a good tuner good; what the answer to a block says of the tuner; a block that is not taken changes nothing.
 use mathlib.Core.Path.{_≡_, refl, sym, ap, _∙_, subst}
-use mathlib.Core.Bool.{true, false, cond}
+use mathlib.Core.Bool.{cond}
 use mathlib.Core.List.{List, _++_}
 use Prim.Native.Nat.{ℕ, zero, suc, _+_, _-_, _*_, _≤_, _<_}
 use native.Mathlib.Omega.{arith}
-use borrow.Author.Tests.{eqb-true, ne-eqb}
+use borrow.Author.Tests.{eqb-true}
 use lib.Dec.{eqb}
 use lib.IntN.{ℤ, pos, _*ℤ_}
-use lib.ListN.{length, take, drop, replicate, length-append, length-drop, length-replicate, getD-replicate, List·getD-append}
-use lib.Seq.{drop-drop, drop-at, take-at, length-take-le, getD-drop}
-use Rattle.whole.specs.Tests.{by, cond-case, cond-yes, cond-no, yes-and-no}
+use lib.ListN.{length, take, drop, replicate, length-replicate, getD-replicate, List·getD-append}
+use lib.Seq.{take-at, length-take-le, getD-drop}
+use Rattle.whole.specs.Tests.{by, cond-case}
 use Rattle.whole.specs.Bounds.{natAbs-zero}
-use Rattle.whole.specs.Lists.{length-listOf, getD-listOf}
+use Rattle.whole.specs.Lists.{length-listOf}
 use Rattle.whole.specs.Sums.{sum-within, total-zero}
 use Rattle.rules.specs.declared.Settings.{Settings}
 use Rattle.rules.specs.Rules.{Sound, silence, heard, heardAll, sq, E, H, noTone, inRange, defaults, cdRate, startNumber, after}
-use Rattle.rules.specs.Ranges.{unrefused-start, default-start, settings-not-nine}
+use Rattle.rules.specs.Ranges.{unrefused-start, default-start}
 use Rattle.rules.specs.Facts.{InRange, SampleRate, ForceIn, unpitched, valueAt, Right, keeping}
 use Rattle.rules.specs.Hearing.{all-heard}
 use Rattle.rules.specs.Position.{behind-in-bounds, in-bounds-behind}
 use Rattle.rules.specs.Sane.{Sane, after-sane}
-use Rattle.pitch.specs.declared.Pitch.{Pitch as KeptPitch}
 use Rattle.pitch.specs.Keeping.{listed-right, kept-right}
 use Rattle.answers.specs.declared.Answer.{Answer}
-use Rattle.answers.specs.Numbering.{plain}
-use Rattle.meters.specs.declared.Meter.{Meter}
-use Rattle.meters.specs.Meters.{Exact}
 use Rattle.keyboard.specs.declared.Keyboard.{Keyboard}
 use Rattle.keyboard.specs.Keys.{KeyboardIn}
 use Rattle.keyboard.specs.Playing.{fresh-in, played-in, onChannel-in}
-use Rattle.record.specs.declared.Last.{Last}
 use Rattle.record.specs.Records.{soundOf, freshHeard, freshPitch, freshHead, noLast}
 use Rattle.tuner.specs.declared.Tuner.{Tuner}
-use Rattle.tuner.specs.Tuners.{takeOf, forceOf, Good, freshTuner, defaultTuner, made, heardAfter, afterBlock, lastSamples, Fits, Verdict, record-out-of-range, given-again, tunerBy, answerBy, Took, Started, withSettings, ChangeVerdict, by-settings, Changed, NineOnly, Reset, withBytes, Keyed, Metered, read}
+use Rattle.tuner.specs.Tuners.{takeOf, forceOf, Good, freshTuner, defaultTuner, made, heardAfter, afterBlock, Verdict, record-out-of-range, tunerBy, answerBy, Took, Started, withSettings, ChangeVerdict, by-settings, Changed, Reset, withBytes, Keyed, read}
 use Rattle.tuner.specs.Taking.{keeping-length, made-length}
-use Rattle.tuner.specs.Verdicts.{verdict-one, verdict-fits, verdict-zero, tuner-taken, tuner-kept, by-refused, by-given, counted, overlaid, out-length}
+use Rattle.tuner.specs.Verdicts.{verdict-fits, verdict-zero, tuner-kept, by-refused, by-given, counted, overlaid, out-length}
 
 -- how long a tuner's arrays are
 pub record Lengths (t : Tuner) : Type 0 where
@@ -236,4 +231,3 @@ module _ {t t′ : Tuner} {k : ℕ} {xs ys ys′ : List ℤ} {a : Answer} (p : T
 -- what is written first is what is read first
 pub overlaid-starts : (u : Tuner) (xs ys : List ℤ) → length xs ≤ length (u .last .out) → take (length xs) (overlaid u xs ys) ≡ take (length xs) (u .last .out)
 overlaid-starts u xs ys h = take-at (take (length xs) (u .last .out)) (drop (length xs) ys) (length xs) (length-take-le (length xs) (u .last .out) h)
-

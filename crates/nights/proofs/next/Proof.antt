@@ -1,6 +1,6 @@
 -- `nights::next` meets its contract: a stretch of the recording by the single call, and its answer added.
 -- Assumes nothing.
-use mathlib.Core.Path.{_≡_, sym, ap, subst, transport, _∙_}
+use mathlib.Core.Path.{sym, ap, subst, transport, _∙_}
 use Prim.Native.Nat.{ℕ, _-_, _≤_}
 use native.Mathlib.Omega.{arith}
 use borrow.Author.Needs.{needs}

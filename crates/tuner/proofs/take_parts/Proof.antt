@@ -137,8 +137,8 @@ returns c =
     let a = s .args in
     let e = r .run .ensures in
     let is =
-        after-is (tuner s) (s .pre .0 .1) (s .pre .1) (joined o .join .ensures) (opened o .front .ensures) (s .pre .4) (e .0 .eighths .long) (e .0) (e .1) (e .2) (a .number)
-        (zeros o) (store .keep .ensures) (eighths .keep2 .ensures) (c .settled .ensures) in (
+    after-is (tuner s) (s .pre .0 .1) (s .pre .1) (joined o .join .ensures) (opened o .front .ensures) (s .pre .4) (e .0 .eighths .long) (e .0) (e .1) (e .2) (a .number)
+    (zeros o) (store .keep .ensures) (eighths .keep2 .ensures) (c .settled .ensures) in (
       λ l. is ∙ last-unread (a .settings) (a .hertz) (a .keys) (tuner s .heard) (a .v) (a .head) (s .pre .0 .0) l (a .number) (a .samples .now),
       refl,
       after-stores (tuner s) (a .number) (a .samples .now) (s .pre .1) is
