@@ -48,11 +48,11 @@ pub record Ready (t : Tuner) (n : NightAnswer) : Type 0 where
 -- one block more
 pub record Went (xs : List ℤ) (size : ℕ) (g g′ : Reached) (t t′ : Tuner) (ys ys′ : List ℤ) : Type 0 where
   pub at : g′ .at ≡ min (g .at + size) (length xs)
-  pub number : g′ .number ≡ numberAfter (g .number)
-  pub took : Took t (g .number) (take size (drop (g .at) xs)) (drop (g .at) ys) t′ (g′ .left .answer) (drop (g .at) ys′)
+  pub number : g′ .next ≡ numberAfter (g .next)
+  pub took : Took t (g .next) (take size (drop (g .at) xs)) (drop (g .at) ys) t′ (g′ .left .answer) (drop (g .at) ys′)
   pub before : take (g .at) ys′ ≡ take (g .at) ys
   pub long : length ys′ ≡ length ys
-  pub answer : g′ .answer ≡ added (g .answer) (g .number) (g′ .left .answer)
+  pub answer : g′ .answer ≡ added (g .answer) (g .next) (g′ .left .answer)
   pub stores : Stores (t′ .heard)
   pub few : Few (t′ .heard .count) (g′ .answer)
 
@@ -182,15 +182,15 @@ rest-back at o w h =
 -- what is left of the night makes it whole; or it was stopped, and is whole
 pub data Going (t₀ : Tuner) (k₀ size : ℕ) (xs ys₀ : List ℤ) (t : Tuner) (g : Reached) (ys : List ℤ) : Type 0 where
   goes : g .answer .number ≡ 0 → Ready t (g .answer)
-      → ((t′ : Tuner) (n′ : NightAnswer) (zs : List ℤ) → OneByOne t (g .number) (g .answer) (stretches size (drop (g .at) xs)) (drop (g .at) ys) t′ n′ zs → OneByOne t₀ k₀ noNight (stretches size xs) ys₀ t′ n′ (take (g .at) ys ++ zs))
+      → ((t′ : Tuner) (n′ : NightAnswer) (zs : List ℤ) → OneByOne t (g .next) (g .answer) (stretches size (drop (g .at) xs)) (drop (g .at) ys) t′ n′ zs → OneByOne t₀ k₀ noNight (stretches size xs) ys₀ t′ n′ (take (g .at) ys ++ zs))
       → Going t₀ k₀ size xs ys₀ t g ys
   stopped : (g .answer .number ≡ 0 → ⊥) → OneByOne t₀ k₀ noNight (stretches size xs) ys₀ t (g .answer) ys → Going t₀ k₀ size xs ys₀ t g ys
 
 -- where it begins
-pub go-begins : (t : Tuner) (size : ℕ) (xs ys : List ℤ) (g : Reached) → g .answer ≡ noNight → g .at ≡ 0 → Ready t (g .answer) → Going t (g .number) size xs ys t g ys
+pub go-begins : (t : Tuner) (size : ℕ) (xs ys : List ℤ) (g : Reached) → g .answer ≡ noNight → g .at ≡ 0 → Ready t (g .answer) → Going t (g .next) size xs ys t g ys
 go-begins t size xs ys g a e r =
     goes (ap (λ (n : NightAnswer). n .number) a) r
-    (λ t′ n′ zs q. transport (λ i. OneByOne t (g .number) (a i) (stretches size (drop (e i) xs)) (drop (e i) ys) t′ n′ (sym (ap (λ (n : ℕ). take n ys ++ zs) e) i)) q)
+    (λ t′ n′ zs q. transport (λ i. OneByOne t (g .next) (a i) (stretches size (drop (e i) xs)) (drop (e i) ys) t′ n′ (sym (ap (λ (n : ℕ). take n ys ++ zs) e) i)) q)
 
 pub ready-lengths : {t : Tuner} {n : NightAnswer} → Ready t n → Lengths t
 ready-lengths r = record { store = r .stores .store; eighths = r .stores .eighths; energies = r .stores .energies; correlations = r .stores .correlations; out = r .kept }
@@ -203,12 +203,12 @@ module _ {t₀ t t′ : Tuner} {k₀ size : ℕ} {xs ys₀ ys ys′ : List ℤ} 
       by (leb (a .number) 1)
       (λ l. let few = leb-true (a .number) 1 l in
       goes
-      (ap (λ (n : NightAnswer). n .number) (w .answer) ∙ added-goes (a .number) (g .answer) (g .number) a few ∙ e)
+      (ap (λ (n : NightAnswer). n .number) (w .answer) ∙ added-goes (a .number) (g .answer) (g .next) a few ∙ e)
       (record { good = stays .0; stores = w .stores; kept = stays .1 .out; few = w .few })
       (λ t″ n″ zs q.
       transport (λ i. OneByOne t₀ k₀ noNight (stretches size xs) ys₀ t″ n″ ((stretch-before xs (g .at) size upto ys ys′ zs (w .before) ∙ ap (λ (n : ℕ). take n ys′ ++ zs) (sym (w .at))) i))
       (rest t″ n″ _
-      (transport (λ i. OneByOne t (g .number) (g .answer) (sym (stretches-more size (drop (g .at) xs) some left) i) (drop (g .at) ys) t″ n″ (take (length block) (drop (g .at) ys′) ++ zs))
+      (transport (λ i. OneByOne t (g .next) (g .answer) (sym (stretches-more size (drop (g .at) xs) some left) i) (drop (g .at) ys) t″ n″ (take (length block) (drop (g .at) ys′) ++ zs))
       (and-on (w .took) few
       (transport
       (λ i. OneByOne t′ (w .number i) (w .answer i)
@@ -217,11 +217,11 @@ module _ {t₀ t t′ : Tuner} {k₀ size : ℕ} {xs ys₀ ys ys′ : List ℤ} 
       q))))))
       (λ l. let many = leb-false (a .number) 1 l in
       stopped
-      (λ z. let s = ap (λ (n : NightAnswer). n .number) (w .answer) ∙ sym (ap (λ (n : NightAnswer). n .number) (added-refused (a .number) (g .answer) (g .number) a (omega arith))) in omega arith)
+      (λ z. let s = ap (λ (n : NightAnswer). n .number) (w .answer) ∙ sym (ap (λ (n : NightAnswer). n .number) (added-refused (a .number) (g .answer) (g .next) a (omega arith))) in omega arith)
       (transport
       (λ i. OneByOne t₀ k₀ noNight (stretches size xs) ys₀ t′ (sym (w .answer) i) ((ap (λ (l : List ℤ). l ++ drop (g .at) ys′) (sym (w .before)) ∙ take-append-drop (g .at) ys′) i))
       (rest t′ _ _
-      (transport (λ i. OneByOne t (g .number) (g .answer) (sym (stretches-more size (drop (g .at) xs) some left) i) (drop (g .at) ys) t′ (added (g .answer) (g .number) a) (drop (g .at) ys′))
+      (transport (λ i. OneByOne t (g .next) (g .answer) (sym (stretches-more size (drop (g .at) xs) some left) i) (drop (g .at) ys) t′ (added (g .answer) (g .next) a) (drop (g .at) ys′))
       (refused (w .took) (omega arith))))))
     where
       a : Answer
@@ -253,7 +253,7 @@ go-ends {t₀} {t} {k₀} {size} {xs} {ys₀} {ys} {g} end h (goes e r rest) =
     (λ l. let m = leb-false (suc (g .at)) (length xs) l in
     transport (λ i. OneByOne t₀ k₀ noNight (stretches size xs) ys₀ t (g .answer) (take-append-drop (g .at) ys i))
     (rest t (g .answer) (drop (g .at) ys)
-    (transport (λ i. OneByOne t (g .number) (g .answer) (sym (stretches-none size (drop (g .at) xs) (omega (arith, length-drop (g .at) xs))) i) (drop (g .at) ys) t (g .answer) (drop (g .at) ys)) all-done)))
+    (transport (λ i. OneByOne t (g .next) (g .answer) (sym (stretches-none size (drop (g .at) xs) (omega (arith, length-drop (g .at) xs))) i) (drop (g .at) ys) t (g .answer) (drop (g .at) ys)) all-done)))
 
 -- ---- the promise by its number
 

@@ -43,7 +43,7 @@ pub struct NightTaken {
 pub struct Reached {
     pub left: Left,
     pub answer: NightAnswer,
-    pub number: u16,
+    pub next: u16,
     pub at: usize,
 }
 
@@ -159,7 +159,7 @@ fn next(
         head,
         last,
         kept,
-        g.number,
+        g.next,
         &samples[at..to],
         &mut out[at..],
     );
@@ -167,8 +167,8 @@ fn next(
     let a = left.answer;
     Reached {
         left: left,
-        answer: add(n, g.number, a),
-        number: std::num::wrapping_add_u16(g.number, 1),
+        answer: add(n, g.next, a),
+        next: std::num::wrapping_add_u16(g.next, 1),
         at: to,
     }
 }
@@ -189,7 +189,7 @@ fn go(
     first: Reached,
 ) -> Reached
     requires { ⌜ Ready (leftOf settings hertz keys (first .left) (now energies) (now correlations) (now store) (now eighths) (now kept)) (first .answer) × (first .answer ≡ noNight) × (first .at ≡ 0) × (0 < size) × (length (now samples) ≤ length (now out)) ⌝ }
-    ensures { λ r. ⌜ OneByOne (leftOf settings hertz keys (first .left) (now (energies .entry)) (now (correlations .entry)) (now (store .entry)) (now (eighths .entry)) (now (kept .entry))) (first .number) noNight (stretches size (now (samples .entry))) (now (out .entry)) (leftOf settings hertz keys (r .left) (now (energies .exit)) (now (correlations .exit)) (now (store .exit)) (now (eighths .exit)) (now (kept .exit))) (r .answer) (now (out .exit)) ⌝ }
+    ensures { λ r. ⌜ OneByOne (leftOf settings hertz keys (first .left) (now (energies .entry)) (now (correlations .entry)) (now (store .entry)) (now (eighths .entry)) (now (kept .entry))) (first .next) noNight (stretches size (now (samples .entry))) (now (out .entry)) (leftOf settings hertz keys (r .left) (now (energies .exit)) (now (correlations .exit)) (now (store .exit)) (now (eighths .exit)) (now (kept .exit))) (r .answer) (now (out .exit)) ⌝ }
 {
     let mut g = first;
     while goes_on(g, samples.len()) {
@@ -265,7 +265,7 @@ pub fn night(t: Tuner, number: u16, size: usize, samples: &[i16], out: &mut [i16
             },
         },
         answer: refused_night(0),
-        number: number,
+        next: number,
         at: 0,
     };
     let g = go(

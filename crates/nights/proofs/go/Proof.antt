@@ -11,7 +11,7 @@ use Rattle.nights.proofs.go.Tie as tie
 abbrev Inv-loop : tie.InvT-loop
 Inv-loop settings hertz keys energies₀ correlations₀ store₀ eighths₀ kept₀ size samples out₀ g₀ energies correlations store eighths kept out g =
     (g .at ≤ length samples) × (length out ≡ length out₀) ×
-    Going (leftOf settings hertz keys (g₀ .left) energies₀ correlations₀ store₀ eighths₀ kept₀) (g₀ .number) size samples out₀ (leftOf settings hertz keys (g .left) energies correlations store eighths kept) g out
+    Going (leftOf settings hertz keys (g₀ .left) energies₀ correlations₀ store₀ eighths₀ kept₀) (g₀ .next) size samples out₀ (leftOf settings hertz keys (g .left) energies correlations store eighths kept) g out
 
 abbrev μ-loop : tie.MeasureT-loop
 μ-loop settings hertz keys energies₀ correlations₀ store₀ eighths₀ kept₀ size samples out₀ g₀ energies correlations store eighths kept out g = length samples - g .at

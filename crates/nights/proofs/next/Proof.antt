@@ -69,7 +69,7 @@ returns c =
       took =
           transport
           (λ i. Took
-          (leftOf (a .settings) (a .hertz) (a .keys) (a .g .left) (a .energies .now) (a .correlations .now) (a .store .now) (a .eighths .now) (a .kept .now)) (a .g .number)
+          (leftOf (a .settings) (a .hertz) (a .keys) (a .g .left) (a .energies .now) (a .correlations .now) (a .store .now) (a .eighths .now) (a .kept .now)) (a .g .next)
           ((ap (λ (k : ℕ). take (k - a .g .at) (drop (a .g .at) (a .samples .now))) (end .end-of .ensures) ∙ stretch-is (a .samples .now) (a .g .at) (a .size) upto) i)
           (rest-lent (a .g .at) (a .out .now) i)
           (leftOf (a .settings) (a .hertz) (a .keys) (b .block-to-good .result) (b .block-to-good .last .1 .1 .1 .1 .0) (b .block-to-good .last .1 .1 .1 .1 .1 .0) (b .block-to-good .last .1 .1 .1 .1 .1 .1 .0) (b .block-to-good .last .1 .1 .1 .1 .1 .1 .1 .0) (b .block-to-good .last .1 .1 .1 .1 .1 .1 .1 .1 .1 .1 .1 .0))
