@@ -1,4 +1,4 @@
--- The account: what holds after any series of calls. Definitions only, and two statements (`Theorem`, `SentAgain`); their proofs are `holds` and `again-holds` in Holds.antt.
+-- The account: what holds after any series of calls. Definitions only, and three statements (`Theorem`, `SentAgain`, `NightTheorem`); their proofs are `holds` and `again-holds` in Holds.antt, and `night-holds` in Nightly.antt.
 -- README lists what is to be read before it.
 use mathlib.Core.Path.{_≡_}
 use mathlib.Core.Bool.{cond}
@@ -14,6 +14,8 @@ use Rattle.history.specs.History.{Event, sample, new-settings, byte, Course, fr
 use Rattle.tuner.specs.declared.Tuner.{Tuner}
 use Rattle.answers.specs.declared.Answer.{Answer}
 use Rattle.meters.specs.declared.Meter.{Meter}
+use Rattle.nights.specs.declared.NightAnswer.{NightAnswer}
+use Rattle.nights.specs.Nights.{Nighted}
 use Rattle.tuner.specs.Tuners.{defaultTuner, takeOf, forceOf, Good, made, Took, Started, Changed, Keyed, Reset, Metered}
 
 -- ---- the history
@@ -174,3 +176,19 @@ pub record NeverNine (t : Tuner) : Type 0 where
   pub midi : {bytes : List ℕ} {t′ : Tuner} {a : Answer} → Keyed t bytes t′ a → a .number ≡ 9 → ⊥
   pub reset : {t′ : Tuner} {a : Answer} → Reset t t′ a → a .number ≡ 9 → ⊥
   pub meter : {r : Meter} → Metered t r → r ≡ Meter.Refused → ⊥
+
+-- ---- a night's blocks in one call
+
+-- the night is a series of single calls after the calls cs, so that the account holds with these calls in it; what was answered is what they add up to, and never 9
+pub record AsSingleCalls (cs : List Call) (t′ : Tuner) (a : NightAnswer) : Type 0 where
+  pub calls : List Call
+  pub series : Series (calls ++ cs) t′
+  pub written : length (received (calls ++ cs) .written) ≡ length (received cs .written) + a .written
+  pub repeated : received (calls ++ cs) .repeated ≡ received cs .repeated + a .repeated
+  pub dropped : received (calls ++ cs) .dropped ≡ received cs .dropped + a .dropped
+  pub neverNine : a .number ≡ 9 → ⊥
+
+-- after any series of calls
+abbrev pub NightTheorem : Type 0
+NightTheorem =
+    (cs : List Call) (t t′ : Tuner) (k size : ℕ) (xs ys ys′ : List ℤ) (a : NightAnswer) → Series cs t → Nighted t k size xs ys t′ a ys′ → AsSingleCalls cs t′ a

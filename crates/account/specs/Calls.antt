@@ -1,216 +1,38 @@
--- Every call leaves a good tuner good, and a good tuner is never answered 9; a refusal changes nothing.
+-- A good tuner is never answered 9.
 -- The last block sent again, whatever was refused or set in between, gives the same samples and counts and leaves the same tuner.
 use mathlib.Core.Path.{_≡_, refl, sym, ap, _∙_, subst}
-use mathlib.Core.Bool.{true, false, cond}
+use mathlib.Core.Bool.{cond}
 use mathlib.Core.List.{List, _++_}
-use Prim.Native.Nat.{ℕ, zero, suc, _+_, _-_, _*_, _≤_, _<_}
+use Prim.Native.Nat.{ℕ, _+_, _-_, _≤_, _<_}
 use native.Mathlib.Omega.{arith}
-use borrow.Author.Tests.{eqb-true, ne-eqb}
+use borrow.Author.Tests.{ne-eqb}
 use lib.Dec.{eqb}
-use lib.IntN.{ℤ, pos, _*ℤ_}
-use lib.ListN.{length, take, drop, replicate, length-append, length-drop, length-replicate, getD-replicate, List·getD-append}
-use lib.Seq.{drop-drop, drop-at, take-at, length-take-le, getD-drop}
-use Rattle.whole.specs.Tests.{by, cond-case, cond-yes, cond-no, yes-and-no}
-use Rattle.whole.specs.Bounds.{natAbs-zero}
-use Rattle.whole.specs.Lists.{length-listOf, getD-listOf}
-use Rattle.whole.specs.Sums.{sum-within, total-zero}
+use lib.IntN.{ℤ}
+use lib.ListN.{length, take, drop}
+use lib.Seq.{drop-drop, drop-at}
+use Rattle.whole.specs.Tests.{cond-case, cond-no}
 use Rattle.rules.specs.declared.Settings.{Settings}
-use Rattle.rules.specs.Rules.{Sound, silence, heard, heardAll, sq, E, H, noTone, inRange, defaults, cdRate, startNumber, after}
-use Rattle.rules.specs.Ranges.{unrefused-start, default-start, settings-not-nine}
-use Rattle.rules.specs.Facts.{InRange, SampleRate, ForceIn, unpitched, valueAt, Right, keeping}
-use Rattle.rules.specs.Hearing.{all-heard}
-use Rattle.rules.specs.Position.{behind-in-bounds, in-bounds-behind}
-use Rattle.rules.specs.Sane.{Sane, after-sane}
+use Rattle.rules.specs.Rules.{heard, after}
+use Rattle.rules.specs.Ranges.{settings-not-nine}
+use Rattle.rules.specs.Facts.{keeping}
 use Rattle.pitch.specs.declared.Pitch.{Pitch as KeptPitch}
-use Rattle.pitch.specs.Keeping.{listed-right, kept-right}
 use Rattle.answers.specs.declared.Answer.{Answer}
 use Rattle.answers.specs.Numbering.{plain}
 use Rattle.meters.specs.declared.Meter.{Meter}
 use Rattle.meters.specs.Meters.{Exact}
-use Rattle.keyboard.specs.declared.Keyboard.{Keyboard}
-use Rattle.keyboard.specs.Keys.{KeyboardIn}
-use Rattle.keyboard.specs.Playing.{fresh-in, played-in, onChannel-in}
 use Rattle.record.specs.declared.Last.{Last}
-use Rattle.record.specs.Records.{soundOf, freshHeard, freshPitch, freshHead, noLast}
 use Rattle.tuner.specs.declared.Tuner.{Tuner}
-use Rattle.tuner.specs.Tuners.{takeOf, forceOf, Good, freshTuner, defaultTuner, made, heardAfter, afterBlock, lastSamples, Fits, Verdict, record-out-of-range, given-again, tunerBy, answerBy, Took, Started, withSettings, ChangeVerdict, by-settings, Changed, NineOnly, Reset, withBytes, Keyed, Metered, read}
-use Rattle.tuner.specs.Taking.{made-length}
-use Rattle.tuner.specs.Verdicts.{verdict-one, verdict-fits, verdict-zero, tuner-taken, tuner-kept, by-refused, by-given, counted, overlaid, out-length}
+use Rattle.tuner.specs.Tuners.{Good, freshTuner, heardAfter, afterBlock, lastSamples, Fits, Verdict, record-out-of-range, given-again, Took, withSettings, ChangeVerdict, by-settings, Changed, NineOnly, Reset, withBytes, Keyed, Metered, read}
+use Rattle.tuner.specs.Verdicts.{verdict-one, verdict-fits, tuner-taken}
 use Rattle.account.specs.Account.{Call, Leaves, by-start, by-change, by-block, by-midi, by-reset, by-meter, TakesNone, Meanwhile, nothing, and-meanwhile, GivenAgain, NeverNine}
-
--- how long a tuner's arrays are
-pub record Lengths (t : Tuner) : Type 0 where
-  pub store : length (t .heard .store) ≡ 1764
-  pub eighths : length (t .heard .eighths) ≡ 224
-  pub energies : length (t .heard .energies) ≡ 109
-  pub correlations : length (t .heard .correlations) ≡ 109
-  pub out : length (t .last .out) ≡ 512
+use Rattle.staying.specs.Staying.{Lengths, took-good, changed-good, keyed-good, reset-good, started-good, after-lengths, took-number, took-keeps, untaken-unchanged, overlaid-starts}
 
 -- the same last block, and its samples
 pub record SameLast (u w : Tuner) : Type 0 where
   pub store : w .heard .store ≡ u .heard .store
   pub last : w .last ≡ u .last
 
--- ---- a fresh tuner is good
-
--- silence, and zeros heard after it
-pub still-silent : (n : ℕ) (x : Sound) → ((k : ℕ) → x k ≡ pos 0) → (k : ℕ) → heardAll x (replicate n (pos 0)) k ≡ pos 0
-unfolding heardAll
-still-silent zero x p = p
-still-silent (suc n) x p = still-silent n (heard (pos 0) x) (all-heard (λ z. z ≡ pos 0) p refl)
-
-pub silent-right : {x : Sound} (low n : ℕ) → ((k : ℕ) → x k ≡ pos 0) → Right x low n (replicate n 0) (replicate n (pos 0))
-unfolding E H
-silent-right {x} low n p =
-    record {
-      energies = length-replicate n 0;
-      correlations = length-replicate n (pos 0);
-      energy = λ j h. getD-replicate n j 0 0 h ∙ sym (total-zero (λ (k : ℕ). sq (x k)) (2 * (low + j)) (λ k l. ap sq (p k)));
-      correlation = λ j h.
-          getD-replicate n j (pos 0) (pos 0) h
-          ∙ sym (natAbs-zero (H x (low + j)) (omega (arith, sum-within 0 (λ (k : ℕ). x k *ℤ x (k + (low + j))) (λ k. record { within = rw (p k, p (k + (low + j))) (omega arith) }) (low + j) .within)));
-    }
-
-pub good-fresh : {hertz : ℕ} (s : Settings) → SampleRate hertz → InRange s → Good (freshTuner hertz s)
-unfolding freshTuner freshHeard freshPitch freshHead noLast noTone silence
-good-fresh s rate e =
-    record {
-      settings = e;
-      hertz = rate;
-      keyboard = fresh-in;
-      heard =
-          record {
-            count = omega arith;
-            before = λ i h. getD-replicate 1764 i (pos 0) (pos 0) (omega arith);
-            eighthsBefore = λ i h. getD-replicate 224 i (pos 0) (pos 0) (omega arith);
-            sums = silent-right 2 109 (still-silent 224 silence (λ k. refl));
-          };
-      pitch = record { flag = omega arith; pitch = record { tone = unpitched refl refl (omega arith); lags = tt; whileSearching = λ z. refl }; sums = λ z. absurd (omega arith) };
-      head = record { behind = omega arith };
-      last = record { length = omega arith; within = omega arith };
-    }
-
-pub fresh-lengths : (hertz : ℕ) (s : Settings) → Lengths (freshTuner hertz s)
-unfolding freshTuner freshHeard noLast
-fresh-lengths hertz s =
-    record {
-      store = length-replicate 1764 (pos 0);
-      eighths = length-replicate 224 (pos 0);
-      energies = length-replicate {A = ℕ} 109 0;
-      correlations = length-replicate 109 (pos 0);
-      out = length-replicate 512 (pos 0);
-    }
-
--- ---- a good tuner holds a take in its ranges
-
-pub good-force : {t : Tuner} → Good t → ForceIn (forceOf t)
-good-force g = record { settings = g .settings; key = g .keyboard .key; hertz = g .hertz }
-
-pub good-sane : {t : Tuner} → Good t → Sane (takeOf t)
-unfolding takeOf
-good-sane g = record { pitch = g .pitch .pitch; bounds = behind-in-bounds (record { is = refl; near = g .head .behind }) }
-
--- ---- a block leaves a good tuner
-
-pub keeping-length : (kept new : List ℤ) → length (keeping kept new) ≡ length kept
-keeping-length kept new = omega (arith, length-drop (length new) (kept ++ new), length-append kept new)
-
--- what was silent before the take has moved on by what came
-keeping-silent : (kept new : List ℤ) (i : ℕ) → i + length new < length kept → valueAt kept (length new + i) ≡ pos 0 → valueAt (keeping kept new) i ≡ pos 0
-keeping-silent kept new i h e =
-    getD-drop (length new) (kept ++ new) i (pos 0) ∙ List·getD-append kept new (pos 0) (length new + i) (omega arith) ∙ e
-
-pub good-after : (t : Tuner) (k : ℕ) (xs : List ℤ) → Good t → Lengths t → length xs ≤ 512 → t .heard .count + length xs ≤ 1000000000 → Good (afterBlock t k xs)
-unfolding afterBlock heardAfter
-good-after t k xs g l most upto =
-    let h = t .heard in
-    let new8 = made (h .count) (soundOf (h .store)) xs in
-    let made8 = made-length (h .count) (soundOf (h .store)) xs in
-    let sane = after-sane (good-force g) (good-sane g) xs in
-    record {
-      settings = g .settings;
-      hertz = g .hertz;
-      keyboard = g .keyboard;
-      heard =
-          record {
-            count = upto;
-            before = λ i e. keeping-silent (h .store) xs i (omega (arith, l .store)) (g .heard .before (length xs + i) (omega arith));
-            eighthsBefore = λ i e. keeping-silent (h .eighths) new8 i (omega (arith, l .eighths)) (g .heard .eighthsBefore (length new8 + i) (omega arith));
-            sums = listed-right (soundOf (keeping (h .eighths) new8)) 2 109;
-          };
-      pitch = kept-right _ _ (sane .pitch);
-      head = record { behind = in-bounds-behind (sane .bounds) .near };
-      last = record { length = most; within = omega arith };
-    }
-
-pub after-lengths : (t : Tuner) (k : ℕ) (xs : List ℤ) → Lengths t → length xs ≤ 512 → Lengths (afterBlock t k xs)
-unfolding afterBlock heardAfter tunerBy
-after-lengths t k xs l most =
-    let h = t .heard in
-    record {
-      store = keeping-length (h .store) xs ∙ l .store;
-      eighths = keeping-length (h .eighths) (made (h .count) (soundOf (h .store)) xs) ∙ l .eighths;
-      energies = length-listOf _ 109;
-      correlations = length-listOf _ 109;
-      out = out-length 0 t k xs most (l .out);
-    }
-
 -- ---- every call keeps a good tuner good
-
-module _ {t : Tuner} (g : Good t) (l : Lengths t) where
-  pub took-good : {k : ℕ} {xs ys ys′ : List ℤ} {t′ : Tuner} {a : Answer} → Took t k xs ys t′ a ys′ → Good t′ × Lengths t′
-  unfolding tunerBy
-  took-good {k} {xs} {ys} p =
-      rw (p .tuner)
-      (cond-case (eqb (p .number) 0) (afterBlock t k xs) t (λ (u : Tuner). Good u × Lengths u)
-      (λ e. let v = subst (Verdict t k xs (length ys)) (eqb-true (p .number) 0 e) (p .verdict) in
-      let f = verdict-fits v (omega arith) in (good-after t k xs g l (f .most) (verdict-zero v), after-lengths t k xs l (f .most)))
-      (λ e. (g, l)))
-
-  -- other settings and another keyboard
-  good-with : {s : Settings} {k : Keyboard} → InRange s → KeyboardIn k → Good (record { settings = s; hertz = t .hertz; keyboard = k; heard = t .heard; pitch = t .pitch; head = t .head; last = t .last })
-  good-with r i = record { settings = r; hertz = g .hertz; keyboard = i; heard = g .heard; pitch = g .pitch; head = g .head; last = g .last }
-
-  lengths-with : {s : Settings} {k : Keyboard} → Lengths (record { settings = s; hertz = t .hertz; keyboard = k; heard = t .heard; pitch = t .pitch; head = t .head; last = t .last })
-  lengths-with = record { store = l .store; eighths = l .eighths; energies = l .energies; correlations = l .correlations; out = l .out }
-
-  pub changed-good : {s : Settings} {t′ : Tuner} {a : Answer} → Changed t s t′ a → Good t′ × Lengths t′
-  changed-good {s} p = rw (p .tuner) (go (p .verdict))
-    where
-      go : {v : ℕ} → ChangeVerdict t s v → Good (cond (eqb v 0) (withSettings t s) t) × Lengths (cond (eqb v 0) (withSettings t s) t)
-      go (record-out-of-range n) = (g, l)
-      go (by-settings h) =
-          cond-case (inRange s) (withSettings t s) t (λ (u : Tuner). Good u × Lengths u)
-          (λ e. (good-with (eqb-true _ 0 e) (onChannel-in _ _ _ (g .keyboard)), lengths-with))
-          (λ e. (g, l))
-
-  pub keyed-good : {bytes : List ℕ} {t′ : Tuner} {a : Answer} → Keyed t bytes t′ a → Good t′ × Lengths t′
-  keyed-good {bytes} p =
-      rw (p .tuner)
-      (cond-case (eqb (p .number) 0) (withBytes t bytes) t (λ (u : Tuner). Good u × Lengths u)
-      (λ e. (good-with (g .settings) (played-in _ _ bytes (g .keyboard)), lengths-with))
-      (λ e. (g, l)))
-
-  pub reset-good : {t′ : Tuner} {a : Answer} → Reset t t′ a → Good t′ × Lengths t′
-  reset-good p =
-      rw (p .tuner)
-      (cond-case (eqb (p .number) 0) (freshTuner (t .hertz) (t .settings)) t (λ (u : Tuner). Good u × Lengths u)
-      (λ e. (good-fresh (t .settings) (g .hertz) (g .settings), fresh-lengths (t .hertz) (t .settings)))
-      (λ e. (g, l)))
-
--- what a start takes
-unrefused-good : (hertz : ℕ) (s : Settings) → startNumber hertz s ≡ 0 → Good (freshTuner hertz s) × Lengths (freshTuner hertz s)
-unrefused-good hertz s e = let r = unrefused-start s e in (good-fresh s (r .0) (r .1), fresh-lengths hertz s)
-
-pub default-good : Good defaultTuner × Lengths defaultTuner
-default-good = unrefused-good cdRate defaults default-start
-
-pub started-good : {hertz : ℕ} {s : Settings} {t′ : Tuner} {a : Answer} → Started hertz s t′ a → Good t′ × Lengths t′
-started-good {hertz} {s} p =
-    rw (p .tuner)
-    (cond-case (eqb (startNumber hertz s) 0) (freshTuner hertz s) defaultTuner (λ (u : Tuner). Good u × Lengths u)
-    (λ e. unrefused-good hertz s (eqb-true _ 0 e))
-    (λ e. default-good))
 
 call-good : {t t′ : Tuner} {c : Call} → Good t → Lengths t → Leaves t c t′ → Good t′ × Lengths t′
 call-good g l (by-start p) = started-good p
@@ -219,26 +41,6 @@ call-good g l (by-block p) = took-good g l p
 call-good g l (by-midi p) = keyed-good g l p
 call-good g l (by-reset p) = reset-good g l p
 call-good g l (by-meter p) = (g, l)
-
--- ---- the answer's number is the verdict's
-
-number-by : (v : ℕ) (t : Tuner) (k : ℕ) (xs : List ℤ) → answerBy v t k xs .number ≡ v
-unfolding answerBy
-number-by zero t k xs = refl
-number-by (suc zero) t k xs = refl
-number-by (suc (suc v)) t k xs = refl
-
-module _ {t t′ : Tuner} {k : ℕ} {xs ys ys′ : List ℤ} {a : Answer} (p : Took t k xs ys t′ a ys′) where
-  pub took-number : p .number ≡ a .number
-  took-number = sym (ap (λ (b : Answer). b .number) (p .answer) ∙ number-by (p .number) t k xs)
-
-  -- 0 and 1 answer and write what the tuner then keeps
-  pub took-keeps : a .number ≤ 1 → (a ≡ counted (p .number) t′ xs) × (ys′ ≡ overlaid t′ xs ys)
-  took-keeps h =
-      let given = by-given t k xs ys (p .number) (omega (arith, took-number)) in (
-        p .answer ∙ given .0 ∙ ap (λ (u : Tuner). counted (p .number) u xs) (sym (p .tuner)),
-        p .out ∙ given .1 ∙ ap (λ (u : Tuner). overlaid u xs ys) (sym (p .tuner)),
-      )
 
 plain-number : {v : ℕ} {a : Answer} → a ≡ plain v → v ≡ a .number
 plain-number e = sym (ap (λ (b : Answer). b .number) e)
@@ -274,15 +76,6 @@ good-never-nine {t} g =
     meter-refused (read h x shown) e = refused-inexact (subst (Exact (t .hertz) (t .pitch)) e shown)
 
 -- ---- a refusal changes nothing
-
-module _ {t t′ : Tuner} {k : ℕ} {xs ys ys′ : List ℤ} {a : Answer} (p : Took t k xs ys t′ a ys′) where
-  -- a block that is not taken, given again or refused, leaves the tuner as it was
-  pub untaken-unchanged : 0 < a .number → t′ ≡ t
-  untaken-unchanged h = p .tuner ∙ tuner-kept t k xs (λ z. omega (arith, took-number p))
-
-  -- one that is refused leaves the output too
-  pub refused-unchanged : 1 < a .number → (t′ ≡ t) × (ys′ ≡ ys)
-  refused-unchanged h = (untaken-unchanged (omega arith), p .out ∙ by-refused t k xs ys (p .number) (omega (arith, took-number p)) .1)
 
 kept-unless-zero : {v : ℕ} (u : Tuner) {t t′ : Tuner} {a : Answer} → t′ ≡ cond (eqb v 0) u t → a ≡ plain v → 0 < a .number → t′ ≡ t
 kept-unless-zero {v} u {t} e f h = e ∙ cond-no u t (ne-eqb v 0 (λ z. omega (arith, plain-number f)))
@@ -332,10 +125,6 @@ meanwhile-same (and-meanwhile m (by-block p) n) = same-last-kept (meanwhile-same
 meanwhile-same (and-meanwhile m (by-midi p) n) = same-last-keyed (meanwhile-same m) p
 meanwhile-same (and-meanwhile m (by-reset p) n) = same-last-kept (meanwhile-same m) (refused-reset-unchanged p n)
 meanwhile-same (and-meanwhile m (by-meter p) n) = meanwhile-same m
-
--- what is written first is what is read first
-pub overlaid-starts : (u : Tuner) (xs ys : List ℤ) → length xs ≤ length (u .last .out) → take (length xs) (overlaid u xs ys) ≡ take (length xs) (u .last .out)
-overlaid-starts u xs ys h = take-at (take (length xs) (u .last .out)) (drop (length xs) ys) (length xs) (length-take-le (length xs) (u .last .out) h)
 
 -- block k of the samples xs is taken, and sent again to a tuner with the same last block
 module _ {t u : Tuner} {k : ℕ} {xs ys zs : List ℤ} {a : Answer} (g : Good t) (l : Lengths t) (p : Took t k xs ys u a zs) (first : a .number ≡ 0) where

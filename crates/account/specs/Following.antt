@@ -24,9 +24,9 @@ use Rattle.record.specs.declared.Last.{Last}
 use Rattle.record.specs.Records.{soundOf, freshHeard, freshPitch, freshHead, noLast}
 use Rattle.tuner.specs.declared.Tuner.{Tuner}
 use Rattle.tuner.specs.Tuners.{freshTuner, takeOf, made, heardAfter, lastOf, afterBlock, withSettings, withBytes}
-use Rattle.tuner.specs.Taking.{sound-at, kept-age, right-alike, after-eighths}
+use Rattle.tuner.specs.Taking.{keeping-length, sound-at, kept-age, right-alike, after-eighths}
 use Rattle.account.specs.Cutting.{newest, tunerAfter}
-use Rattle.account.specs.Calls.{silent-right, keeping-length}
+use Rattle.staying.specs.Staying.{silent-right}
 
 -- ---- the newest samples of a sound
 

@@ -32,7 +32,8 @@ use Rattle.tuner.specs.declared.Tuner.{Tuner}
 use Rattle.tuner.specs.Tuners.{freshTuner, defaultTuner, takeOf, Good, made, lastOf, afterBlock, Took, Started, withSettings, Changed, withBytes, Keyed, Reset, Metered, record-out-of-range, read}
 use Rattle.tuner.specs.Taking.{eighths-next}
 use Rattle.tuner.specs.Verdicts.{tuner-taken, verdict-fits}
-use Rattle.account.specs.Calls.{Lengths, good-fresh, fresh-lengths, good-sane, took-good, changed-good, keyed-good, took-number, took-keeps, untaken-unchanged, overlaid-starts, again-after, good-never-nine}
+use Rattle.staying.specs.Staying.{Lengths, good-fresh, fresh-lengths, good-sane, took-good, changed-good, keyed-good, took-number, took-keeps, untaken-unchanged, overlaid-starts}
+use Rattle.account.specs.Calls.{again-after, good-never-nine}
 use Rattle.account.specs.Account.{Call, Leaves, by-start, by-change, by-block, by-midi, by-reset, by-meter, Series, fresh-start, and-then, Received, begun, courseOf, withEvents, withBlock, ifTaken, plus, received, givenOf, heardOf, eighthsOf, Accounted, Theorem, SentAgain, NeverNine}
 use Rattle.account.specs.Cutting.{tunerAfter, TunerTheorem, SameTake, Alike, CuttingTheorem, AllTaken, fresh-tuner, then-block, then-change, then-bytes, FreshTheorem}
 use Rattle.account.specs.Following.{course-agree, fresh-after, block-after, change-after, bytes-after}
@@ -275,6 +276,10 @@ module _ {r : Received} {t : Tuner} (k : Keeps r t) where
 
 pub holds : Theorem
 holds cs t h = kept-accounted (series-keeps h)
+
+-- the arrays of such a tuner are as long as they were
+pub series-lengths : {cs : List Call} {t : Tuner} → Series cs t → Lengths t
+series-lengths h = series-keeps h .lengths
 
 pub again-holds : SentAgain
 again-holds cs t u w w′ k xs ys zs ys₂ zs₂ a b h p z m room q = let kept = series-keeps h in again-after (kept .good) (kept .lengths) p z m room q

@@ -3,6 +3,7 @@ pub mod Cutting
 pub mod Calls
 pub mod Following
 pub mod Holds
+pub mod Nightly
 pub mod Hosted
 pub mod Wrong
 pub mod WrongCuts

@@ -17,7 +17,7 @@ use Rattle.record.specs.Records.{freshHeard, freshPitch, freshHead, noLast}
 use Rattle.tuner.specs.Tuners.{freshTuner, defaultTuner, Good, takeOf, heardAfter, nextNumber, Verdict, taken, afterBlock, Took}
 use Rattle.tuner.specs.Verdicts.{verdict-one, counted, tuner-taken}
 use Rattle.account.specs.Account.{block, Series, fresh-start, and-then, by-block, plus, received}
-use Rattle.account.specs.Calls.{default-good, still-silent, silent-right, took-good, took-number, took-keeps}
+use Rattle.staying.specs.Staying.{default-good, still-silent, silent-right, took-good, took-number, took-keeps}
 use Rattle.account.specs.Holds.{holds}
 
 -- ---- programs

@@ -11,6 +11,8 @@ use Rattle.meters.specs.declared.Meter.{Meter}
 use Rattle.meters.specs.declared.Meter.the-variants.{Searching, Locking, Pitched, Refused}
 use Rattle.tuner.specs.declared.Tuner.{Tuner}
 use Rattle.tuner.specs.Tuners.{Took, Started, Changed, Reset, Keyed, Metered}
+use Rattle.nights.specs.declared.NightAnswer.{NightAnswer}
+use Rattle.nights.specs.Nights.{refusedNight, Nighted}
 use Rattle.host.specs.declared.Record.{Record}
 use Rattle.host.specs.declared.Shown.{Shown}
 
@@ -46,6 +48,11 @@ HostReset r r′ n = Lent Reset Unit r r′ (plain n)
 -- keyboard bytes, answered n
 abbrev pub HostKeyed : Record → List ℕ → Record → ℕ → Type 0
 HostKeyed r bytes r′ n = Lent (λ t t′ a. Keyed t bytes t′ a) Unit r r′ (plain n)
+
+-- a night's blocks in one call
+pub data HostNighted (r : Record) (k size : ℕ) (xs ys : List ℤ) (r′ : Record) (a : NightAnswer) (ys′ : List ℤ) : Type 0 where
+  held : r .layout ≡ layoutNumber → {t′ : Tuner} → Nighted (r .tuner) k size xs ys t′ a ys′ → r′ ≡ recordOf t′ → HostNighted r k size xs ys r′ a ys′
+  unheld : (r .layout ≡ layoutNumber → ⊥) → a ≡ refusedNight 9 → r′ ≡ r → ys′ ≡ ys → HostNighted r k size xs ys r′ a ys′
 
 -- a start, answered n, whatever the record held
 pub record HostStarted (hertz : ℕ) (s : Settings) (r′ : Record) (n : ℕ) : Type 0 where

@@ -15,9 +15,11 @@ use Rattle.tuner.specs.declared.Tuner.{Tuner}
 use Rattle.tuner.specs.Tuners.{defaultTuner, answerBy, Took, Started}
 use Rattle.tuner.specs.Starts.{one-meter, one-start, default-start-taken}
 use Rattle.tuner.specs.Verdicts.{tuner-kept, by-refused, took-one, changed-one, reset-one, keyed-one}
+use Rattle.nights.specs.declared.NightAnswer.{NightAnswer}
+use Rattle.nights.specs.Ones.{nighted-one}
 use Rattle.host.specs.declared.Record.{Record}
 use Rattle.host.specs.declared.Shown.{Shown}
-use Rattle.host.specs.Hosts.{layoutNumber, recordOf, Lent, held, unheld, HostTook, HostChanged, HostReset, HostKeyed, HostStarted, shownAs, HostMetered}
+use Rattle.host.specs.Hosts.{layoutNumber, recordOf, Lent, held, unheld, HostTook, HostChanged, HostReset, HostKeyed, HostNighted, HostStarted, shownAs, HostMetered}
 
 -- ---- a promise of the tuner's call, met over the record
 
@@ -84,6 +86,12 @@ host-metered-one (held h p e) (held h′ p′ e′) = e ∙ ap shownAs (one-mete
 host-metered-one (held h p e) (unheld h′ e′) = absurd (h′ h)
 host-metered-one (unheld h e) (held h′ p′ e′) = absurd (h h′)
 host-metered-one (unheld h e) (unheld h′ e′) = e ∙ sym e′
+
+pub host-nighted-one : {r r₁ r₂ : Record} {k size : ℕ} {xs ys zs₁ zs₂ : List ℤ} {a₁ a₂ : NightAnswer} → HostNighted r k size xs ys r₁ a₁ zs₁ → HostNighted r k size xs ys r₂ a₂ zs₂ → (r₁ ≡ r₂) × (a₁ ≡ a₂) × (zs₁ ≡ zs₂)
+host-nighted-one (held h p e) (held h′ p′ e′) = let (t, a, s) = nighted-one p p′ in (e ∙ ap recordOf t ∙ sym e′, a, s)
+host-nighted-one (held h p e) (unheld h′ a e′ u) = absurd (h′ h)
+host-nighted-one (unheld h a e u) (held h′ p′ e′) = absurd (h h′)
+host-nighted-one (unheld h a e u) (unheld h′ a′ e′ u′) = (e ∙ sym e′, a ∙ sym a′, u ∙ sym u′)
 
 -- ---- a refusal changes nothing
 

@@ -2,6 +2,7 @@
 use answers::Answer;
 use cutting::Stretch;
 use meters::Meter;
+use nights::NightAnswer;
 use rules::Settings;
 use tuner::Taken;
 use tuner::Tuner;
@@ -10,7 +11,7 @@ ghost use Rattle.whole.specs.Tests.{Decides};
 ghost use Rattle.rules.specs.Rules.{defaults, cdRate};
 ghost use Rattle.answers.specs.Numbering.{plain};
 ghost use Rattle.cutting.specs.Cuts.{Cut};
-ghost use Rattle.host.specs.Hosts.{layoutNumber, recordOf, bare, shownAs, HostStarted, HostChanged, HostTook, HostReset, HostKeyed, HostMetered};
+ghost use Rattle.host.specs.Hosts.{layoutNumber, recordOf, bare, shownAs, HostStarted, HostChanged, HostTook, HostReset, HostKeyed, HostNighted, HostMetered};
 
 // The number of this layout of the record: they are counted from 20000, since a record of versions 1 and 2 of the calls began with the scale, at most
 // 4095, and so is never taken for one of this layout.
@@ -38,6 +39,12 @@ pub struct Shown {
 pub struct Done {
     pub left: Record,
     pub answer: Answer,
+}
+
+// The record that a night leaves, and its answer.
+pub struct NightDone {
+    pub left: Record,
+    pub answer: NightAnswer,
 }
 
 // A record of this layout holds a tuner.
@@ -100,6 +107,27 @@ fn taken(r: Record, number: u16, samples: &[i16], out: &mut [i16]) -> Done
         return unheld(r);
     }
     finished(Tuner::block(r.tuner, number, samples, out))
+}
+
+fn nighted(r: Record, number: u16, size: usize, samples: &[i16], out: &mut [i16]) -> NightDone
+    ensures { λ d. ⌜ HostNighted r number size (now (samples .entry)) (now (out .entry)) (d .left) (d .answer) (now (out .exit)) ⌝ }
+{
+    if !holds(r.layout) {
+        return NightDone {
+            left: r,
+            answer: nights::refused_night(9),
+        };
+    }
+    let d = nights::night(r.tuner, number, size, samples, out);
+    let tuner = d.tuner;
+    let answer = d.answer;
+    NightDone {
+        left: Record {
+            layout: LAYOUT,
+            tuner: tuner,
+        },
+        answer: answer,
+    }
 }
 
 fn keyed(r: Record, bytes: &[u8]) -> Done
@@ -169,9 +197,9 @@ fn metered(r: Record) -> Shown
 // The version of these calls.
 #[no_mangle]
 pub extern "C" fn daxfolin_version() -> u32
-    ensures { λ r. ⌜ r ≡ 8 ⌝ }
+    ensures { λ r. ⌜ r ≡ 9 ⌝ }
 {
-    8
+    9
 }
 
 // Where the k-th stretch of 512 samples of a recording of so many lies: the last may be shorter, and past the end there is nothing.
@@ -224,6 +252,22 @@ pub extern "C" fn daxfolin_block(
     ensures { λ r. ⌜ HostTook (now (lent .entry)) number (now (samples .entry)) (now (out .entry)) (now (lent .exit)) r (now (out .exit)) ⌝ }
 {
     let d = taken(*lent, number, samples, out);
+    *lent = d.left;
+    d.answer
+}
+
+// A recording's blocks of so many samples, from a block number on, as by the single calls one by one; it stops at the first that is refused.
+#[no_mangle]
+pub extern "C" fn daxfolin_night(
+    lent: &mut Record,
+    number: u16,
+    size: usize,
+    samples: &[i16],
+    out: &mut [i16],
+) -> NightAnswer
+    ensures { λ r. ⌜ HostNighted (now (lent .entry)) number size (now (samples .entry)) (now (out .entry)) (now (lent .exit)) r (now (out .exit)) ⌝ }
+{
+    let d = nighted(*lent, number, size, samples, out);
     *lent = d.left;
     d.answer
 }

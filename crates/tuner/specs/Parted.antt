@@ -11,9 +11,10 @@ use Rattle.answers.specs.declared.Answer.{Answer}
 use Rattle.record.specs.declared.Heard.{Heard}
 use Rattle.record.specs.declared.Head.{Head}
 use Rattle.record.specs.declared.Last.{Last}
+use Rattle.record.specs.Parts.{heardOf}
 use Rattle.tuner.specs.declared.LastNumbers.{LastNumbers}
 use Rattle.tuner.specs.declared.Tuner.{Tuner}
-use Rattle.tuner.specs.Tuners.{takeOf, afterBlock}
+use Rattle.tuner.specs.Tuners.{takeOf, afterBlock, Good, Verdict}
 
 -- the last block with these numbers and this output
 abbrev pub lastWith : LastNumbers → List ℤ → Last
@@ -26,6 +27,12 @@ tunerOf settings hertz keyboard heard pitch head last = record { settings = sett
 -- the answer to the samples xs, with the counts of a last block
 abbrev pub given : ℕ → List ℤ → LastNumbers → Answer
 given number xs n = record { number = number; written = length xs; repeated = n .repeated; dropped = n .dropped }
+
+-- the number of the answer to a block, whatever the other parts of a good tuner are
+abbrev pub Judged : ℕ → LastNumbers → (store : List ℤ) → (number : ℕ) (xs : List ℤ) (room : ℕ) → ℕ → Type 0
+Judged count last store number xs room v =
+    (settings : Settings) (hertz : ℕ) (keyboard : Keyboard) (energies : List ℕ) (correlations eighths kept : List ℤ) (pitch : KeptPitch) (head : Head)
+    → let t = tunerOf settings hertz keyboard (heardOf count energies correlations store eighths) pitch head (lastWith last kept) in Good t → Verdict t number xs room v
 
 -- what a block that is taken leaves is made of the other parts alone
 pub last-unread : (settings : Settings) (hertz : ℕ) (keyboard : Keyboard) (heard : Heard) (pitch : KeptPitch) (head : Head) (last last′ : Last) (number : ℕ) (xs : List ℤ)

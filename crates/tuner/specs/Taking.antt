@@ -1,24 +1,42 @@
 -- Sounds of kept samples and the sums over them; the eighth-rate samples of a block.
-use mathlib.Core.Path.{_≡_, refl, sym, ap, _∙_}
+use mathlib.Core.Path.{_≡_, refl, sym, ap, _∙_, subst}
 use mathlib.Core.Bool.{Bool, true, false, cond}
-use mathlib.Core.List.{List, [], _∷_}
+use mathlib.Core.List.{List, [], _∷_, _++_}
 use Prim.Native.Nat.{ℕ, suc, _+_, _-_, _*_, _/_, _%_, _≤_, _<_}
 use mathlib.Core.Logic.{_≢_}
 use native.Mathlib.Omega.{arith}
-use borrow.Author.Tests.{eqb-true, eqb-false}
-use lib.Dec.{eqb}
+use borrow.Author.Tests.{eqb-true, eqb-false, leb-true, leb-false}
+use lib.Dec.{leb, eqb}
 use lib.IntN.{ℤ, pos}
-use lib.ListN.{length, drop, length-drop}
-use lib.Seq.{ext-getD, getD-drop}
-use Rattle.whole.specs.Tests.{cond-case}
+use lib.ListN.{length, take, drop, length-take, length-drop, length-append, List·getD-eq-default}
+use lib.Seq.{ext-getD, getD-take, getD-drop}
+use mir.Syntax.{w16}
+use mir.Val.{SFits}
+use Rattle.whole.specs.Tests.{by, cond-case}
 use Rattle.rules.specs.declared.InForce.{InForce}
 use Rattle.rules.specs.Rules.{Sound, heard, heardAll, eighthDue, eighthSample, eighthsAfter, Take, after, stepped}
 use Rattle.rules.specs.Energies.{E-same, H-same}
-use Rattle.ages.specs.Ages.{ago-at}
-use Rattle.rules.specs.Facts.{valueAt, Right}
+use Rattle.ages.specs.Ages.{ago-at, Samples}
+use Rattle.rules.specs.Facts.{valueAt, Right, keeping}
 use Rattle.record.specs.Records.{soundOf}
 use Rattle.record.specs.Parts.{ago-all}
 use Rattle.tuner.specs.Tuners.{made}
+
+-- ---- a part of a store
+
+-- its samples fit where all do
+pub samples-part : (n k : ℕ) {s r : List ℤ} → Samples s → r ≡ take n (drop k s) → Samples r
+samples-part n k {s} p e = subst Samples (sym e) (record { each = fits })
+  where
+    fits : (i : ℕ) → SFits w16 (valueAt (take n (drop k s)) i)
+    fits i =
+        by (leb n i)
+        (λ e. rw (List·getD-eq-default (take n (drop k s)) (pos 0) {n = i} (omega (arith, length-take n (drop k s), leb-true n i e))) (record { sfits = omega arith }))
+        (λ e. rw (getD-take n (drop k s) i (pos 0) (omega (arith, leb-false n i e)), getD-drop k s i (pos 0)) (p .each (k + i)))
+
+-- the newest of a store and of what came are as many as it had
+pub keeping-length : (kept new : List ℤ) → length (keeping kept new) ≡ length kept
+keeping-length kept new = omega (arith, length-drop (length new) (kept ++ new), length-append kept new)
 
 -- ---- a sound and its list
 pub sound-at : (l : List ℤ) (i : ℕ) → i < length l → soundOf l i ≡ valueAt l (length l - 1 - i)

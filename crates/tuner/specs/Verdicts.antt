@@ -26,11 +26,11 @@ module _ {t : Tuner} {k : ℕ} {xs : List ℤ} {room : ℕ} where
   by-number f (new l n c) = taken f l n c
 
 -- ---- no second number: each is the end of one path through the same tests
-data Step (P no yes : Type 0) : Type 0 where
+pub data Step (P no yes : Type 0) : Type 0 where
   isn't : (P → ⊥) → no → Step P no yes
   is : P → yes → Step P no yes
 
-step-one : {P A B A′ B′ C : Type 0} → Step P A B → Step P A′ B′ → (A → A′ → C) → (B → B′ → C) → C
+pub step-one : {P A B A′ B′ C : Type 0} → Step P A B → Step P A′ B′ → (A → A′ → C) → (B → B′ → C) → C
 step-one (isn't n a) (isn't m b) f g = f a b
 step-one (isn't n a) (is p b) f g = absurd (n p)
 step-one (is p a) (isn't n b) f g = absurd (n p)

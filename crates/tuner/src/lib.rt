@@ -24,12 +24,12 @@ ghost use Prim.Native.Nat.{_+_, _≤_, _<_};
 ghost use lib.IntN.{ℤ};
 ghost use lib.ListN.{length};
 ghost use Rattle.whole.specs.Tests.{Decides};
-ghost use Rattle.rules.specs.Rules.{defaults, cdRate, takeLimit, longestBlock};
+ghost use Rattle.rules.specs.Rules.{defaults, cdRate, takeLimit, longestBlock, keptSamples};
 ghost use Rattle.record.specs.declared.Last.{Last};
 ghost use Rattle.record.specs.Records.{AllRight};
 ghost use Rattle.record.specs.Parts.{heardOf, Stores};
-ghost use Rattle.tuner.specs.Parted.{tunerOf, lastWith, given};
-ghost use Rattle.tuner.specs.Tuners.{Good, freshTuner, afterBlock, Verdict, Took, Started, Changed, Reset, Keyed, Metered};
+ghost use Rattle.tuner.specs.Parted.{tunerOf, lastWith, given, Judged};
+ghost use Rattle.tuner.specs.Tuners.{Good, freshTuner, afterBlock, Took, Started, Changed, Reset, Keyed, Metered};
 
 // The record, in its parts.
 #[repr(C)]
@@ -66,7 +66,7 @@ pub struct Left {
 }
 
 // A record is good.
-fn good(t: Tuner) -> bool
+pub fn good(t: Tuner) -> bool
     ensures { λ r. ⌜ Decides r (Good t) ⌝ }
 {
     let settings = t.settings;
@@ -131,41 +131,18 @@ pub fn start_default() -> Taken
     start(CD_RATE, record::default_settings())
 }
 
-// The number of the answer to a block, with so much room for the output, by the parts of a record.
+// The number of the answer to a block, with so much room for the output, by the parts of a good record that it is judged by.
 fn judge_parts(
-    settings: Settings,
-    hertz: u64,
-    keys: Keyboard,
     count: u64,
-    energies: &[u64; EIGHTH_LAGS],
-    correlations: &[i64; EIGHTH_LAGS],
-    store: &[i16; KEPT_SAMPLES],
-    eighths: &[i16; KEPT_EIGHTHS],
-    v: Pitch,
-    head: Head,
     last: LastNumbers,
+    store: &[i16; KEPT_SAMPLES],
     number: u16,
     samples: &[i16],
     room: usize,
 ) -> u32
-    requires { ⌜ Stores (heardOf count (now energies) (now correlations) (now store) (now eighths)) ⌝ }
-    ensures { λ r. ⌜ ((kept : List ℤ) → Verdict (tunerOf settings hertz keys (heardOf count (now (energies .entry)) (now (correlations .entry)) (now (store .entry)) (now (eighths .entry))) v head (lastWith last kept)) number (now (samples .entry)) room r) ⌝ }
+    requires { ⌜ (length (now store) ≡ keptSamples) × (count ≤ takeLimit) × (last .length ≤ longestBlock) ⌝ }
+    ensures { λ r. ⌜ Judged count last (now (store .entry)) number (now (samples .entry)) room r ⌝ }
 {
-    if !record::all_right(
-        settings,
-        hertz,
-        keys,
-        count,
-        energies,
-        correlations,
-        store,
-        eighths,
-        v,
-        head,
-        last.length,
-    ) {
-        return 9;
-    }
     let n = samples.len();
     if n == 0 {
         return 2;
@@ -196,7 +173,7 @@ fn take_parts(
     samples: &[i16],
 ) -> Left
     requires { ⌜ ((l : Last) × AllRight settings hertz keys (heardOf count (now energies) (now correlations) (now store) (now eighths)) v head l) × Stores (heardOf count (now energies) (now correlations) (now store) (now eighths)) × (length (now kept) ≡ longestBlock) × (0 < length (now samples)) × (length (now samples) ≤ longestBlock) × (count + length (now samples) ≤ takeLimit) ⌝ }
-    ensures { λ r. ⌜ ((l : Last) → tunerOf settings hertz keys (heardOf (r .count) (now (energies .exit)) (now (correlations .exit)) (now (store .exit)) (now (eighths .exit))) (r .pitch) (r .head) (lastWith (r .last) (now (kept .exit))) ≡ afterBlock (tunerOf settings hertz keys (heardOf count (now (energies .entry)) (now (correlations .entry)) (now (store .entry)) (now (eighths .entry))) v head l) number (now (samples .entry))) × (r .answer ≡ given 0 (now (samples .entry)) (r .last)) ⌝ }
+    ensures { λ r. ⌜ ((l : Last) → tunerOf settings hertz keys (heardOf (r .count) (now (energies .exit)) (now (correlations .exit)) (now (store .exit)) (now (eighths .exit))) (r .pitch) (r .head) (lastWith (r .last) (now (kept .exit))) ≡ afterBlock (tunerOf settings hertz keys (heardOf count (now (energies .entry)) (now (correlations .entry)) (now (store .entry)) (now (eighths .entry))) v head l) number (now (samples .entry))) × (r .answer ≡ given 0 (now (samples .entry)) (r .last)) × Stores (heardOf (r .count) (now (energies .exit)) (now (correlations .exit)) (now (store .exit)) (now (eighths .exit))) ⌝ }
 {
     let rate = hertz as u32;
     let f = InForce {
@@ -265,8 +242,8 @@ fn take_parts(
     }
 }
 
-// A block over the parts of a record: taken, given again or refused.
-fn block_parts(
+// A block over the parts of a record that is known to be good: taken, given again or refused.
+pub fn block_to_good(
     settings: Settings,
     hertz: u64,
     keys: Keyboard,
@@ -283,25 +260,10 @@ fn block_parts(
     samples: &[i16],
     out: &mut [i16],
 ) -> Left
-    requires { ⌜ Stores (heardOf count (now energies) (now correlations) (now store) (now eighths)) × (length (now kept) ≡ longestBlock) ⌝ }
-    ensures { λ r. ⌜ Took (tunerOf settings hertz keys (heardOf count (now (energies .entry)) (now (correlations .entry)) (now (store .entry)) (now (eighths .entry))) v head (lastWith last (now (kept .entry)))) number (now (samples .entry)) (now (out .entry)) (tunerOf settings hertz keys (heardOf (r .count) (now (energies .exit)) (now (correlations .exit)) (now (store .exit)) (now (eighths .exit))) (r .pitch) (r .head) (lastWith (r .last) (now (kept .exit)))) (r .answer) (now (out .exit)) ⌝ }
+    requires { ⌜ AllRight settings hertz keys (heardOf count (now energies) (now correlations) (now store) (now eighths)) v head (lastWith last (now kept)) × Stores (heardOf count (now energies) (now correlations) (now store) (now eighths)) × (length (now kept) ≡ longestBlock) ⌝ }
+    ensures { λ r. ⌜ Took (tunerOf settings hertz keys (heardOf count (now (energies .entry)) (now (correlations .entry)) (now (store .entry)) (now (eighths .entry))) v head (lastWith last (now (kept .entry)))) number (now (samples .entry)) (now (out .entry)) (tunerOf settings hertz keys (heardOf (r .count) (now (energies .exit)) (now (correlations .exit)) (now (store .exit)) (now (eighths .exit))) (r .pitch) (r .head) (lastWith (r .last) (now (kept .exit)))) (r .answer) (now (out .exit)) × Stores (heardOf (r .count) (now (energies .exit)) (now (correlations .exit)) (now (store .exit)) (now (eighths .exit))) ⌝ }
 {
-    let verdict = judge_parts(
-        settings,
-        hertz,
-        keys,
-        count,
-        energies,
-        correlations,
-        store,
-        eighths,
-        v,
-        head,
-        last,
-        number,
-        samples,
-        out.len(),
-    );
+    let verdict = judge_parts(count, last, store, number, samples, out.len());
     if verdict > 1 {
         return Left {
             answer: answers::plain(verdict),
@@ -364,6 +326,67 @@ fn block_parts(
     };
     copying::give(kept, out, n);
     left
+}
+
+// A block over the parts of a record: taken, given again or refused.
+fn block_parts(
+    settings: Settings,
+    hertz: u64,
+    keys: Keyboard,
+    count: u64,
+    energies: &mut [u64; EIGHTH_LAGS],
+    correlations: &mut [i64; EIGHTH_LAGS],
+    store: &mut [i16; KEPT_SAMPLES],
+    eighths: &mut [i16; KEPT_EIGHTHS],
+    v: Pitch,
+    head: Head,
+    last: LastNumbers,
+    kept: &mut [i16; LONGEST_BLOCK],
+    number: u16,
+    samples: &[i16],
+    out: &mut [i16],
+) -> Left
+    requires { ⌜ Stores (heardOf count (now energies) (now correlations) (now store) (now eighths)) × (length (now kept) ≡ longestBlock) ⌝ }
+    ensures { λ r. ⌜ Took (tunerOf settings hertz keys (heardOf count (now (energies .entry)) (now (correlations .entry)) (now (store .entry)) (now (eighths .entry))) v head (lastWith last (now (kept .entry)))) number (now (samples .entry)) (now (out .entry)) (tunerOf settings hertz keys (heardOf (r .count) (now (energies .exit)) (now (correlations .exit)) (now (store .exit)) (now (eighths .exit))) (r .pitch) (r .head) (lastWith (r .last) (now (kept .exit)))) (r .answer) (now (out .exit)) ⌝ }
+{
+    if !record::all_right(
+        settings,
+        hertz,
+        keys,
+        count,
+        energies,
+        correlations,
+        store,
+        eighths,
+        v,
+        head,
+        last.length,
+    ) {
+        return Left {
+            answer: answers::plain(9),
+            count: count,
+            pitch: v,
+            head: head,
+            last: last,
+        };
+    }
+    block_to_good(
+        settings,
+        hertz,
+        keys,
+        count,
+        energies,
+        correlations,
+        store,
+        eighths,
+        v,
+        head,
+        last,
+        kept,
+        number,
+        samples,
+        out,
+    )
 }
 
 impl Tuner {

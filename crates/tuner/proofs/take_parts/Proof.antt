@@ -1,7 +1,7 @@
 -- `tuner::take_parts` meets its contract: a good record is where the samples' fold may begin, and what the fold leaves is put together (`after-is`).
 -- Assumes nothing.
 use mathlib.Core.Path.{_≡_, refl, sym, ap, _∙_}
-use Prim.Native.Nat.{ℕ, _≤_}
+use Prim.Native.Nat.{ℕ, _-_, _≤_}
 use native.Mathlib.Omega.{arith}
 use borrow.Author.Needs.{needs}
 use lib.IntN.{pos}
@@ -12,7 +12,8 @@ use Rattle.record.specs.declared.Last.{Last}
 use Rattle.record.specs.Parts.{heardOf}
 use Rattle.tuner.specs.declared.Tuner.{Tuner}
 use Rattle.tuner.specs.Parted.{tunerOf, last-unread}
-use Rattle.tuner.specs.Afters.{begin-long, begin-ready, end-places-few, after-is}
+use Rattle.tuner.specs.Taking.{samples-part}
+use Rattle.tuner.specs.Afters.{begin-long, begin-ready, end-places-few, after-is, after-stores}
 use Rattle.tuner.proofs.take_parts.Statement.{statement}
 use Rattle.tuner.proofs.take_parts.Tie as tie
 
@@ -134,11 +135,15 @@ returns c =
     let o = cleared r in
     let s = start o in
     let a = s .args in
-    let e = r .run .ensures in (
-      λ l. after-is (tuner s) (s .pre .0 .1) (s .pre .1) (joined o .join .ensures) (opened o .front .ensures) (s .pre .4) (e .0 .eighths .long) (e .0) (e .1) (e .2) (a .number)
-          (zeros o) (store .keep .ensures) (eighths .keep2 .ensures) (c .settled .ensures)
-          ∙ last-unread (a .settings) (a .hertz) (a .keys) (tuner s .heard) (a .v) (a .head) (s .pre .0 .0) l (a .number) (a .samples .now),
+    let e = r .run .ensures in
+    let is =
+    after-is (tuner s) (s .pre .0 .1) (s .pre .1) (joined o .join .ensures) (opened o .front .ensures) (s .pre .4) (e .0 .eighths .long) (e .0) (e .1) (e .2) (a .number)
+    (zeros o) (store .keep .ensures) (eighths .keep2 .ensures) (c .settled .ensures) in (
+      λ l. is ∙ last-unread (a .settings) (a .hertz) (a .keys) (tuner s .heard) (a .v) (a .head) (s .pre .0 .0) l (a .number) (a .samples .now),
       refl,
+      after-stores (tuner s) (a .number) (a .samples .now) (s .pre .1) is
+          (samples-part (length (a .store .now)) (length (a .samples .now)) (joined o .join .ensures .samples) (store .keep .ensures))
+          (samples-part (length (a .eighths .now)) (r .run .result .places - 224) (e .0 .eighths .samples) (eighths .keep2 .ensures)),
     )
 
 pub take-parts-spec : {M : Type 1} → statement M

@@ -1,0 +1,3 @@
+pub mod Nights
+pub mod Going
+pub mod Ones
