@@ -103,7 +103,7 @@ module _ {M : Type 1} {𝓤 : URA M} {H : Heap 𝓤} {A : Atoms 𝓤} {K : Type 
 
 module _ {M : Type 1} {𝓤 : URA M} {H : Heap 𝓤} {A : Atoms 𝓤} {X : Type 0} {W : Given 𝓤 H A} {E : Env 𝓤 H} where
   -- a place within the local i
-  within : X → {Γ : List (Item 𝓤)} {i : ℕ} {st : List PStep} {from-here to-there : Spot 𝓤 H} → spotOf 𝓤 H E i ≡ from-here → Reaches X W Γ E from-here st to-there → Finds X W Γ E (place i st) to-there
+  pub within : X → {Γ : List (Item 𝓤)} {i : ℕ} {st : List PStep} {from-here to-there : Spot 𝓤 H} → spotOf 𝓤 H E i ≡ from-here → Reaches X W Γ E from-here st to-there → Finds X W Γ E (place i st) to-there
   within t {Γ} {st = st} {to-there = sp} e f = from t (subst (λ (x : Spot 𝓤 H). Reaches X W Γ E x st sp) (sym e) f)
 
   -- a callee's result w lands in the local d: its record is stored behind the first parameter, whose borrow is closed at it, and its number is the answer

@@ -11,6 +11,7 @@ use Rattle.rules.specs.Rules.{defaults, cdRate}
 use Rattle.rules.specs.declared.Settings.{Settings}
 use Rattle.answers.specs.declared.Answer.{Answer}
 use Rattle.answers.specs.Numbering.{plain}
+use Rattle.record.specs.declared.Last.{Last}
 use Rattle.tuner.specs.declared.Tuner.{Tuner}
 use Rattle.tuner.specs.Tuners.{defaultTuner, answerBy, Took, Started}
 use Rattle.tuner.specs.Starts.{one-meter, one-start, default-start-taken}
@@ -20,6 +21,14 @@ use Rattle.nights.specs.Ones.{nighted-one}
 use Rattle.host.specs.declared.Record.{Record}
 use Rattle.host.specs.declared.Shown.{Shown}
 use Rattle.host.specs.Hosts.{layoutNumber, recordOf, Lent, held, unheld, HostTook, HostChanged, HostReset, HostKeyed, HostNighted, HostStarted, shownAs, HostMetered}
+
+-- the last block of these numbers and this output
+abbrev pub lastOf : ℕ → ℕ → ℕ → ℕ → List ℤ → Last
+lastOf number length repeated dropped out = record { number = number; length = length; repeated = repeated; dropped = dropped; out = out }
+
+-- the record with this number of its layout and this tuner
+abbrev pub recordWith : ℕ → Tuner → Record
+recordWith layout t = record { layout = layout; tuner = t }
 
 -- ---- a promise of the tuner's call, met over the record
 
@@ -33,6 +42,10 @@ module _ {Call : Tuner → Tuner → Answer → Type 0} {untouched : Type 0} {r 
 
   pub unheld-by : {a : Answer} → (r .layout ≡ layoutNumber → ⊥) → a ≡ plain 9 → r′ ≡ r → untouched → Lent Call untouched r r′ (plain (a .number))
   unheld-by h e l u = unheld h (ap (λ (x : Answer). plain (x .number)) e) l u
+
+-- and of parts
+pub held-with : {Call : Tuner → Tuner → Answer → Type 0} {untouched : Type 0} {layout : ℕ} {t t′ : Tuner} {a : Answer} → layout ≡ layoutNumber → Call t t′ a → Lent Call untouched (recordWith layout t) (recordWith layout t′) a
+held-with {t′ = t′} h p = held h p (ap (λ (layout : ℕ). recordWith layout t′) h)
 
 -- a start's
 pub started-by : {hertz : ℕ} {s : Settings} {t : Tuner} {a a′ : Answer} {r′ : Record} → Started hertz s t a → r′ ≡ recordOf t → a′ ≡ a → HostStarted hertz s r′ (a′ .number)

@@ -1,16 +1,29 @@
 // The tuner's calls for hosts in C and Rust: each over a record that the host lends, whatever bytes it holds.
 use answers::Answer;
 use cutting::Stretch;
+use keyboard::Keyboard;
 use meters::Meter;
 use nights::NightAnswer;
+use pitch::Pitch;
+use record::Head;
+use rules::EIGHTH_LAGS;
+use rules::KEPT_EIGHTHS;
+use rules::KEPT_SAMPLES;
+use rules::LONGEST_BLOCK;
 use rules::Settings;
+use tuner::LastNumbers;
+use tuner::Left;
 use tuner::Taken;
 use tuner::Tuner;
 ghost use mathlib.Core.Path.{_≡_};
+ghost use lib.ListN.{length};
 ghost use Rattle.whole.specs.Tests.{Decides};
-ghost use Rattle.rules.specs.Rules.{defaults, cdRate};
+ghost use Rattle.rules.specs.Rules.{defaults, cdRate, longestBlock};
 ghost use Rattle.answers.specs.Numbering.{plain};
 ghost use Rattle.cutting.specs.Cuts.{Cut};
+ghost use Rattle.record.specs.Parts.{heardOf, Stores};
+ghost use Rattle.tuner.specs.Parted.{tunerOf, lastWith};
+ghost use Rattle.host.specs.Lents.{recordWith, lastOf};
 ghost use Rattle.host.specs.Hosts.{layoutNumber, recordOf, bare, shownAs, HostStarted, HostChanged, HostTook, HostReset, HostKeyed, HostNighted, HostMetered};
 
 // The number of this layout of the record: they are counted from 20000, since a record of versions 1 and 2 of the calls began with the scale, at most
@@ -100,13 +113,63 @@ fn changed(r: Record, s: Settings) -> Done
     finished(Tuner::change(r.tuner, s))
 }
 
-fn taken(r: Record, number: u16, samples: &[i16], out: &mut [i16]) -> Done
-    ensures { λ d. ⌜ HostTook r number (now (samples .entry)) (now (out .entry)) (d .left) (d .answer) (now (out .exit)) ⌝ }
+// A block over the parts of a record, its arrays lent.
+fn taken(
+    layout: u64,
+    settings: Settings,
+    hertz: u64,
+    keyboard: Keyboard,
+    count: u64,
+    pitch: Pitch,
+    head: Head,
+    last_number: u16,
+    last_length: u16,
+    last_repeated: u16,
+    last_dropped: u16,
+    energies: &mut [u64; EIGHTH_LAGS],
+    correlations: &mut [i64; EIGHTH_LAGS],
+    store: &mut [i16; KEPT_SAMPLES],
+    eighths: &mut [i16; KEPT_EIGHTHS],
+    kept: &mut [i16; LONGEST_BLOCK],
+    number: u16,
+    samples: &[i16],
+    out: &mut [i16],
+) -> Left
+    requires { ⌜ Stores (heardOf count (now energies) (now correlations) (now store) (now eighths)) × (length (now kept) ≡ longestBlock) ⌝ }
+    ensures { λ r. ⌜ HostTook (recordWith layout (tunerOf settings hertz keyboard (heardOf count (now (energies .entry)) (now (correlations .entry)) (now (store .entry)) (now (eighths .entry))) pitch head (lastOf «last_number» «last_length» «last_repeated» «last_dropped» (now (kept .entry))))) number (now (samples .entry)) (now (out .entry)) (recordWith layout (tunerOf settings hertz keyboard (heardOf (r .count) (now (energies .exit)) (now (correlations .exit)) (now (store .exit)) (now (eighths .exit))) (r .pitch) (r .head) (lastWith (r .last) (now (kept .exit))))) (r .answer) (now (out .exit)) ⌝ }
 {
-    if !holds(r.layout) {
-        return unheld(r);
+    let last = LastNumbers {
+        number: last_number,
+        length: last_length,
+        repeated: last_repeated,
+        dropped: last_dropped,
+    };
+    if !holds(layout) {
+        return Left {
+            answer: answers::plain(9),
+            count: count,
+            pitch: pitch,
+            head: head,
+            last: last,
+        };
     }
-    finished(Tuner::block(r.tuner, number, samples, out))
+    tuner::block_parts(
+        settings,
+        hertz,
+        keyboard,
+        count,
+        energies,
+        correlations,
+        store,
+        eighths,
+        pitch,
+        head,
+        last,
+        kept,
+        number,
+        samples,
+        out,
+    )
 }
 
 fn nighted(r: Record, number: u16, size: usize, samples: &[i16], out: &mut [i16]) -> NightDone
@@ -251,9 +314,35 @@ pub extern "C" fn daxfolin_block(
 ) -> Answer
     ensures { λ r. ⌜ HostTook (now (lent .entry)) number (now (samples .entry)) (now (out .entry)) (now (lent .exit)) r (now (out .exit)) ⌝ }
 {
-    let d = taken(*lent, number, samples, out);
-    *lent = d.left;
-    d.answer
+    let left = taken(
+        lent.layout,
+        lent.tuner.settings,
+        lent.tuner.hertz,
+        lent.tuner.keyboard,
+        lent.tuner.heard.count,
+        lent.tuner.pitch,
+        lent.tuner.head,
+        lent.tuner.last.number,
+        lent.tuner.last.length,
+        lent.tuner.last.repeated,
+        lent.tuner.last.dropped,
+        &mut lent.tuner.heard.energies,
+        &mut lent.tuner.heard.correlations,
+        &mut lent.tuner.heard.store,
+        &mut lent.tuner.heard.eighths,
+        &mut lent.tuner.last.out,
+        number,
+        samples,
+        out,
+    );
+    lent.tuner.heard.count = left.count;
+    lent.tuner.pitch = left.pitch;
+    lent.tuner.head = left.head;
+    lent.tuner.last.number = left.last.number;
+    lent.tuner.last.length = left.last.length;
+    lent.tuner.last.repeated = left.last.repeated;
+    lent.tuner.last.dropped = left.last.dropped;
+    left.answer
 }
 
 // A recording's blocks of so many samples, from a block number on, as by the single calls one by one; it stops at the first that is refused.

@@ -328,8 +328,9 @@ pub fn block_to_good(
     left
 }
 
-// A block over the parts of a record: taken, given again or refused.
-fn block_parts(
+// A block over the parts of a record, for a caller that lends the record's own arrays: taken, given again or refused. It requires of the arrays what
+// their types say, which a contract must say itself behind `&mut`.
+pub fn block_parts(
     settings: Settings,
     hertz: u64,
     keys: Keyboard,
