@@ -1,4 +1,4 @@
--- What the account says of the tuner's calls it says of the calls exported to hosts: definitions, three statements (`HostTheorem`, `HostSentAgain`, `HostCuttingTheorem`) and their proofs (`host-holds`, `host-again-holds`, `host-cutting-holds`).
+-- What the account says of the tuner's calls it says of the calls exported to hosts: definitions, four statements (`HostTheorem`, `HostSentAgain`, `HostCuttingTheorem`, `HostNightTheorem`) and their proofs (`host-holds`, `host-again-holds`, `host-cutting-holds`, `host-night-holds`).
 -- After a start the record is that of a tuner, so each exported call over it is the tuner's own call, and a series of these is a series of those.
 use mathlib.Core.Path.{_≡_, refl, sym, ap, _∙_, subst}
 use mathlib.Core.Bool.{cond}
@@ -17,9 +17,11 @@ use Rattle.answers.specs.Numbering.{plain}
 use Rattle.tuner.specs.Tuners.{Metered}
 use Rattle.host.specs.declared.Record.{Record}
 use Rattle.host.specs.declared.Shown.{Shown}
-use Rattle.host.specs.Hosts.{recordOf, held, unheld, HostTook, HostChanged, HostReset, HostKeyed, HostStarted, shownAs, HostMetered}
+use Rattle.host.specs.Hosts.{recordOf, held, unheld, HostTook, HostChanged, HostReset, HostKeyed, HostNighted, HostStarted, shownAs, HostMetered}
 use Rattle.host.specs.Lents.{tuner's-call}
-use Rattle.account.specs.Account.{Call, start, change, block, midi, reset, meter, Leaves, by-start, by-change, by-block, by-midi, by-reset, by-meter, Series, fresh-start, and-then, received, Accounted, TakesNone, Meanwhile, nothing, and-meanwhile, GivenAgain, NeverNine}
+use Rattle.account.specs.Account.{Call, start, change, block, midi, reset, meter, Leaves, by-start, by-change, by-block, by-midi, by-reset, by-meter, Series, fresh-start, and-then, received, Accounted, TakesNone, Meanwhile, nothing, and-meanwhile, GivenAgain, NeverNine, AsSingleCalls}
+use Rattle.nights.specs.declared.NightAnswer.{NightAnswer}
+use Rattle.account.specs.Nightly.{night-holds}
 use Rattle.account.specs.Cutting.{SameTake, Alike}
 use Rattle.account.specs.Holds.{holds, again-holds, never-nine, cutting-holds}
 
@@ -184,3 +186,16 @@ host-cutting-holds cs cs′ r r′ h h′ same =
     let (t′, s′, e′) = series-of h′ in
     let alike = tuners-alike {cs = cs} {cs′ = cs′} t t′ (cutting-holds cs cs′ t t′ s s′ same) in
     subst (λ (r : Record). HostAlike cs cs′ r r′) (sym e) (subst (λ (r′ : Record). HostAlike cs cs′ (recordOf t) r′) (sym e′) alike)
+
+-- ---- a night's blocks in one call
+
+-- over a record reached by exported calls a night is the tuner's own: a series of its single calls
+abbrev pub HostNightTheorem : Type 0
+HostNightTheorem =
+    (cs : List Call) (r r′ : Record) (k size : ℕ) (xs ys ys′ : List ℤ) (a : NightAnswer) → HostSeries cs r → HostNighted r k size xs ys r′ a ys′ → (r′ ≡ recordOf (r′ .tuner)) × AsSingleCalls cs (r′ .tuner) a
+
+pub host-night-holds : HostNightTheorem
+host-night-holds cs r r′ k size xs ys ys′ a s (held h {t′} p e) =
+    let same : r′ .tuner ≡ t′ = ap (λ (q : Record). q .tuner) e in
+    (e ∙ ap recordOf (sym same), subst (λ (t : Tuner). AsSingleCalls cs t a) (sym same) (night-holds cs (r .tuner) t′ k size xs ys ys′ a (host-holds cs r s .series) p))
+host-night-holds cs r r′ k size xs ys ys′ a s (unheld h e l u) = absurd (h (ap (λ (q : Record). q .layout) (host-holds cs r s .is)))
