@@ -338,3 +338,19 @@ fn nights_over_records_are_the_single_calls() {
     assert_eq!(met.len(), 16, "{met:?}");
     assert!(met.values().all(|&times| times > 5), "{met:?}");
 }
+
+/// A night sent again whole is refused, as far as its numbers tell: of 65,536 blocks they end where they began.
+#[test]
+fn a_whole_night_sent_again() {
+    for (blocks, answer) in [
+        (2, Answer::NumberNeitherNextNorLast),
+        (65_535, Answer::NumberNeitherNextNorLast),
+        (65_536, Answer::Taken),
+    ] {
+        let mut tuner = Tuner::default_start();
+        let samples = vec![0; blocks];
+        assert_eq!(night(&mut tuner, 0, 1, &samples, blocks).0.taken, blocks);
+        let (left, _) = night(&mut tuner, 0, 1, &samples, blocks);
+        assert_eq!(left.answer, answer, "{blocks} blocks");
+    }
+}
