@@ -2,7 +2,8 @@
 
      bench run WHO SOUND BLOCK WARM COUNT   takes WARM samples of a sound in blocks of 512, then COUNT samples in blocks of BLOCK; prints a sum
                                             over the whole output, the cycles repeated and dropped, and the user time of the COUNT samples in
-                                            microseconds. WHO: library, plain
+                                            microseconds. WHO: library, plain; night: the library, the WARM samples by one call and the
+                                            COUNT samples by another
      bench compare SOUND BLOCK WARM COUNT [HERTZ]
                                             takes the same by both programs and holds every answer and sample of the one to the other's; each
                                             eleventh block is given again, and a refused one is sent before it. HERTZ: the sample rate, 44100
@@ -37,6 +38,7 @@ typedef struct {
     size_t record;
     uint32_t (*start)(uint32_t);
     answer (*block)(uint16_t, const int16_t *, size_t, int16_t *, size_t);
+    void (*night)(size_t, size_t, size_t); /* all blocks from one sample to another by one call, where that is measured */
 } program;
 
 /* The settings that are measured: the default ones, but corrected at once, as the figures have always been taken and as the other tuners do. */
@@ -53,6 +55,22 @@ static answer library_block(uint16_t number, const int16_t *samples, size_t n, i
     return (answer){a.number, a.written, a.repeated, a.dropped};
 }
 
+static void library_night(size_t from, size_t to, size_t block)
+{
+    daxfolin_night_answer a = daxfolin_night(&tuner, number, block, in + from, to - from, out + from, to - from);
+    failures += a.number != 0 || a.written != to - from;
+    repeated += a.repeated;
+    dropped += a.dropped;
+    number += (uint16_t)a.taken;
+}
+
+/* A night of one block. */
+static answer library_night_block(uint16_t number, const int16_t *samples, size_t n, int16_t *to, size_t room)
+{
+    daxfolin_night_answer a = daxfolin_night(&tuner, number, n, samples, n, to, room);
+    return (answer){a.number, (uint16_t)a.written, (uint16_t)a.repeated, (uint16_t)a.dropped};
+}
+
 static uint32_t plain_begin(uint32_t hertz) { return plain_start(&plain, hertz); }
 
 static answer plain_take(uint16_t number, const int16_t *samples, size_t n, int16_t *to, size_t room)
@@ -60,15 +78,21 @@ static answer plain_take(uint16_t number, const int16_t *samples, size_t n, int1
     return plain_block(&plain, number, samples, n, to, room);
 }
 
-static const program programs[2] = {
-    {"library", sizeof(daxfolin_record), library_start, library_block},
-    {"plain", sizeof(plain_tuner), plain_begin, plain_take},
+enum { PROGRAMS = 3 };
+static const program programs[PROGRAMS] = {
+    {"library", sizeof(daxfolin_record), library_start, library_block, 0},
+    {"plain", sizeof(plain_tuner), plain_begin, plain_take, 0},
+    {"night", sizeof(daxfolin_record), library_start, library_night_block, library_night},
 };
 
 static void start(const program *p, uint32_t hertz) { failures += p->start(hertz) != DAXFOLIN_TAKEN; }
 
 static void take(const program *p, size_t from, size_t to, size_t block)
 {
+    if (p->night && from < to) {
+        p->night(from, to, block);
+        return;
+    }
     while (from < to) {
         size_t n = to - from < block ? to - from : block;
         answer a = p->block(number++, in + from, n, out + from, n);
@@ -190,7 +214,7 @@ static uintptr_t stack_of(const program *p)
 static int sizes(void)
 {
     sound('a', in, MINUTE);
-    for (int i = 0; i < 2; i++) printf("%s record %lu stack %lu\n", programs[i].name, programs[i].record, stack_of(&programs[i]));
+    for (int i = 0; i < PROGRAMS; i++) printf("%s record %lu stack %lu\n", programs[i].name, programs[i].record, stack_of(&programs[i]));
     return 0;
 }
 
@@ -219,7 +243,7 @@ int main(int argc, char **argv)
     }
     if (argc == 7 && !strcmp(argv[1], "run")) {
         sound(argv[3][0], in, MINUTE);
-        for (int i = 0; i < 2; i++)
+        for (int i = 0; i < PROGRAMS; i++)
             if (!strcmp(argv[2], programs[i].name)) return run(&programs[i], whole(argv[4]), whole(argv[5]), whole(argv[6]));
     }
     printf("see bench.c for the words\n");

@@ -25,7 +25,7 @@
 extern "C" {
 #endif
 
-#define DAXFOLIN_VERSION 8u                /* of these calls: what daxfolin_version() answers */
+#define DAXFOLIN_VERSION 9u                /* of these calls: what daxfolin_version() answers */
 #define DAXFOLIN_LAYOUT 20006u             /* of the record: what stands first in it */
 #define DAXFOLIN_LONGEST_BLOCK 512u        /* samples of a block */
 #define DAXFOLIN_LONGEST_TAKE 1000000000u  /* samples of a take */
@@ -33,15 +33,15 @@ extern "C" {
 #define DAXFOLIN_FILM 48000u
 
 /* The answers. After a refusal, any number from 2 on, the record is as it was, and so is every sample of the output; but a start that
- * is refused (8, 11 to 16) leaves the default tuner in the record, and what that held is gone. Of a start the sample rate is looked at
- * first. Of settings the first bad one is named, in the order scale, eps, decay, floor, channel, mode. 10 answers lines that cannot be
- * read, and so none of these calls. */
+ * is refused (8, 11 to 16) leaves the default tuner in the record, and what that held is gone, and a night that is refused at a block
+ * leaves what was taken before that block. Of a start the sample rate is looked at first. Of settings the first bad one is named, in
+ * the order scale, eps, decay, floor, channel, mode. 10 answers lines that cannot be read, and so none of these calls. */
 enum {
-    DAXFOLIN_TAKEN = 0,                 /* taken: start, change, keyboard bytes, block or reset */
+    DAXFOLIN_TAKEN = 0,                 /* taken: start, change, keyboard bytes, block, night or reset */
     DAXFOLIN_GIVEN_AGAIN = 1,           /* the last block's number, length and samples: the same counts and output again, record unchanged */
     DAXFOLIN_BLOCK_EMPTY = 2,
-    DAXFOLIN_BLOCK_OVER_512 = 3,
-    DAXFOLIN_OUTPUT_SHORT = 4,          /* shorter than the block */
+    DAXFOLIN_BLOCK_OVER_512 = 3,        /* of a night, a block length of 0 too */
+    DAXFOLIN_OUTPUT_SHORT = 4,          /* shorter than the block; of a night, than the recording */
     DAXFOLIN_NUMBER_NEITHER = 5,        /* neither the next number nor the last taken */
     DAXFOLIN_OTHER_SAMPLES = 6,         /* the last taken number, other length or samples */
     DAXFOLIN_TAKE_FULL = 7,             /* the take would pass 1,000,000,000 samples */
@@ -143,6 +143,17 @@ typedef struct daxfolin_answer {
     uint16_t dropped;
 } daxfolin_answer;
 
+/* The answer to a night, a recording's blocks in one call. */
+typedef struct daxfolin_night_answer {
+    uint32_t number;   /* 0, or the number that refused: 9, 3 or 4 before the first block, or a block's own 5, 6 or 7 */
+    uint16_t refused;  /* of 5, 6 and 7, the number of the block that was refused; else 0 */
+    uint64_t taken;    /* blocks taken; their counts, added up: */
+    uint64_t written;
+    uint64_t repeated;
+    uint64_t dropped;
+    daxfolin_answer again; /* of a first block that was given again, 1 and its own counts, which are not in the sums; else all 0 */
+} daxfolin_night_answer;
+
 /* What the meter shows; a figure that is not of the state is 0. */
 enum { DAXFOLIN_SEARCHING = 0, DAXFOLIN_LOCKING = 1, DAXFOLIN_PITCHED = 2, DAXFOLIN_REFUSED = 9 };
 
@@ -183,6 +194,13 @@ DAXFOLIN_SAME(offsetof(daxfolin_record, head), 5936);
 DAXFOLIN_SAME(offsetof(daxfolin_record, last), 5944);
 DAXFOLIN_SAME(sizeof(daxfolin_record), 6976);
 DAXFOLIN_SAME(sizeof(daxfolin_answer), 12);
+DAXFOLIN_SAME(offsetof(daxfolin_night_answer, refused), 4);
+DAXFOLIN_SAME(offsetof(daxfolin_night_answer, taken), 8);
+DAXFOLIN_SAME(offsetof(daxfolin_night_answer, written), 16);
+DAXFOLIN_SAME(offsetof(daxfolin_night_answer, repeated), 24);
+DAXFOLIN_SAME(offsetof(daxfolin_night_answer, dropped), 32);
+DAXFOLIN_SAME(offsetof(daxfolin_night_answer, again), 40);
+DAXFOLIN_SAME(sizeof(daxfolin_night_answer), 56);
 DAXFOLIN_SAME(sizeof(daxfolin_shown), 20);
 DAXFOLIN_SAME(sizeof(size_t), 8);
 #undef DAXFOLIN_SAME
@@ -209,6 +227,14 @@ uint32_t daxfolin_midi(daxfolin_record *record, const uint8_t *bytes, size_t len
  * them are never touched. Answers 0, or 1, or a refusal: 9, 2, 3, 4, then 5 or 6 (or the repeat, 1), then 7. */
 daxfolin_answer daxfolin_block(daxfolin_record *record, uint16_t number, const int16_t *samples, size_t samples_length, int16_t *out,
                                size_t out_length);
+
+/* A night's blocks in one call: the recording in blocks of `size` samples, 1 to 512, the last of them maybe shorter, the first of them
+ * block `number` of the take. Record, output and counts are those of daxfolin_block called for one block after the other. A first
+ * block that is the last one again is given again, and the rest go on; an empty recording takes no block. Answers 0, or a refusal: 9,
+ * then 3 for a size of 0 or over 512, then 4 for an output shorter than the recording, and record and output are as they were; or at
+ * the first block that is refused, its 5, 6 or 7, and there it stops: what was taken stays, and what was not is not touched. */
+daxfolin_night_answer daxfolin_night(daxfolin_record *record, uint16_t number, size_t size, const int16_t *samples, size_t samples_length,
+                                     int16_t *out, size_t out_length);
 
 /* Sample rate and settings kept, everything else fresh, the key, the running status and any half message forgotten. 0; or 9, and the
  * record is as it was. */

@@ -2,15 +2,16 @@
  * cannot link the library itself. Every buffer stands between guards; a touched guard or sample in is an answer of its own.
  *
  * Asked:    call, number, two lengths, settings, two numbers for a cut (`asked`), then the record, the samples and the output as they
- *           are; bytes of the keyboard stand in the place of samples, the first length being theirs, and a start's sample rate in that
- *           of a block's number.
- * Answered: number and counts, the meter, a stretch, whether something else was touched (`said`), then the record and the output. */
+ *           are; bytes of the keyboard stand in the place of samples, the first length being theirs, a start's sample rate in that of
+ *           a block's number, and the length of a night's blocks in that of the cut's recording.
+ * Answered: number and counts, the meter, whether something else was touched, a stretch, a night's answer (`said`), then the record and
+ *           the output. */
 #include "daxfolin.h"
 #include <stdio.h>
 #include <stdlib.h>
 #include <string.h>
 
-enum { START, START_DEFAULT, CHANGE, BLOCK, RESET, METER, CUT, VERSION, MIDI };
+enum { START, START_DEFAULT, CHANGE, BLOCK, RESET, METER, CUT, VERSION, MIDI, NIGHT };
 enum { GUARD = 64, MOST = 4096 };
 
 struct asked {
@@ -24,6 +25,7 @@ struct said {
     daxfolin_shown shown;
     uint32_t touched;
     uint64_t from, count;
+    daxfolin_night_answer night;
 };
 
 /* The record and the two slices, each with guards before and behind. */
@@ -104,6 +106,10 @@ int main(void) {
         case START_DEFAULT: said.number = daxfolin_start_default(&lent.record); break;
         case CHANGE: said.number = daxfolin_change(&lent.record, asked.settings); break;
         case BLOCK: answer(&said, daxfolin_block(&lent.record, (uint16_t)asked.number, in + GUARD, samples_length, out + GUARD, out_length)); break;
+        case NIGHT:
+            said.night = daxfolin_night(&lent.record, (uint16_t)asked.number, asked.length, in + GUARD, samples_length, out + GUARD, out_length);
+            said.number = said.night.number;
+            break;
         case RESET: said.number = daxfolin_reset(&lent.record); break;
         case METER: said.shown = daxfolin_meter(&lent.record); break;
         case CUT: {

@@ -11,6 +11,7 @@ pub mod history;
 pub mod keyboard;
 pub mod lines;
 pub mod mend;
+pub mod night;
 pub mod play;
 pub mod record;
 pub mod rules;

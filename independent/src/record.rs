@@ -6,6 +6,7 @@
 
 use crate::history::History;
 use crate::keyboard::Keyboard;
+use crate::night::Night;
 use crate::rules::*;
 use crate::settings::Settings;
 use crate::statistics::Statistics;
@@ -72,6 +73,12 @@ pub enum Call {
         samples: Vec<i16>,
         out: Vec<i16>,
     },
+    Night {
+        first: u16,
+        size: u64,
+        samples: Vec<i16>,
+        out: Vec<i16>,
+    },
     Reset,
     Meter,
     /// The length of a recording, and which stretch of it.
@@ -82,7 +89,14 @@ pub enum Call {
 #[derive(Clone, Debug, Default, PartialEq)]
 pub struct Left {
     pub number: u32,
+    /// Samples written, cycles repeated, cycles dropped in a block.
     pub counts: [u16; 3],
+    /// Of a night the number of the block that was refused; the blocks taken and
+    /// their three counts, added up; and the answer and counts of a first block
+    /// that was given again.
+    pub refused: u16,
+    pub sums: [u64; 4],
+    pub again: (u32, [u16; 3]),
     /// The meter's state and its lag, period, wanted period and rate.
     pub state: u32,
     pub figures: [f32; 4],
@@ -98,6 +112,25 @@ impl Left {
         self.number = answer.number() as u32;
         self.record = Record::fresh(tuner.hertz, tuner.settings).bytes();
     }
+
+    fn night(&mut self, night: &Night) {
+        let Counts {
+            written,
+            repeated,
+            dropped,
+        } = night.counts;
+        self.number = night.answer.number() as u32;
+        self.refused = night.refused.unwrap_or(0);
+        self.sums = [night.taken, written, repeated, dropped].map(|n| n as u64);
+        if let Some(counts) = night.again {
+            self.again = (Answer::GivenAgain.number() as u32, words_of(counts));
+        }
+    }
+}
+
+/// The counts as an answer has them.
+fn words_of(counts: Counts) -> [u16; 3] {
+    [counts.written, counts.repeated, counts.dropped].map(|n| n as u16)
 }
 
 macro_rules! in_order {
@@ -253,6 +286,20 @@ impl Record {
             && lags_right
     }
 
+    /// The newest samples, as many as the last block has: in a good record they are its own.
+    pub fn last_samples(&self) -> &[i16] {
+        let length = usize::from(self.length).min(LONGEST_BLOCK);
+        &self.store[STORED - length..]
+    }
+
+    /// The number that the next block must have; the first of a take is 0.
+    pub fn next_number(&self) -> u16 {
+        match self.length {
+            0 => 0,
+            _ => self.number.wrapping_add(1),
+        }
+    }
+
     /// What the keyboard's numbers say; nothing, where one is too large for what it would be.
     fn keyboard(&self) -> Option<Keyboard> {
         let held = |number: u32| match u8::try_from(number) {
@@ -348,11 +395,11 @@ impl Record {
         }
     }
 
-    /// The record after the tuner made of it took a block.
+    /// The record after the tuner made of it took a block or more.
     fn after(&self, tuner: &Tuner, seen: &Statistics) -> Record {
         let mut record = Record::fresh(tuner.hertz, tuner.settings).with_keyboard(&tuner.keyboard);
         let last = tuner.last.as_ref().expect("a block was taken");
-        record.count = self.count + last.samples.len() as u64;
+        record.count = self.count + (tuner.take.count() - self.short_count()) as u64;
         record.behind = (input_position(tuner.take.count()) - tuner.position) as u64;
         record.rate = tuner.rate as u32;
         record.kept = tuner.kept as u32;
@@ -434,8 +481,22 @@ pub fn made(bytes: &[u8; SIZE], call: &Call) -> Left {
             left.out.clone_from(out);
             let (answer, counts) = tuner.block(*number, samples, &mut left.out, &mut seen);
             left.number = answer.number() as u32;
-            left.counts = [counts.written, counts.repeated, counts.dropped].map(|n| n as u16);
+            left.counts = words_of(counts);
             if answer == Answer::Taken {
+                left.record = record.after(&tuner, &seen).bytes();
+            }
+        }
+        Call::Night {
+            first,
+            size,
+            samples,
+            out,
+        } if record.is_good() => {
+            let (mut tuner, mut seen) = (record.tuner(), Statistics::default());
+            left.out.clone_from(out);
+            let night = tuner.night(*first, *size as usize, samples, &mut left.out, &mut seen);
+            left.night(&night);
+            if night.taken > 0 {
                 left.record = record.after(&tuner, &seen).bytes();
             }
         }
@@ -449,7 +510,7 @@ pub fn made(bytes: &[u8; SIZE], call: &Call) -> Left {
             Meter::Refused => unreachable!("a good record's meter is read"),
         },
         Call::Meter => left.state = 9,
-        Call::Block { out, .. } => {
+        Call::Block { out, .. } | Call::Night { out, .. } => {
             left.number = 9;
             left.out.clone_from(out);
         }

@@ -98,6 +98,9 @@ fn spoiled_records_are_refused_first() {
         let (answer, counts) = given.block(9, &[], &mut output, &mut seen);
         assert_eq!(answer, Answer::RecordOutOfRange, "record {place}");
         assert_eq!((counts, output), (Counts::default(), [77; 2]));
+        let night = given.night(9, 0, &[1, 2, 3], &mut output, &mut seen);
+        assert_eq!(night.answer, Answer::RecordOutOfRange);
+        assert_eq!((night.refused, night.taken, output), (None, 0, [77; 2]));
         let mut bad = Settings::DEFAULT;
         bad.scale = 0;
         assert_eq!(given.change(bad), Answer::RecordOutOfRange);

@@ -66,7 +66,7 @@ fn records_are_good_up_to_the_edges() {
             let left = made(&bytes, &call);
             let refused = left.number == 9 || left.state == 9;
             assert_eq!(refused, !good, "record {place}, {call:?}");
-            if let (Call::Block { out, .. }, true) = (&call, refused) {
+            if let (Call::Block { out, .. } | Call::Night { out, .. }, true) = (&call, refused) {
                 assert_eq!(&left.out, out);
             }
             assert!(good || left.record == bytes, "record {place}, {call:?}");

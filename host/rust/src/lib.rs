@@ -20,11 +20,12 @@
 //! ```
 
 use std::fmt;
+use std::mem::offset_of;
 
 pub mod wave;
 
 /// The version of the calls.
-pub const VERSION: u32 = 8;
+pub const VERSION: u32 = 9;
 /// The number of the record's layout, which stands first in it.
 pub const LAYOUT: u64 = 20_006;
 /// The most samples of a block.
@@ -37,16 +38,16 @@ pub const CD: u32 = 44_100;
 /// A sample rate, in samples a second.
 pub const FILM: u32 = 48_000;
 
-/// Taken: a start, a change, bytes of a keyboard, a block or a reset.
+/// Taken: a start, a change, bytes of a keyboard, a block, a night or a reset.
 pub const TAKEN: u32 = 0;
 /// The last block's number, length and samples: the same counts and output again, the record unchanged.
 pub const GIVEN_AGAIN: u32 = 1;
 /// The block has no samples. From here on a call is refused: the record and the output are as they were, but for a start, which hands
-/// back the default tuner beside 8 and 11 to 16.
+/// back the default tuner beside 8 and 11 to 16, and for a night, which leaves what was taken before the block that was refused.
 pub const BLOCK_EMPTY: u32 = 2;
-/// The block has more than 512 samples.
+/// The block has more than 512 samples; of a night, the block length is 0 or over 512.
 pub const BLOCK_OVER_512: u32 = 3;
-/// The output is shorter than the block.
+/// The output is shorter than the block; of a night, than the recording.
 pub const OUTPUT_SHORT: u32 = 4;
 /// The number is neither the next nor the last taken.
 pub const NUMBER_NEITHER: u32 = 5;
@@ -121,6 +122,26 @@ pub struct Answer {
     pub dropped: u16,
 }
 
+/// The answer to a night, a recording's blocks in one call.
+#[repr(C)]
+#[derive(Clone, Copy, Debug, PartialEq, Eq)]
+pub struct NightAnswer {
+    /// 0, or the number that refused: 9, 3 or 4 before the first block, or a block's own 5, 6 or 7.
+    pub number: u32,
+    /// Of 5, 6 and 7, the number of the block that was refused; else 0.
+    pub refused: u16,
+    /// Blocks taken. Their counts are added up below.
+    pub taken: u64,
+    /// Samples written.
+    pub written: u64,
+    /// Cycles repeated.
+    pub repeated: u64,
+    /// Cycles dropped.
+    pub dropped: u64,
+    /// Of a first block that was given again, 1 and its own counts, which are not in the sums; else all 0.
+    pub again: Answer,
+}
+
 /// What the meter shows, in samples; the rate is a ratio.
 #[derive(Clone, Copy, Debug, PartialEq)]
 pub enum Meter {
@@ -147,7 +168,7 @@ pub struct Record {
 
 /// The calls of the archive. A record is `struct daxfolin_record` of `host/daxfolin.h`.
 mod archive {
-    use super::{Answer, Record, Settings};
+    use super::{Answer, NightAnswer, Record, Settings};
 
     #[repr(C)]
     pub struct Shown {
@@ -178,6 +199,15 @@ mod archive {
             out: *mut i16,
             out_length: usize,
         ) -> Answer;
+        pub fn daxfolin_night(
+            record: *mut Record,
+            number: u16,
+            size: usize,
+            samples: *const i16,
+            samples_length: usize,
+            out: *mut i16,
+            out_length: usize,
+        ) -> NightAnswer;
         pub fn daxfolin_reset(record: *mut Record) -> u32;
         pub fn daxfolin_meter(record: *const Record) -> Shown;
         pub fn daxfolin_cut(length: usize, k: usize) -> Stretch;
@@ -187,6 +217,7 @@ mod archive {
 const _: () = {
     assert!(size_of::<Record>() == 6976 && align_of::<Record>() == 8);
     assert!(size_of::<Settings>() == 24 && size_of::<Answer>() == 12);
+    assert!(size_of::<NightAnswer>() == 56 && offset_of!(NightAnswer, again) == 40);
     assert!(size_of::<archive::Shown>() == 20 && size_of::<archive::Stretch>() == 16);
 };
 
@@ -257,6 +288,40 @@ impl Record {
             archive::daxfolin_block(
                 self,
                 number,
+                samples.as_ptr(),
+                samples.len(),
+                out.as_mut_ptr(),
+                out.len(),
+            )
+        }
+    }
+
+    /// A night's blocks in one call: the recording in blocks of `size` samples, 1 to 512, the last of them maybe shorter, from block
+    /// `first` of the take on. Record, output and counts are those of [`Record::block`] called for one block after the other. A first
+    /// block that is the last one again is given again, and the rest go on; an empty recording takes no block. A refusal is 9, then 3
+    /// for a size of 0 or over 512, then 4 for an output shorter than the recording; or at the first block that is refused its 5, 6 or
+    /// 7, and there it stops: what was taken stays.
+    ///
+    /// ```no_run
+    /// let mut tuner = daxfolin::Record::default();
+    /// let sung = [0i16; 1000];
+    /// let mut tuned = [0i16; 1000];
+    /// let answer = tuner.night(0, daxfolin::LONGEST_BLOCK, &sung, &mut tuned);
+    /// assert_eq!((answer.number, answer.taken), (daxfolin::TAKEN, 2));
+    /// ```
+    pub fn night(
+        &mut self,
+        first: u16,
+        size: usize,
+        samples: &[i16],
+        out: &mut [i16],
+    ) -> NightAnswer {
+        // SAFETY: the record and the slices are references', so that they don't overlap, and the lengths are the slices' own.
+        unsafe {
+            archive::daxfolin_night(
+                self,
+                first,
+                size,
                 samples.as_ptr(),
                 samples.len(),
                 out.as_mut_ptr(),

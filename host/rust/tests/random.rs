@@ -5,9 +5,9 @@
 #![cfg(target_arch = "x86_64")]
 
 use daxfolin::{
-    cut, Answer, Meter, Record, Settings, CD, CHANNEL_OUT_OF_RANGE, DECAY_OUT_OF_RANGE,
-    EPS_OUT_OF_RANGE, FILM, FLOOR_OUT_OF_RANGE, KEYBOARD_MODE, LAYOUT, MODE_UNKNOWN, RATE_UNKNOWN,
-    RECORD_OUT_OF_RANGE, SCALE_OUT_OF_RANGE, TAKEN,
+    cut, Answer, Meter, NightAnswer, Record, Settings, CD, CHANNEL_OUT_OF_RANGE,
+    DECAY_OUT_OF_RANGE, EPS_OUT_OF_RANGE, FILM, FLOOR_OUT_OF_RANGE, KEYBOARD_MODE, LAYOUT,
+    MODE_UNKNOWN, RATE_UNKNOWN, RECORD_OUT_OF_RANGE, SCALE_OUT_OF_RANGE, TAKEN,
 };
 use independent::generator::cases::Cases;
 use independent::generator::edges::fresh_of_version_2;
@@ -55,6 +55,35 @@ fn left_by(record: &mut Record, call: &Call) -> Left {
             } = record.block(*number, &sent[GUARD..GUARD + samples.len()], part);
             left.out = part.to_vec();
             (left.number, left.counts) = (number, [written, repeated, dropped]);
+            assert_eq!(sent, guarded(samples), "the samples in were touched");
+            assert_eq!(
+                room,
+                guarded(&left.out),
+                "past the output something was touched"
+            );
+        }
+        Call::Night {
+            first,
+            size,
+            samples,
+            out,
+        } => {
+            let (sent, mut room) = (guarded(samples), guarded(out));
+            let part = &mut room[GUARD..GUARD + out.len()];
+            let sung = &sent[GUARD..GUARD + samples.len()];
+            let NightAnswer {
+                number,
+                refused,
+                taken,
+                written,
+                repeated,
+                dropped,
+                again,
+            } = record.night(*first, *size as usize, sung, part);
+            left.out = part.to_vec();
+            (left.number, left.refused) = (number, refused);
+            left.sums = [taken, written, repeated, dropped];
+            left.again = (again.number, [again.written, again.repeated, again.dropped]);
             assert_eq!(sent, guarded(samples), "the samples in were touched");
             assert_eq!(
                 room,
@@ -110,6 +139,11 @@ fn is_of_another_layout(bytes: &[u8; Record::SIZE]) {
         dropped: 0,
     };
     assert_eq!((answer, out), (refused, [FILL; 8]));
+    for size in [0, 2] {
+        let night = record.night(0, size, &[1, 2, 3], &mut out);
+        assert_eq!((night.number, night.taken), (RECORD_OUT_OF_RANGE, 0));
+        assert_eq!(out, [FILL; 8]);
+    }
     assert_eq!(record.change(Settings::default()), RECORD_OUT_OF_RANGE);
     let scale_0 = Settings {
         scale: 0,

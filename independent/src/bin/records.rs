@@ -15,6 +15,9 @@ use std::process::{Command, Stdio};
 
 const USAGE: &str = "records CASES SEED PROGRAM WORDS..";
 
+/// The bytes of what the other program says before the record.
+const SAID: usize = 112;
+
 fn asked(bytes: &[u8; SIZE], call: &Call) -> Vec<u8> {
     let mut words = [0u32; 10];
     let mut longs = [0u64; 2];
@@ -49,6 +52,22 @@ fn asked(bytes: &[u8; SIZE], call: &Call) -> Vec<u8> {
             ]);
             (samples, out) = (sent, room);
         }
+        Call::Night {
+            first,
+            size,
+            samples: sent,
+            out: room,
+        } => {
+            words[..4].copy_from_slice(&[
+                9,
+                u32::from(*first),
+                sent.len() as u32,
+                room.len() as u32,
+            ]);
+            // The length of its blocks stands in the place of a recording's.
+            longs[0] = *size;
+            (samples, out) = (sent, room);
+        }
         Call::Reset => words[0] = 4,
         Call::Meter => words[0] = 5,
         Call::Cut(length, k) => (words[0], longs) = (6, [*length, *k]),
@@ -75,8 +94,9 @@ fn asked(bytes: &[u8; SIZE], call: &Call) -> Vec<u8> {
 
 /// What the other program says that the call left, and whether it touched anything else.
 fn said(from: &mut impl Read, room: usize) -> std::io::Result<(Left, bool)> {
-    let mut bytes = vec![0; 56 + SIZE + 2 * room];
+    let mut bytes = vec![0; SAID + SIZE + 2 * room];
     from.read_exact(&mut bytes)?;
+    let half = |at: usize| u16::from_le_bytes(bytes[at..at + 2].try_into().unwrap());
     let word = |at: usize| u32::from_le_bytes(bytes[at..at + 4].try_into().unwrap());
     let long = |at: usize| u64::from_le_bytes(bytes[at..at + 8].try_into().unwrap());
     let left = Left {
@@ -85,8 +105,12 @@ fn said(from: &mut impl Read, room: usize) -> std::io::Result<(Left, bool)> {
         state: word(16),
         figures: [20, 24, 28, 32].map(|at| f32::from_bits(word(at))),
         stretch: [long(40), long(48)],
-        record: bytes[56..56 + SIZE].to_vec(),
-        out: bytes[56 + SIZE..]
+        // `struct daxfolin_night_answer` begins at 56 with its number, which stands at 0 too.
+        refused: half(60),
+        sums: [64, 72, 80, 88].map(long),
+        again: (word(96), [100, 102, 104].map(half)),
+        record: bytes[SAID..SAID + SIZE].to_vec(),
+        out: bytes[SAID + SIZE..]
             .chunks_exact(2)
             .map(|sample| i16::from_le_bytes([sample[0], sample[1]]))
             .collect(),
@@ -101,6 +125,7 @@ fn name(call: &Call) -> &'static str {
         Call::Change(_) => "change",
         Call::Midi(_) => "midi",
         Call::Block { .. } => "block",
+        Call::Night { .. } => "night",
         Call::Reset => "reset",
         Call::Meter => "meter",
         Call::Cut(..) => "cut",

@@ -2,6 +2,7 @@
 //! lengths and buffers of every sort; the records at the edges come first.
 
 use super::edges::{bytes_of, calls_over, choices, edges, fresh_of_version_2, BEGINNING_OF_OLD};
+use super::nights::{any_night, night_choices};
 use super::random::Random;
 use super::sound::{period_of_note, sing, Passage, Wave};
 use crate::record::{made, Call, Record, LAYOUT, SIZE};
@@ -33,7 +34,7 @@ impl Cases {
             let calls = calls_over(&record).into_iter();
             first.extend(calls.map(|call| (bytes_of(record.bytes()), call)));
         }
-        let choices = choices().into_iter();
+        let choices = choices().into_iter().chain(night_choices());
         first.extend(choices.map(|(record, call)| (bytes_of(record.bytes()), call)));
         let calls = calls_over(&reached[0]).into_iter();
         first.extend(calls.map(|call| (fresh_of_version_2(), call)));
@@ -52,7 +53,8 @@ impl Cases {
         let record = self.record();
         let random = &mut self.random;
         let call = match random.whole(0, 99) {
-            0..=59 => block(random, &record),
+            0..=46 => block(random, &record),
+            47..=59 => any_night(random, &record),
             60..=69 => Call::Midi(midi(random)),
             70..=77 => Call::Change(change(random, &record)),
             78..=84 => Call::Reset,
@@ -318,19 +320,13 @@ fn alter(random: &mut Random, record: &mut Record) {
 
 /// A block: the next, the last again, nearly the last again, or some other.
 fn block(random: &mut Random, record: &Record) -> Call {
-    let length = usize::from(record.length).min(LONGEST_BLOCK);
-    let last = &record.store[record.store.len() - length..];
-    let next = match length {
-        0 => 0,
-        _ => record.number.wrapping_add(1),
-    };
     let number = match random.whole(0, 9) {
-        0..=5 => next,
+        0..=5 => record.next_number(),
         6..=8 => record.number,
         _ => random.next() as u16,
     };
     let mut samples = match random.whole(0, 19) {
-        0..=6 => last.to_vec(),
+        0..=6 => record.last_samples().to_vec(),
         7 => vec![],
         8 => vec![0; random.one_of(&[511, 512, 513, 1_024])],
         9 => vec![i16::MIN; random.whole(1, 64)],
@@ -363,7 +359,7 @@ fn block(random: &mut Random, record: &Record) -> Call {
 }
 
 /// Noise of some loudness.
-fn noise(random: &mut Random, samples: &mut [i16]) {
+pub(super) fn noise(random: &mut Random, samples: &mut [i16]) {
     let shift = random.whole(0, 15);
     for sample in samples {
         *sample = (random.next() as i16) >> shift;

@@ -1,6 +1,7 @@
 //! Records with a number at the end of its range, and with one just past it,
 //! number by number as `docs/RANGES.md` lists them; and calls over each.
 
+use super::nights::nights_over;
 use crate::record::{made, Call, Record, LAYOUT, SIZE};
 use crate::settings::Settings;
 use crate::table::{CD, FILM};
@@ -33,6 +34,8 @@ const GOOD: &[Alter] = &[
         keyboard(record, (101, 153, 60));
     },
     |record| record.count = 1_000_000_000,
+    // A night's second or third block would pass the limit.
+    |record| record.count = 999_999_998,
     |record| alone(record, |fresh| fresh.count = 1_763),
     |record| alone(record, |fresh| (fresh.count, fresh.store[0]) = (1_764, 1)),
     |record| alone(record, |fresh| (fresh.count, fresh.eighths[0]) = (1_792, 1)),
@@ -105,7 +108,9 @@ const GOOD: &[Alter] = &[
     |record| record.behind = 0,
     |record| record.behind = 65_536_000,
     |record| record.number = 65_535,
+    |record| record.number = 65_533,
     |record| record.length = 0,
+    |record| record.length = 1,
     |record| record.length = 512,
     |record| alone(record, |fresh| (fresh.count, fresh.length) = (8, 8)),
     |record| (record.repeated, record.dropped) = (u16::MAX, u16::MAX),
@@ -272,7 +277,7 @@ fn alone(record: &mut Record, alter: Alter) {
 }
 
 /// A record that is pitched, after 2,400 samples of a square wave, at decay 0: it is at its goal, and nothing was kept on the way.
-fn pitched() -> Record {
+pub(super) fn pitched() -> Record {
     let mut bytes = Record::fresh(CD, Settings::AT_ONCE).bytes();
     let samples: Vec<i16> = (0..480).map(|at| 9_000 * (at / 48 % 2) - 4_500).collect();
     for number in 0..5 {
@@ -363,22 +368,20 @@ pub fn edges() -> Vec<(Record, bool)> {
     good.chain(bad).chain(wrong).collect()
 }
 
-/// Every call that reads the record: the next block and the last again, changes that are allowed and one that isn't, bytes of
-/// the keyboard, a reset, the meter.
+/// Every call that reads the record: the next block and the last again, nights that begin with these, changes that are allowed and one
+/// that isn't, bytes of the keyboard, a reset, the meter.
 pub fn calls_over(record: &Record) -> Vec<Call> {
-    let length = usize::from(record.length).min(512);
     let block = |number, samples: &[i16]| Call::Block {
         number,
         samples: samples.to_vec(),
         out: vec![77; samples.len() + 1],
     };
-    let next = match length {
-        0 => 0,
-        _ => record.number.wrapping_add(1),
-    };
+    let [ones, again] = nights_over(record);
     vec![
-        block(next, &[1_000, -1_000, 500]),
-        block(record.number, &record.store[record.store.len() - length..]),
+        block(record.next_number(), &[1_000, -1_000, 500]),
+        block(record.number, record.last_samples()),
+        ones,
+        again,
         Call::Change(Settings::DEFAULT),
         Call::Change(settings([0, 410, 256, 0, 2, 16])),
         Call::Change(settings([1, 409, 255, 1, 1, record.settings.channel])),

@@ -14,6 +14,7 @@ mod holding;
 mod hostile;
 pub mod kinds;
 pub mod night;
+mod nights;
 mod player;
 mod random;
 pub mod script;
