@@ -252,7 +252,7 @@ fn pieces<'a, T>(
 /// Lines that change nothing, if there are any.
 fn strew(script: &mut Script<impl Write>, in_thousand: usize) -> io::Result<()> {
     while script.random.chance(in_thousand) {
-        match script.random.whole(0, 99) {
+        match script.random.whole(0, 129) {
             which @ 0..IN_VAIN => script.send_in_vain(which)?,
             IN_VAIN..=79 => script.send_refused_settings("change")?,
             80..=84 => script.send_refused_settings("start")?,
