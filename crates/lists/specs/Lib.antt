@@ -1,0 +1,5 @@
+pub mod Lists
+pub mod Runs
+pub mod Stores
+pub mod Folds
+pub mod Afresh
