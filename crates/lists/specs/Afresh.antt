@@ -12,7 +12,7 @@ use lib.Seq.{take-nil, append-snoc}
 use Rattle.whole.specs.Tests.{by, cond-yes, cond-no, and-no}
 use Rattle.rules.specs.Rules.{noNote}
 use Rattle.lists.specs.declared.Listing.{Listing}
-use Rattle.lists.specs.Lists.{Row, row, runs, runsFrom, room, numbers, put, holding, noPlace, emptyListing, Sheet, begins, begun, listingAfter, storeAfter, afterNote, afterNotes, lastNote, afterPieces, IsList, HoweverCut, beginnings, WithoutRoom, NoStore}
+use Rattle.lists.specs.Lists.{Row, row, runs, runsFrom, room, numbers, put, holding, noPlace, emptyListing, Sheet, sheet, begins, begun, listingAfter, storeAfter, afterNote, afterNotes, lastNote, afterPieces, IsList, HoweverCut, beginnings, WithoutRoom, NoStore}
 use Rattle.lists.specs.Runs.{run-none, run-new, run-same, Longer, longer, lengthened-last}
 use Rattle.lists.specs.Stores.{holding-next, holding-last, holding-full, holding-length}
 use Rattle.lists.specs.Folds.{lastNote-append, still, stays}
@@ -32,7 +32,7 @@ pub record Listed (s notes : List ℕ) (k : Sheet) : Type 0 where
   pub store : k .store ≡ holding (runs notes) s
   pub running : (lastNote noNote notes ≡ noNote → ⊥) → Running (room (length s)) (lastNote noNote notes) notes (k .listing)
 
-pub listed-empty : (s : List ℕ) → Listed s [] (record { listing = emptyListing; store = s })
+pub listed-empty : (s : List ℕ) → Listed s [] (sheet emptyListing s)
 unfolding runsFrom holding lastNote numbers
 listed-empty s = record { rows = omega arith; left = omega arith; store = rw (take-nil (room (length s))); running = λ f. absurd (f refl) }
 
@@ -55,7 +55,7 @@ module _ (s z : List ℕ) (n count : ℕ) (l : Listing) (others : List Row) (som
       → (length others < room (length s) → l .place ≡ length others) → (room (length s) ≤ length others → l .place ≡ noPlace)
       → (length others < room (length s) → put z (length others) last-row ≡ holding (others ++ last-row ∷ []) s)
       → (room (length s) ≤ length others → z ≡ holding (others ++ last-row ∷ []) s)
-      → Listed s notes (record { listing = l; store = storeAfter count n l z })
+      → Listed s notes (sheet l (storeAfter count n l z))
   listed-run notes is last e began rows left with-place without-place next full =
       let many : length (runs notes) ≡ length others + 1 = ap length is ∙ length-append others (last-row ∷ []) in
       record {
@@ -107,7 +107,7 @@ module _ (s notes : List ℕ) (k : Sheet) (d : Listed s notes k) where
       }
 
   listed-new : (n : ℕ) → (n ≡ noNote → ⊥) → (lastNote noNote notes ≡ n → ⊥)
-      → let l = begun (room (length s)) (length notes) (k .listing) in Listed s (notes ++ n ∷ []) (record { listing = l; store = storeAfter (suc (length notes)) n l (k .store) })
+      → let l = begun (room (length s)) (length notes) (k .listing) in Listed s (notes ++ n ∷ []) (sheet l (storeAfter (suc (length notes)) n l (k .store)))
   unfolding begun
   listed-new n some other =
       let r = room (length s) in
@@ -136,7 +136,7 @@ module _ (s notes : List ℕ) (k : Sheet) (d : Listed s notes k) where
   unfolding afterNote listingAfter begins storeAfter
   without-note n e = rw e listed-none
 
-  listed-same : (n : ℕ) → (n ≡ noNote → ⊥) → lastNote noNote notes ≡ n → Listed s (notes ++ n ∷ []) (record { listing = k .listing; store = storeAfter (suc (length notes)) n (k .listing) (k .store) })
+  listed-same : (n : ℕ) → (n ≡ noNote → ⊥) → lastNote noNote notes ≡ n → Listed s (notes ++ n ∷ []) (sheet (k .listing) (storeAfter (suc (length notes)) n (k .listing) (k .store)))
   listed-same n some e =
       let r = room (length s) in
       let g : Running r (lastNote noNote notes) notes (k .listing) = d .running (λ f. some (sym e ∙ f)) in
@@ -195,12 +195,12 @@ is-list {s} {notes} d =
 
 pub however-cut : HoweverCut
 unfolding lastNote
-however-cut pieces s = is-list (listed-pieces s [] pieces (record { listing = emptyListing; store = s }) (listed-empty s))
+however-cut pieces s = is-list (listed-pieces s [] pieces (sheet emptyListing s) (listed-empty s))
 
 -- ---- no store
-no-place : (s : List ℕ) (count note : ℕ) (l : Listing) → room (length s) ≡ 0 → storeAfter count note l s ≡ s
+unwritten : (s : List ℕ) (count note : ℕ) (l : Listing) → room (length s) ≡ 0 → storeAfter count note l s ≡ s
 unfolding storeAfter
-no-place s count note l none = cond-no _ s (and-no (not (eqb note noNote)) (le-ltb (l .place) (room (length s)) (omega arith)))
+unwritten s count note l none = cond-no _ s (and-no (not (eqb note noNote)) (le-ltb (l .place) (room (length s)) (omega arith)))
 
 -- one sample, into a store without room
 left-out-one : (last at note : ℕ) (k : Sheet) → room (length (k .store)) ≡ 0 → WithoutRoom last (note ∷ []) k (afterNote last at note k)
@@ -210,8 +210,8 @@ left-out-one last at note k none =
     let r = room (length (k .store)) in
     by (begins last note)
     (λ b. let f : ltb (l .rows) r ≡ false = le-ltb (l .rows) r (omega arith) in
-    record { store = no-place (k .store) (suc at) note _ none; rows = rw (b, f); left = rw (b, f); going-on = λ e. absurd (let z : _≡_ {A = ℕ} 1 0 = rw b at e in omega arith) })
-    (λ b. record { store = no-place (k .store) (suc at) note _ none; rows = rw b; left = rw b (omega arith); going-on = λ e. rw b })
+    record { store = unwritten (k .store) (suc at) note _ none; rows = rw (b, f); left = rw (b, f); going-on = λ e. absurd (let z : _≡_ {A = ℕ} 1 0 = rw b at e in omega arith) })
+    (λ b. record { store = unwritten (k .store) (suc at) note _ none; rows = rw b; left = rw b (omega arith); going-on = λ e. rw b })
 
 pub no-store : NoStore
 unfolding afterNotes beginnings

@@ -73,6 +73,9 @@ pub record Sheet : Type 0 where
   pub listing : Listing
   pub store : List ℕ
 
+abbrev pub sheet : Listing → List ℕ → Sheet
+sheet l s = record { listing = l; store = s }
+
 -- a run begins with a sample that has a note, and not the note of the sample before it
 unfoldable pub begins : (last note : ℕ) → Bool
 begins last note = not (eqb note noNote) && not (eqb note last)
@@ -97,7 +100,7 @@ storeAfter count note l s =
 unfoldable pub afterNote : (last at note : ℕ) → Sheet → Sheet
 afterNote last at note k =
     let l = listingAfter (room (length (k .store))) last at note (k .listing) in
-    record { listing = l; store = storeAfter (suc at) note l (k .store) }
+    sheet l (storeAfter (suc at) note l (k .store))
 
 -- what the notes of samples make of both, one after the other, from sample `at` on
 unfoldable pub afterNotes : (last at : ℕ) → Sheet → List ℕ → Sheet
@@ -138,7 +141,7 @@ pub record IsList (notes s : List ℕ) (k : Sheet) : Type 0 where
 
 -- from the beginning of a list on, however the take is cut, the list is the one worked out afresh from all its notes
 abbrev pub HoweverCut : Type 0
-HoweverCut = (pieces : List (List ℕ)) (s : List ℕ) → IsList (flatten pieces) s (afterPieces noNote 0 (record { listing = emptyListing; store = s }) pieces)
+HoweverCut = (pieces : List (List ℕ)) (s : List ℕ) → IsList (flatten pieces) s (afterPieces noNote 0 (sheet emptyListing s) pieces)
 
 -- ---- No store
 

@@ -6,8 +6,8 @@ use Prim.Native.Nat.{ℕ, zero, suc, _+_, _-_, _*_, _/_, _≤_, _<_, min}
 use native.Mathlib.Omega.{arith}
 use borrow.Author.Tests.{ltb-true}
 use lib.Dec.{ltb, eqb}
-use lib.ListN.{length, take, drop, length-append, length-drop, length-take}
-use lib.Seq.{length-take-le, take-at, drop-at, drop-drop, take-append-le, take-all}
+use lib.ListN.{length, take, drop, set, length-append, length-drop, length-take}
+use lib.Seq.{length-take-le, take-at, drop-at, drop-drop, take-append-le, take-all, sets-eq}
 use Rattle.whole.specs.Tests.{by, cond-yes, cond-no, cond-case, and-right}
 use Rattle.rules.specs.Rules.{noNote}
 use Rattle.lists.specs.declared.Listing.{Listing}
@@ -45,6 +45,16 @@ module _ (s : List ℕ) (place : ℕ) (fits : 3 * place + 3 ≤ length s) where
       let d : drop (3 * place) (put s place r) ≡ rest = drop-at (take (3 * place) s) rest (3 * place) before-place in
       let e : drop (3 * place + 3) (put s place r) ≡ drop (3 * place + 3) s = sym (drop-drop 3 (3 * place) (put s place r)) ∙ ap (drop 3) d in
       λ i. t i ++ q .note ∷ q .first ∷ q .length ∷ e i
+
+  -- number by number
+  pub put-is : (n f k : ℕ) → set (set (set s (3 * place) n) (3 * place + 1) f) (3 * place + 2) k ≡ put s place (row n f k)
+  unfolding put
+  put-is n f k =
+      let one : 3 * place + 1 ≡ suc (3 * place) = omega arith in
+      let two : 3 * place + 2 ≡ suc (suc (3 * place)) = omega arith in
+      (λ i. set (set (set s (3 * place) n) (one i) f) (two i) k)
+      ∙ sets-eq (n ∷ f ∷ k ∷ []) s (3 * place) fits
+      ∙ append-assoc (take (3 * place) s) (n ∷ f ∷ k ∷ []) (drop (3 * place + 3) s)
 
 -- behind the numbers of as many rows
 pub put-behind : (rs : List Row) (q : Row) (t : List ℕ) → put (numbers rs ++ t) (length rs) q ≡ numbers (rs ++ q ∷ []) ++ drop 3 t
