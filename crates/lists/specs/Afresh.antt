@@ -1,21 +1,21 @@
 -- The list that notes leave, one after the other, is the one worked out afresh from all of them, however the take was cut. What runs is carried along: after
 -- each sample the run that goes on is the last row of all.
 use mathlib.Core.Path.{_≡_, refl, sym, ap, _∙_, subst}
-use mathlib.Core.Bool.{Bool, true, false, not, cond, _&&_}
+use mathlib.Core.Bool.{false, not}
 use mathlib.Core.List.{List, [], _∷_, _++_, append-assoc, append-nil, flatten}
-use Prim.Native.Nat.{ℕ, zero, suc, _+_, _-_, _≤_, _<_, min}
+use Prim.Native.Nat.{ℕ, suc, _+_, _-_, _≤_, _<_, min}
 use native.Mathlib.Omega.{arith}
-use borrow.Author.Tests.{ltb-true, ltb-false, eqb-true, eqb-false, lt-ltb, le-ltb, eq-eqb, ne-eqb}
+use borrow.Author.Tests.{ltb-true, ltb-false, eqb-true, eqb-false, lt-ltb, le-ltb, ne-eqb}
 use lib.Dec.{ltb, eqb}
-use lib.ListN.{length, take, drop, length-append, length-take, length-drop}
+use lib.ListN.{length, take, length-append, length-take, length-drop}
 use lib.Seq.{take-nil, append-snoc}
-use Rattle.whole.specs.Tests.{by, cond-yes, cond-no, and-no}
+use Rattle.whole.specs.Tests.{by, cond-no, and-no}
 use Rattle.rules.specs.Rules.{noNote}
 use Rattle.lists.specs.declared.Listing.{Listing}
 use Rattle.lists.specs.Lists.{Row, row, runs, runsFrom, room, numbers, put, holding, noPlace, emptyListing, Sheet, sheet, begins, begun, listingAfter, storeAfter, afterNote, afterNotes, lastNote, afterPieces, IsList, HoweverCut, beginnings, WithoutRoom, NoStore}
 use Rattle.lists.specs.Runs.{run-none, run-new, run-same, Longer, longer, lengthened-last}
 use Rattle.lists.specs.Stores.{holding-next, holding-last, holding-full, holding-length}
-use Rattle.lists.specs.Folds.{lastNote-append, still, stays}
+use Rattle.lists.specs.Folds.{lastNote-append}
 
 -- the run that goes on is the last row of all, and has its place where there was room for it
 pub record Running (room last : ℕ) (notes : List ℕ) (l : Listing) : Type 0 where

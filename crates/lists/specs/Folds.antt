@@ -1,33 +1,38 @@
 -- Laws of what notes make of a listing and its store: in two calls as in one, a stretch of equal notes at once, and a listing that may be kept is left so.
 use mathlib.Core.Path.{_≡_, refl, sym, ap, _∙_, subst}
-use mathlib.Core.Bool.{Bool, true, false, not, cond, _&&_}
+use mathlib.Core.Bool.{false, not}
 use mathlib.Core.List.{List, [], _∷_, _++_, append-assoc, append-nil}
 use Prim.Native.Nat.{ℕ, zero, suc, _+_, _-_, _≤_, _<_}
 use native.Mathlib.Numerals.{add-one}
 use native.Mathlib.Omega.{arith}
-use borrow.Author.Tests.{ltb-true, eq-eqb, ne-eqb}
+use borrow.Author.Tests.{ltb-true, eq-eqb}
 use lib.Dec.{ltb, eqb}
 use lib.ListN.{length, getD, take, replicate, replicate-append-replicate}
 use lib.Seq.{length-take-le, take-suc}
 use Rattle.whole.specs.Tests.{cond-case, cond-no, and-no}
 use Rattle.rules.specs.Rules.{noNote}
 use Rattle.lists.specs.declared.Listing.{Listing}
-use Rattle.lists.specs.Lists.{mostRows, room, noPlace, emptyListing, Sheet, sheet, begins, begun, listingAfter, storeAfter, afterNote, afterNotes, lastNote, PlaceIn, listed, left-out, ListingIn}
+use Rattle.lists.specs.Lists.{room, noPlace, emptyListing, Sheet, sheet, begins, begun, listingAfter, storeAfter, afterNote, afterNotes, lastNote, PlaceIn, listed, left-out, ListingIn}
 use Rattle.lists.specs.Stores.{storeAfter-length, storeAfter-twice}
 
 -- ---- in two calls as in one
 pub lastNote-append : (last : ℕ) (xs ys : List ℕ) → lastNote last (xs ++ ys) ≡ lastNote (lastNote last xs) ys
 unfolding lastNote
 lastNote-append last [] ys = refl
-lastNote-append last (n ∷ xs) ys = lastNote-append n xs ys
+lastNote-append last (n ∷ xs) ys = lastNote-append _ xs ys
+
+-- of samples with one note
+lastNote-level : (last note n : ℕ) → lastNote last (replicate (suc n) note) ≡ note
+unfolding lastNote
+lastNote-level last note zero = refl
+lastNote-level last note (suc n) = lastNote-level note note n
 
 pub afterNotes-append : (last at : ℕ) (k : Sheet) (xs ys : List ℕ) → afterNotes last at k (xs ++ ys) ≡ afterNotes (lastNote last xs) (at + length xs) (afterNotes last at k xs) ys
 unfolding afterNotes lastNote
 afterNotes-append last at k [] ys = let e : at ≡ at + 0 = omega arith in ap (λ (n : ℕ). afterNotes last n k ys) e
 afterNotes-append last at k (n ∷ xs) ys =
-    let e : suc at + length xs ≡ at + suc (length xs) = omega arith in
-    afterNotes-append n (suc at) (afterNote last at n k) xs ys
-    ∙ ap (λ (m : ℕ). afterNotes (lastNote n xs) m (afterNotes n (suc at) (afterNote last at n k) xs) ys) e
+    let e : at + suc (length xs) ≡ suc at + length xs = omega arith in
+    rw e (afterNotes-append _ (suc at) (afterNote last at n k) xs ys)
 
 -- ---- a stretch of equal notes: its run begins once, and its row is written once
 pub stays : (last : ℕ) → begins last last ≡ false
@@ -78,11 +83,6 @@ level-more notes from to note f h e l =
     ∙ (λ i. l i ++ e i ∷ [])
     ∙ append-assoc (take from notes) (replicate (to - from) note) (note ∷ [])
     ∙ ap (λ (r : List ℕ). take from notes ++ r) (replicate-append-replicate (to - from) 1 note ∙ ap (λ (j : ℕ). replicate j note) m)
-
-lastNote-level : (last note n : ℕ) → lastNote last (replicate (suc n) note) ≡ note
-unfolding lastNote
-lastNote-level last note zero = refl
-lastNote-level last note (suc n) = lastNote-level note note n
 
 module _ {notes : List ℕ} {n from to : ℕ} (v : Level notes n from to) (h : n ≤ length notes) where
   abbrev level-note : ℕ
@@ -137,6 +137,12 @@ later-in h i = record { rows = i .rows; runs = omega (arith, i .runs); place = i
 pub listing-in : (n last at note : ℕ) {l : Listing} → ListingIn at l → ListingIn (suc at) (listingAfter (room n) last at note l)
 unfolding listingAfter
 listing-in n last at note {l} i = cond-case (begins last note) _ l (ListingIn (suc at)) (λ e. begun-in n at i) (λ e. later-in (omega arith) i)
+
+-- a run that goes on has begun
+pub first-within : (n last at note : ℕ) (l : Listing) → l .first ≤ at → listingAfter n last at note l .first ≤ at
+unfolding listingAfter begun
+first-within n last at note l h =
+    cond-case (begins last note) _ l (λ (z : Listing). z .first ≤ at) (λ e. cond-case (ltb (l .rows) n) _ _ (λ (z : Listing). z .first ≤ at) (λ f. omega arith) (λ f. omega arith)) (λ e. h)
 
 pub afterNotes-in : (last at : ℕ) (k : Sheet) (notes : List ℕ) → ListingIn at (k .listing) → ListingIn (at + length notes) (afterNotes last at k notes .listing)
 unfolding afterNotes afterNote

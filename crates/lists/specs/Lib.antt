@@ -3,3 +3,4 @@ pub mod Runs
 pub mod Stores
 pub mod Folds
 pub mod Afresh
+pub mod Worked

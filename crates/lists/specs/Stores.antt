@@ -1,17 +1,17 @@
 -- Laws of a store: a row written at a place, where it has room.
 use mathlib.Core.Path.{_≡_, refl, sym, ap, _∙_}
-use mathlib.Core.Bool.{Bool, true, false, not, cond, _&&_}
+use mathlib.Core.Bool.{not, _&&_}
 use mathlib.Core.List.{List, [], _∷_, _++_, append-assoc}
-use Prim.Native.Nat.{ℕ, zero, suc, _+_, _-_, _*_, _/_, _≤_, _<_, min}
+use Prim.Native.Nat.{ℕ, suc, _+_, _-_, _*_, _≤_, _<_}
 use native.Mathlib.Omega.{arith}
 use borrow.Author.Tests.{ltb-true}
 use lib.Dec.{ltb, eqb}
 use lib.ListN.{length, take, drop, set, length-append, length-drop, length-take}
 use lib.Seq.{length-take-le, take-at, drop-at, drop-drop, take-append-le, take-all, sets-eq}
-use Rattle.whole.specs.Tests.{by, cond-yes, cond-no, cond-case, and-right}
+use Rattle.whole.specs.Tests.{by, cond-case, and-right}
 use Rattle.rules.specs.Rules.{noNote}
 use Rattle.lists.specs.declared.Listing.{Listing}
-use Rattle.lists.specs.Lists.{Row, row, mostRows, room, numbers, put, holding, storeAfter}
+use Rattle.lists.specs.Lists.{Row, row, room, numbers, put, holding, storeAfter}
 
 pub numbers-length : (rs : List Row) → length (numbers rs) ≡ 3 * length rs
 unfolding numbers

@@ -1,7 +1,7 @@
 // The list of the notes sung: rows of note, first sample and length in a lent store, three numbers a row. The store is written and never read.
 ghost use mathlib.Core.Path.{_≡_};
 ghost use Prim.Native.Nat.{_+_, _-_, _*_, _≤_, _<_};
-ghost use lib.ListN.{length, take, drop, getD, replicate};
+ghost use lib.ListN.{length, take};
 ghost use Rattle.whole.specs.Tests.{Decides};
 ghost use Rattle.rules.specs.Rules.{takeLimit};
 ghost use Rattle.lists.specs.Lists.{row, room, put, emptyListing, sheet, begun, listingAfter, storeAfter, afterNotes, PlaceIn, ListingIn};

@@ -4,7 +4,7 @@ use mathlib.Core.Path.{_≡_, refl}
 use mathlib.Core.List.{_++_}
 use Prim.Native.Nat.{_-_, _≤_, _<_}
 use native.Mathlib.Omega.{arith}
-use lib.ListN.{take, getD, replicate}
+use lib.ListN.{take, replicate}
 use Rattle.lists.specs.Folds.{level-none, level-more}
 use Rattle.lists.proofs.level.Statement.{statement}
 use Rattle.lists.proofs.level.Tie as tie

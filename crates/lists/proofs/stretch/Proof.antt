@@ -7,7 +7,7 @@ use borrow.Author.Needs.{needs}
 use lib.ListN.{length}
 use Rattle.lists.specs.declared.Listing.{Listing}
 use Rattle.lists.specs.Lists.{room, sheet, listingAfter, storeAfter}
-use Rattle.lists.specs.Folds.{afterStretch, listing-in}
+use Rattle.lists.specs.Folds.{afterStretch, first-within}
 use Rattle.lists.proofs.stretch.Statement.{statement}
 use Rattle.lists.proofs.stretch.Tie as tie
 
@@ -26,8 +26,9 @@ listed-requires c κs = search needs
 write-requires : tie.Need-write-requires
 write-requires c κs =
     let s = c .before .before .before .before in
-    let i = listing-in (length (s .args .store .now)) (s .args .last) (s .args .at) (s .args .note) (s .pre .0) in
-    omega (arith, i .first, ap (λ (l : Listing). l .first) (with-is (c .before)), s .pre .1)
+    let a = s .args in
+    let f = first-within (room (length (a .store .now))) (a .last) (a .at) (a .note) (a .l) (s .pre .0 .first) in
+    omega (arith, f, ap (λ (l : Listing). l .first) (with-is (c .before)), s .pre .1)
 
 same-length : tie.Need-same-length
 same-length c = search needs
