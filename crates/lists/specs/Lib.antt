@@ -1,0 +1,6 @@
+pub mod Lists
+pub mod Runs
+pub mod Stores
+pub mod Folds
+pub mod Afresh
+pub mod Worked
