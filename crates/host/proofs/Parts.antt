@@ -1,4 +1,4 @@
--- A lent record in its parts: its five arrays, each a cell of its own, and the way back to the record's cell with any others in their place; what is known of each part; and what is owed of a record that is put together of them.
+-- A lent record in its parts: what a block may change of it, five arrays and seven numbers, each a cell of its own, and the way back to the record's cell with any others in their place; what is known of each part, and of a record that is put together of them; how its numbers are read, and what a block leaves is stored.
 -- Assumes `Given`.
 use mathlib.Core.Path.{_≡_, refl, sym, ap, subst}
 use mathlib.Core.List.{List, [], _∷_, _++_, map, map-id}
@@ -229,21 +229,37 @@ module _ (r : Record) (vs : List Val) (is : Is T.the-row r vs) where
 
 -- ---- the cells
 
--- the arrays' cells, in a record at (b, o), and the record's
-abbrev pub energies-cell : ℕ → ℕ → List ℕ → Fml
-energies-cell b o xs = fat fullShare (tyArray (tyInt w64) 109) b (o + 8 + 40 + 8) (Energies .val xs)
+-- where the arrays lie, in a record at o
+abbrev pub energies-at : ℕ → ℕ
+energies-at o = o + 8 + 40 + 8
 
-abbrev pub correlations-cell : ℕ → ℕ → List ℤ → Fml
-correlations-cell b o xs = fat fullShare (tyArray (tyInt w64) 109) b (o + 8 + 40 + 880) (Correlations .val xs)
+abbrev pub correlations-at : ℕ → ℕ
+correlations-at o = o + 8 + 40 + 880
 
-abbrev pub store-cell : ℕ → ℕ → List ℤ → Fml
-store-cell b o xs = fat fullShare (tyArray (tyInt w16) 1764) b (o + 8 + 40 + 1752) (Samples 1764 .val xs)
+abbrev pub store-at : ℕ → ℕ
+store-at o = o + 8 + 40 + 1752
 
-abbrev pub eighths-cell : ℕ → ℕ → List ℤ → Fml
-eighths-cell b o xs = fat fullShare (tyArray (tyInt w16) 224) b (o + 8 + 40 + 5280) (Samples 224 .val xs)
+abbrev pub eighths-at : ℕ → ℕ
+eighths-at o = o + 8 + 40 + 5280
 
-abbrev pub out-cell : ℕ → ℕ → List ℤ → Fml
-out-cell b o xs = fat fullShare (tyArray (tyInt w16) 512) b (o + 8 + 5936 + 8) (Samples 512 .val xs)
+abbrev pub out-at : ℕ → ℕ
+out-at o = o + 8 + 5936 + 8
+
+-- the arrays' cells there, and the record's
+abbrev energies-cell : ℕ → ℕ → List ℕ → Fml
+energies-cell b o xs = fat fullShare (tyArray (tyInt w64) 109) b (energies-at o) (Energies .val xs)
+
+abbrev correlations-cell : ℕ → ℕ → List ℤ → Fml
+correlations-cell b o xs = fat fullShare (tyArray (tyInt w64) 109) b (correlations-at o) (Correlations .val xs)
+
+abbrev store-cell : ℕ → ℕ → List ℤ → Fml
+store-cell b o xs = fat fullShare (tyArray (tyInt w16) 1764) b (store-at o) (Samples 1764 .val xs)
+
+abbrev eighths-cell : ℕ → ℕ → List ℤ → Fml
+eighths-cell b o xs = fat fullShare (tyArray (tyInt w16) 224) b (eighths-at o) (Samples 224 .val xs)
+
+abbrev out-cell : ℕ → ℕ → List ℤ → Fml
+out-cell b o xs = fat fullShare (tyArray (tyInt w16) 512) b (out-at o) (Samples 512 .val xs)
 
 pub held : ℕ → ℕ → Record → Fml
 held b o r = fat fullShare T′.mir b o (T′.lowered r)

@@ -145,8 +145,9 @@ fn taken(
         dropped: last_dropped,
     };
     if !holds(layout) {
+        let answer = answers::plain(9);
         return Left {
-            answer: answers::plain(9),
+            answer: answer,
             count: count,
             pitch: pitch,
             head: head,

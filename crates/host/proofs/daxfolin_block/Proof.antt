@@ -1,7 +1,7 @@
 -- `host::daxfolin_block` meets its contract: a walk of its MIR, by hand. The borrow of the record is opened, its numbers are copied and its five arrays lent for a lifetime of the call; `taken` is called with them and the two slices, `out` for good; the arrays come back, the numbers that it returns are stored, and the borrow is closed at what is then the record.
 -- Assumes nothing.
 use mathlib.Core.Path.{_≡_, refl}
-use Prim.Native.Nat.{ℕ, zero, suc, _+_, _<_, _^_}
+use Prim.Native.Nat.{ℕ, zero, suc, _<_, _^_}
 use mathlib.Core.List.{[], _∷_, _++_, List}
 use lib.Dec.{T as DT}
 use lib.IntN.{ℤ}
@@ -64,7 +64,7 @@ use Rattle.host.proofs.Record as T
 use Rattle.host.proofs.Record.Laws as T′
 use Rattle.host.proofs.Lent.{mach, behind, opened, closed, by-walk}
 use Rattle.host.proofs.Locals.{gather, scatter, Setting, rooms, filled, sets, freed}
-use Rattle.host.proofs.Parts.{Changes, changesOf, changedBy, changed, changed-is, Told, layout-is, of-tuner, heard-is, last-is, of-last, arrays-are, settings-is, keyboard-is, pitch-is, head-is, count-is, Energies, Correlations, Samples, held, cells, Back, parted, rejoined, holding, letting, lent-new, settled, Read, layout-read, settings-read, hertz-read, keyboard-read, count-read, pitch-read, head-read, number-read, length-read, repeated-read, dropped-read, to-tuner, to-heard, to-last}
+use Rattle.host.proofs.Parts.{Changes, changesOf, changedBy, changed, changed-is, Told, layout-is, of-tuner, heard-is, last-is, of-last, arrays-are, settings-is, keyboard-is, pitch-is, head-is, count-is, Energies, Correlations, Samples, energies-at, correlations-at, store-at, eighths-at, out-at, held, cells, Back, parted, rejoined, holding, letting, lent-new, settled, Read, layout-read, settings-read, hertz-read, keyboard-read, count-read, pitch-read, head-read, number-read, length-read, repeated-read, dropped-read, to-tuner, to-heard, to-last}
 use Rattle.host.proofs.taken as taken
 use Rattle.host.proofs.taken.Symbol as taken-def
 use Rattle.host.proofs.taken.Symbol.{name as #host·taken}
@@ -139,14 +139,14 @@ module _ {M : Type 1} (𝓤 : URA M) (H : Heap 𝓤) (A : Atoms 𝓤) (W : Given
                         (
                           h .tuner .last .dropped,
                           (
-                            record { ptr = (b, o + 8 + 40 + 8); name = γ₀; now = h .tuner .heard .energies },
+                            record { ptr = (b, energies-at o); name = γ₀; now = h .tuner .heard .energies },
                             (
-                              record { ptr = (b, o + 8 + 40 + 880); name = γ₁; now = h .tuner .heard .correlations },
+                              record { ptr = (b, correlations-at o); name = γ₁; now = h .tuner .heard .correlations },
                               (
-                                record { ptr = (b, o + 8 + 40 + 1752); name = γ₂; now = h .tuner .heard .store },
+                                record { ptr = (b, store-at o); name = γ₂; now = h .tuner .heard .store },
                                 (
-                                  record { ptr = (b, o + 8 + 40 + 5280); name = γ₃; now = h .tuner .heard .eighths },
-                                  (record { ptr = (b, o + 8 + 5936 + 8); name = γ₄; now = h .tuner .last .out }, (n, (x, (y, tt)))),
+                                  record { ptr = (b, eighths-at o); name = γ₃; now = h .tuner .heard .eighths },
+                                  (record { ptr = (b, out-at o); name = γ₄; now = h .tuner .last .out }, (n, (x, (y, tt)))),
                                 ),
                               ),
                             ),
@@ -187,15 +187,15 @@ module _ {M : Type 1} (𝓤 : URA M) (H : Heap 𝓤) (A : Atoms 𝓤) (W : Given
                         (
                           vint w16 (h .tuner .last .dropped) ∷ [],
                           (
-                            vptr b (o + 8 + 40 + 8) ∷ [],
+                            vptr b (energies-at o) ∷ [],
                             (
-                              vptr b (o + 8 + 40 + 880) ∷ [],
+                              vptr b (correlations-at o) ∷ [],
                               (
-                                vptr b (o + 8 + 40 + 1752) ∷ [],
+                                vptr b (store-at o) ∷ [],
                                 (
-                                  vptr b (o + 8 + 40 + 5280) ∷ [],
+                                  vptr b (eighths-at o) ∷ [],
                                   (
-                                    vptr b (o + 8 + 5936 + 8) ∷ [],
+                                    vptr b (out-at o) ∷ [],
                                     (vint w16 n ∷ [], (slice-vals x, (slice-vals y, tt))),
                                   ),
                                 ),
@@ -226,8 +226,8 @@ module _ {M : Type 1} (𝓤 : URA M) (H : Heap 𝓤) (A : Atoms 𝓤) (W : Given
     -- what is kept meanwhile: the lenders' parts, the numbers' cells and the way back
     abbrev meanwhile : List (Item 𝓤)
     meanwhile =
-        ‵ (flent (α₄ ∷ []) (Body (mem (Array i16 512)) b (o + 8 + 5936 + 8) γ₄)) ∷ ‵ (flent (α₃ ∷ []) (Body (mem (Array i16 224)) b (o + 8 + 40 + 5280) γ₃)) ∷ ‵ (flent (α₂ ∷ []) (Body (mem (Array i16 1764)) b (o + 8 + 40 + 1752) γ₂)) ∷
-        ‵ (flent (α₁ ∷ []) (Body (mem (Array i64 109)) b (o + 8 + 40 + 880) γ₁)) ∷ ‵ (flent (α₀ ∷ []) (Body (mem (Array u64 109)) b (o + 8 + 40 + 8) γ₀)) ∷ raw (⋆ 𝓤 H A (tail 5 (cells b o (changesOf h)) ++ (raw (Back 𝓤 H A b o h) ∷ []))) ∷ []
+        ‵ (flent (α₄ ∷ []) (Body (mem (Array i16 512)) b (out-at o) γ₄)) ∷ ‵ (flent (α₃ ∷ []) (Body (mem (Array i16 224)) b (eighths-at o) γ₃)) ∷ ‵ (flent (α₂ ∷ []) (Body (mem (Array i16 1764)) b (store-at o) γ₂)) ∷
+        ‵ (flent (α₁ ∷ []) (Body (mem (Array i64 109)) b (correlations-at o) γ₁)) ∷ ‵ (flent (α₀ ∷ []) (Body (mem (Array u64 109)) b (energies-at o) γ₀)) ∷ raw (⋆ 𝓤 H A (tail 5 (cells b o (changesOf h)) ++ (raw (Back 𝓤 H A b o h) ∷ []))) ∷ []
 
     -- the record's parts with the last values of the arrays, and what `taken` ensures of them
     abbrev left : Lasts taken.ended κs passed → Changes
@@ -248,11 +248,11 @@ module _ {M : Type 1} (𝓤 : URA M) (H : Heap 𝓤) (A : Atoms 𝓤) (W : Given
         -- [Rest; Shr; the record; onward]
         move ! (2 ∷ 0 ∷ 3 ∷ 1 ∷ []) $ parted ! b o h $ move ! (5 ∷ 6 ∷ 7 ∷ 8 ∷ 9 ∷ 10 ∷ 11 ∷ 12 ∷ []) $ gather (tail 5 (cells b o (changesOf h)) ++ (raw (Back 𝓤 H A b o h) ∷ [])) $
         -- [numbers and way; energies; correlations; store; eighths; out; Rest; onward; Shr]
-        move ! (1 ∷ []) $ lent-new ! z Energies (named 0) (h .tuner .heard .energies) b (o + 8 + 40 + 8) (are .energies) (λ α₀ γ₀.
-        move ! (4 ∷ []) $ lent-new ! z Correlations (named 1) (h .tuner .heard .correlations) b (o + 8 + 40 + 880) (are .correlations) (λ α₁ γ₁.
-        move ! (7 ∷ []) $ lent-new ! z (Samples 1764) (named 2) (h .tuner .heard .store) b (o + 8 + 40 + 1752) (are .store) (λ α₂ γ₂.
-        move ! (10 ∷ []) $ lent-new ! z (Samples 224) (named 3) (h .tuner .heard .eighths) b (o + 8 + 40 + 5280) (are .eighths) (λ α₃ γ₃.
-        move ! (13 ∷ []) $ lent-new ! z (Samples 512) (named 4) (h .tuner .last .out) b (o + 8 + 5936 + 8) (are .out) (λ α₄ γ₄.
+        move ! (1 ∷ []) $ lent-new ! z Energies (named 0) (h .tuner .heard .energies) b (energies-at o) (are .energies) (λ α₀ γ₀.
+        move ! (4 ∷ []) $ lent-new ! z Correlations (named 1) (h .tuner .heard .correlations) b (correlations-at o) (are .correlations) (λ α₁ γ₁.
+        move ! (7 ∷ []) $ lent-new ! z (Samples 1764) (named 2) (h .tuner .heard .store) b (store-at o) (are .store) (λ α₂ γ₂.
+        move ! (10 ∷ []) $ lent-new ! z (Samples 224) (named 3) (h .tuner .heard .eighths) b (eighths-at o) (are .eighths) (λ α₃ γ₃.
+        move ! (13 ∷ []) $ lent-new ! z (Samples 512) (named 4) (h .tuner .last .out) b (out-at o) (are .out) (λ α₄ γ₄.
         -- [out lent; the lender's part; its token; the same of eighths, store, correlations and energies; numbers and way; Rest; onward; Shr]
         move ! (0 ∷ 16 ∷ []) $ fjoin ! $ move ! (3 ∷ 0 ∷ []) $ fjoin ! $ move ! (5 ∷ 0 ∷ []) $ fjoin ! $ move ! (7 ∷ 0 ∷ []) $ fjoin ! $ move ! (9 ∷ 0 ∷ []) $ fjoin ! $
         owned ! u16 (Is u16) (uint-makes 𝓤 H A W w16) (h .tuner .last .dropped) _ (of-last h _ is .1 .1 .1 .0) $ fjoin ! $
@@ -286,11 +286,11 @@ module _ {M : Type 1} (𝓤 : URA M) (H : Heap 𝓤) (A : Atoms 𝓤) (W : Given
         -- [out's last list; those of out, eighths, store, correlations and energies; tokens and result; what was kept meanwhile]
         move ! (7 ∷ []) $ scatter (meanwhile α₀ α₁ α₂ α₃ α₄ γ₀ γ₁ γ₂ γ₃ γ₄) $ move ! (12 ∷ []) $ split ! $ split ! $
         -- [the first token; the others; the result; five lenders' parts; numbers and way; out's last list; five last values]
-        lft-end ! z $ move ! (0 ∷ 7 ∷ 14 ∷ []) $ back-mut ! z Energies (zs .1 .1 .1 .1 .1 .1 .1 .1 .1 .1 .1 .0) b (o + 8 + 40 + 8) (λ is₀. move ! (1 ∷ []) $ split ! $
-        lft-end ! z $ move ! (0 ∷ 7 ∷ 13 ∷ []) $ back-mut ! z Correlations (zs .1 .1 .1 .1 .1 .1 .1 .1 .1 .1 .1 .1 .0) b (o + 8 + 40 + 880) (λ is₁. move ! (1 ∷ []) $ split ! $
-        lft-end ! z $ move ! (0 ∷ 7 ∷ 12 ∷ []) $ back-mut ! z (Samples 1764) (zs .1 .1 .1 .1 .1 .1 .1 .1 .1 .1 .1 .1 .1 .0) b (o + 8 + 40 + 1752) (λ is₂. move ! (1 ∷ []) $ split ! $
-        lft-end ! z $ move ! (0 ∷ 7 ∷ 11 ∷ []) $ back-mut ! z (Samples 224) (zs .1 .1 .1 .1 .1 .1 .1 .1 .1 .1 .1 .1 .1 .1 .0) b (o + 8 + 40 + 5280) (λ is₃. move ! (1 ∷ []) $ split ! $
-        lft-end ! z $ move ! (0 ∷ 7 ∷ 10 ∷ []) $ back-mut ! z (Samples 512) (zs .1 .1 .1 .1 .1 .1 .1 .1 .1 .1 .1 .1 .1 .1 .1 .0) b (o + 8 + 5936 + 8) (λ is₄.
+        lft-end ! z $ move ! (0 ∷ 7 ∷ 14 ∷ []) $ back-mut ! z Energies (zs .1 .1 .1 .1 .1 .1 .1 .1 .1 .1 .1 .0) b (energies-at o) (λ is₀. move ! (1 ∷ []) $ split ! $
+        lft-end ! z $ move ! (0 ∷ 7 ∷ 13 ∷ []) $ back-mut ! z Correlations (zs .1 .1 .1 .1 .1 .1 .1 .1 .1 .1 .1 .1 .0) b (correlations-at o) (λ is₁. move ! (1 ∷ []) $ split ! $
+        lft-end ! z $ move ! (0 ∷ 7 ∷ 12 ∷ []) $ back-mut ! z (Samples 1764) (zs .1 .1 .1 .1 .1 .1 .1 .1 .1 .1 .1 .1 .1 .0) b (store-at o) (λ is₂. move ! (1 ∷ []) $ split ! $
+        lft-end ! z $ move ! (0 ∷ 7 ∷ 11 ∷ []) $ back-mut ! z (Samples 224) (zs .1 .1 .1 .1 .1 .1 .1 .1 .1 .1 .1 .1 .1 .1 .0) b (eighths-at o) (λ is₃. move ! (1 ∷ []) $ split ! $
+        lft-end ! z $ move ! (0 ∷ 7 ∷ 10 ∷ []) $ back-mut ! z (Samples 512) (zs .1 .1 .1 .1 .1 .1 .1 .1 .1 .1 .1 .1 .1 .1 .1 .0) b (out-at o) (λ is₄.
         -- [out; the tokens of samples and out; eighths; store; correlations; energies; the result; numbers and way; out's last list]
         move ! (7 ∷ []) $ scatter (tail 5 (cells b o (changesOf h)) ++ (raw (Back 𝓤 H A b o h) ∷ [])) $ move ! (13 ∷ 12 ∷ 11 ∷ 10 ∷ 8 ∷ 0 ∷ 1 ∷ 2 ∷ 3 ∷ 4 ∷ 5 ∷ 6 ∷ []) $ gather (cells b o (left α₀ α₁ α₂ α₃ α₄ γ₀ γ₁ γ₂ γ₃ γ₄ zs)) $
         move ! (3 ∷ []) $ peeks ! N.the-row (Is N.the-row) (shows 𝓤 H A N.the-row) r (w ∷ []) (λ is. k r (left α₀ α₁ α₂ α₃ α₄ γ₀ γ₁ γ₂ γ₃ γ₄ zs) (zs .1 .1 .1 .1 .1 .1 .1 .1 .1 .1 .1 .1 .1 .1 .1 .1 .1 .1 .0) e l (record { energies = is₀; correlations = is₁; store = is₂; eighths = is₃; out = is₄ }) is))))))))))
@@ -336,11 +336,11 @@ module _ {M : Type 1} (𝓤 : URA M) (H : Heap 𝓤) (A : Atoms 𝓤) (W : Given
         copied 14 l₁₄ (tyInt w16) (field 1 ∷ field 6 ∷ field 1 ∷ []) (vint w16 (h .tuner .last .length)) refl (length-read (Go {0}) W E ref l₁ refl b o h !) (tt, record { fits = of-last h _ is .1 .0 .1 }) ∷
         copied 15 l₁₅ (tyInt w16) (field 1 ∷ field 6 ∷ field 2 ∷ []) (vint w16 (h .tuner .last .repeated)) refl (repeated-read (Go {0}) W E ref l₁ refl b o h !) (tt, record { fits = of-last h _ is .1 .1 .0 .1 }) ∷
         copied 16 l₁₆ (tyInt w16) (field 1 ∷ field 6 ∷ field 3 ∷ []) (vint w16 (h .tuner .last .dropped)) refl (dropped-read (Go {0}) W E ref l₁ refl b o h !) (tt, record { fits = of-last h _ is .1 .1 .1 .0 .1 }) ∷
-        named-at 17 l₁₇ (tyRef erased mut (tyArray (tyInt w64) 109)) (field 1 ∷ field 3 ∷ field 1 ∷ []) (o + 8 + 40 + 8) refl (λ Γ. (_, from ! (hop ! (look ! 1 refl) (to-tuner ! (to-heard ! (fld ! {d = 8} refl (stop !))))))) (tt, tt) ∷
-        named-at 18 l₁₈ (tyRef erased mut (tyArray (tyInt w64) 109)) (field 1 ∷ field 3 ∷ field 2 ∷ []) (o + 8 + 40 + 880) refl (λ Γ. (_, from ! (hop ! (look ! 1 refl) (to-tuner ! (to-heard ! (fld ! {d = 880} refl (stop !))))))) (tt, tt) ∷
-        named-at 19 l₁₉ (tyRef erased mut (tyArray (tyInt w16) 1764)) (field 1 ∷ field 3 ∷ field 3 ∷ []) (o + 8 + 40 + 1752) refl (λ Γ. (_, from ! (hop ! (look ! 1 refl) (to-tuner ! (to-heard ! (fld ! {d = 1752} refl (stop !))))))) (tt, tt) ∷
-        named-at 20 l₂₀ (tyRef erased mut (tyArray (tyInt w16) 224)) (field 1 ∷ field 3 ∷ field 4 ∷ []) (o + 8 + 40 + 5280) refl (λ Γ. (_, from ! (hop ! (look ! 1 refl) (to-tuner ! (to-heard ! (fld ! {d = 5280} refl (stop !))))))) (tt, tt) ∷
-        named-at 21 l₂₁ (tyRef erased mut (tyArray (tyInt w16) 512)) (field 1 ∷ field 6 ∷ field 4 ∷ []) (o + 8 + 5936 + 8) refl (λ Γ. (_, from ! (hop ! (look ! 1 refl) (to-tuner ! (to-last ! (fld ! {d = 8} refl (stop !))))))) (tt, tt) ∷ []
+        named-at 17 l₁₇ (tyRef erased mut (tyArray (tyInt w64) 109)) (field 1 ∷ field 3 ∷ field 1 ∷ []) (energies-at o) refl (λ Γ. (_, from ! (hop ! (look ! 1 refl) (to-tuner ! (to-heard ! (fld ! {d = 8} refl (stop !))))))) (tt, tt) ∷
+        named-at 18 l₁₈ (tyRef erased mut (tyArray (tyInt w64) 109)) (field 1 ∷ field 3 ∷ field 2 ∷ []) (correlations-at o) refl (λ Γ. (_, from ! (hop ! (look ! 1 refl) (to-tuner ! (to-heard ! (fld ! {d = 880} refl (stop !))))))) (tt, tt) ∷
+        named-at 19 l₁₉ (tyRef erased mut (tyArray (tyInt w16) 1764)) (field 1 ∷ field 3 ∷ field 3 ∷ []) (store-at o) refl (λ Γ. (_, from ! (hop ! (look ! 1 refl) (to-tuner ! (to-heard ! (fld ! {d = 1752} refl (stop !))))))) (tt, tt) ∷
+        named-at 20 l₂₀ (tyRef erased mut (tyArray (tyInt w16) 224)) (field 1 ∷ field 3 ∷ field 4 ∷ []) (eighths-at o) refl (λ Γ. (_, from ! (hop ! (look ! 1 refl) (to-tuner ! (to-heard ! (fld ! {d = 5280} refl (stop !))))))) (tt, tt) ∷
+        named-at 21 l₂₁ (tyRef erased mut (tyArray (tyInt w16) 512)) (field 1 ∷ field 6 ∷ field 4 ∷ []) (out-at o) refl (λ Γ. (_, from ! (hop ! (look ! 1 refl) (to-tuner ! (to-last ! (fld ! {d = 8} refl (stop !))))))) (tt, tt) ∷ []
 
   module _ (C : Calls 𝓤 H) (Λ : Loops 𝓤 H) (fm : FmC 𝓤 H (W .laws) C) (known : Triple 𝓤 (C #host·taken) (Called 𝓤 H A mem′ run)) where
     walk : Room i16 (length (x .now)) → Room i16 (length (y .now)) → ent 𝓤 (onEntry 𝓤 H A self.signature (κ, (κ₁, (κ₂, tt))) (q, (q₁, (q₂, tt))) a vals) (WpFn 𝓤 H C Λ code.function (vptr b o ∷ vint w16 n ∷ sliceVal (x .ptr) (length (x .now)) ∷ sliceVal (y .ptr) (length (y .now)) ∷ []) Post)
