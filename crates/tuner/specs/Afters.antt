@@ -21,7 +21,7 @@ use Rattle.pitch.specs.Listening.{lags-of}
 use Rattle.pitch.specs.Keeping.{right-energies, right-correlations}
 use Rattle.steps.specs.declared.Progress.{Progress}
 use Rattle.steps.specs.Eighths.{Eighths}
-use Rattle.steps.specs.Running.{takeSoFar, Tones, Ready, Ran, Begins, Ended}
+use Rattle.steps.specs.Running.{takeSoFar, Tones, tonesGiven, Ready, Ran, Begins, Ended}
 use Rattle.record.specs.Records.{soundOf}
 use Rattle.record.specs.Parts.{Stores}
 use Rattle.tuner.specs.declared.Tuner.{Tuner}
@@ -131,6 +131,9 @@ module _ (t : Tuner) (g : Good t) (st : Stores (t .heard)) {xs s y : List ℤ} (
 
     out-is : zeros ≡ replicate 512 (pos 0) → out ≡ samplesOut (gives (forceOf t) (takeOf t) xs) ++ drop (length xs) (replicate 512 (pos 0))
     out-is z = ran .out ∙ (λ i. samplesOut (end-gives i) ++ drop (length (block-is i)) (z i))
+
+    pub tones-are : ts′ ≡ tonesGiven ts (gives (forceOf t) (takeOf t) xs)
+    tones-are = ran .tone ∙ ap (tonesGiven ts) end-gives
 
     pub after-is : (number : ℕ) {store eighths : List ℤ} {w : KeptPitch} → zeros ≡ replicate 512 (pos 0) → store ≡ take (length (t .heard .store)) (drop (length xs) s) → eighths ≡ take (length (t .heard .eighths)) (drop (q .places - 224) y′)
         → ((x : Sound) → PitchRight x (q .pitch) → w ≡ keptOf (pitchOf (q .pitch)) x)

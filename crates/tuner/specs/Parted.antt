@@ -14,7 +14,9 @@ use Rattle.record.specs.declared.Last.{Last}
 use Rattle.record.specs.Parts.{heardOf}
 use Rattle.tuner.specs.declared.LastNumbers.{LastNumbers}
 use Rattle.tuner.specs.declared.Tuner.{Tuner}
-use Rattle.tuner.specs.Tuners.{takeOf, afterBlock, Good, Verdict}
+use Rattle.rules.specs.Rules.{gives}
+use Rattle.steps.specs.Running.{Tones, tonesGiven}
+use Rattle.tuner.specs.Tuners.{takeOf, forceOf, afterBlock, Good, Verdict}
 
 -- the last block with these numbers and this output
 abbrev pub lastWith : LastNumbers → List ℤ → Last
@@ -39,3 +41,7 @@ pub last-unread : (settings : Settings) (hertz : ℕ) (keyboard : Keyboard) (hea
     → afterBlock (tunerOf settings hertz keyboard heard pitch head last) number xs ≡ afterBlock (tunerOf settings hertz keyboard heard pitch head last′) number xs
 unfolding afterBlock takeOf
 last-unread settings hertz keyboard heard pitch head last last′ number xs = refl
+
+-- the tones after the samples of a block, from the first place on: those that the rules give
+abbrev pub Told : Tuner → List ℤ → (before after : Tones) → Type 0
+Told t xs before after = after ≡ tonesGiven before (gives (forceOf t) (takeOf t) xs)

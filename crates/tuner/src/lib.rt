@@ -28,7 +28,9 @@ ghost use Rattle.rules.specs.Rules.{defaults, cdRate, takeLimit, longestBlock, 
 ghost use Rattle.record.specs.declared.Last.{Last};
 ghost use Rattle.record.specs.Records.{AllRight};
 ghost use Rattle.record.specs.Parts.{heardOf, Stores};
-ghost use Rattle.tuner.specs.Parted.{tunerOf, lastWith, given, Judged};
+ghost use Rattle.record.specs.Records.{noLast};
+ghost use Rattle.steps.specs.Running.{tones, Long512};
+ghost use Rattle.tuner.specs.Parted.{tunerOf, lastWith, given, Judged, Told};
 ghost use Rattle.tuner.specs.Tuners.{Good, freshTuner, afterBlock, Took, Started, Changed, Reset, Keyed, Metered};
 
 // The record, in its parts.
@@ -132,7 +134,7 @@ pub fn start_default() -> Taken
 }
 
 // The number of the answer to a block, with so much room for the output, by the parts of a good record that it is judged by.
-fn judge_parts(
+pub fn judge_parts(
     count: u64,
     last: LastNumbers,
     store: &[i16; KEPT_SAMPLES],
@@ -156,8 +158,9 @@ fn judge_parts(
     answers::judge_number(count, last.number, last.length, store, number, samples)
 }
 
-// A block is taken, over the parts of a record: the lent arrays become those of the tuner after it.
-fn take_parts(
+// A block is taken, over the parts of a record: the lent arrays become those of the tuner after it. What the rules give for each sample is told beside it:
+// period, wanted note and rate.
+pub fn take_told(
     settings: Settings,
     hertz: u64,
     keys: Keyboard,
@@ -171,9 +174,12 @@ fn take_parts(
     kept: &mut [i16; LONGEST_BLOCK],
     number: u16,
     samples: &[i16],
+    periods: &mut [u32; LONGEST_BLOCK],
+    notes: &mut [u32; LONGEST_BLOCK],
+    rates: &mut [u32; LONGEST_BLOCK],
 ) -> Left
-    requires { ⌜ ((l : Last) × AllRight settings hertz keys (heardOf count (now energies) (now correlations) (now store) (now eighths)) v head l) × Stores (heardOf count (now energies) (now correlations) (now store) (now eighths)) × (length (now kept) ≡ longestBlock) × (0 < length (now samples)) × (length (now samples) ≤ longestBlock) × (count + length (now samples) ≤ takeLimit) ⌝ }
-    ensures { λ r. ⌜ ((l : Last) → tunerOf settings hertz keys (heardOf (r .count) (now (energies .exit)) (now (correlations .exit)) (now (store .exit)) (now (eighths .exit))) (r .pitch) (r .head) (lastWith (r .last) (now (kept .exit))) ≡ afterBlock (tunerOf settings hertz keys (heardOf count (now (energies .entry)) (now (correlations .entry)) (now (store .entry)) (now (eighths .entry))) v head l) number (now (samples .entry))) × (r .answer ≡ given 0 (now (samples .entry)) (r .last)) × Stores (heardOf (r .count) (now (energies .exit)) (now (correlations .exit)) (now (store .exit)) (now (eighths .exit))) ⌝ }
+    requires { ⌜ ((l : Last) × AllRight settings hertz keys (heardOf count (now energies) (now correlations) (now store) (now eighths)) v head l) × Stores (heardOf count (now energies) (now correlations) (now store) (now eighths)) × (length (now kept) ≡ longestBlock) × (0 < length (now samples)) × (length (now samples) ≤ longestBlock) × (count + length (now samples) ≤ takeLimit) × Long512 (tones (now periods) (now notes) (now rates)) ⌝ }
+    ensures { λ r. ⌜ ((l : Last) → tunerOf settings hertz keys (heardOf (r .count) (now (energies .exit)) (now (correlations .exit)) (now (store .exit)) (now (eighths .exit))) (r .pitch) (r .head) (lastWith (r .last) (now (kept .exit))) ≡ afterBlock (tunerOf settings hertz keys (heardOf count (now (energies .entry)) (now (correlations .entry)) (now (store .entry)) (now (eighths .entry))) v head l) number (now (samples .entry))) × (r .answer ≡ given 0 (now (samples .entry)) (r .last)) × Stores (heardOf (r .count) (now (energies .exit)) (now (correlations .exit)) (now (store .exit)) (now (eighths .exit))) × Told (tunerOf settings hertz keys (heardOf count (now (energies .entry)) (now (correlations .entry)) (now (store .entry)) (now (eighths .entry))) v head noLast) (now (samples .entry)) (tones (now (periods .entry)) (now (notes .entry)) (now (rates .entry))) (tones (now (periods .exit)) (now (notes .exit)) (now (rates .exit))) ⌝ }
 {
     let rate = hertz as u32;
     let f = InForce {
@@ -187,9 +193,6 @@ fn take_parts(
     let mut y = [0i16; OPEN_EIGHTHS];
     copying::front(&mut y, eighths);
     copying::clear(kept);
-    let mut periods = [0u32; LONGEST_BLOCK];
-    let mut notes = [0u32; LONGEST_BLOCK];
-    let mut rates = [0u32; LONGEST_BLOCK];
     let from = count as u32;
     let behind = head.behind as u32;
     let p = Progress {
@@ -210,9 +213,9 @@ fn take_parts(
         KEPT_SAMPLES,
         n,
         kept,
-        &mut periods,
-        &mut notes,
-        &mut rates,
+        periods,
+        notes,
+        rates,
     );
     copying::keep(store, &s, n);
     copying::keep(eighths, &y, q.places - KEPT_EIGHTHS);
@@ -240,6 +243,48 @@ fn take_parts(
             dropped: dropped,
         },
     }
+}
+
+// A block is taken, over the parts of a record: the lent arrays become those of the tuner after it.
+fn take_parts(
+    settings: Settings,
+    hertz: u64,
+    keys: Keyboard,
+    count: u64,
+    energies: &mut [u64; EIGHTH_LAGS],
+    correlations: &mut [i64; EIGHTH_LAGS],
+    store: &mut [i16; KEPT_SAMPLES],
+    eighths: &mut [i16; KEPT_EIGHTHS],
+    v: Pitch,
+    head: Head,
+    kept: &mut [i16; LONGEST_BLOCK],
+    number: u16,
+    samples: &[i16],
+) -> Left
+    requires { ⌜ ((l : Last) × AllRight settings hertz keys (heardOf count (now energies) (now correlations) (now store) (now eighths)) v head l) × Stores (heardOf count (now energies) (now correlations) (now store) (now eighths)) × (length (now kept) ≡ longestBlock) × (0 < length (now samples)) × (length (now samples) ≤ longestBlock) × (count + length (now samples) ≤ takeLimit) ⌝ }
+    ensures { λ r. ⌜ ((l : Last) → tunerOf settings hertz keys (heardOf (r .count) (now (energies .exit)) (now (correlations .exit)) (now (store .exit)) (now (eighths .exit))) (r .pitch) (r .head) (lastWith (r .last) (now (kept .exit))) ≡ afterBlock (tunerOf settings hertz keys (heardOf count (now (energies .entry)) (now (correlations .entry)) (now (store .entry)) (now (eighths .entry))) v head l) number (now (samples .entry))) × (r .answer ≡ given 0 (now (samples .entry)) (r .last)) × Stores (heardOf (r .count) (now (energies .exit)) (now (correlations .exit)) (now (store .exit)) (now (eighths .exit))) ⌝ }
+{
+    let mut periods = [0u32; LONGEST_BLOCK];
+    let mut notes = [0u32; LONGEST_BLOCK];
+    let mut rates = [0u32; LONGEST_BLOCK];
+    take_told(
+        settings,
+        hertz,
+        keys,
+        count,
+        energies,
+        correlations,
+        store,
+        eighths,
+        v,
+        head,
+        kept,
+        number,
+        samples,
+        &mut periods,
+        &mut notes,
+        &mut rates,
+    )
 }
 
 // A block over the parts of a record that is known to be good: taken, given again or refused.
