@@ -9,12 +9,12 @@
                                             eleventh block is given again, and a refused one is sent before it. HERTZ: the sample rate, 44100
                                             unless said, as it is for all else
      bench sizes                            bytes of each program's record, and of the stack below a block call
-     bench stacks                           bytes of the stack below each of the library's calls
      bench tracked SOUND                    how much of the sound is tracked, in tenths of a per cent
 
    Of two runs with different COUNT the counts of executed instructions differ by the calls alone: the sound is always made whole, and the sum
    always taken over a minute. */
 #include "daxfolin.h"
+#include "paint.h"
 #include "plain.h"
 #include "sounds.h"
 
@@ -167,123 +167,38 @@ static int compare(uint32_t hertz, size_t block, size_t warm, size_t count)
     return failures != 0;
 }
 
-/* The stack: it is painted below this frame, the call is made, and the lowest byte that changed is looked for. */
-enum { PAINTED = 1 << 18, PAINT = 0xa5 };
-static uintptr_t bottom;
-
-static __attribute__((noinline)) void paint(void)
-{
-    volatile uint8_t room[PAINTED];
-    for (size_t i = 0; i < PAINTED; i++) room[i] = PAINT;
-    bottom = (uintptr_t)room;
-}
-
-static __attribute__((noinline)) uintptr_t lowest_changed(void)
-{
-    const volatile uint8_t *p = (const volatile uint8_t *)bottom;
-    while (*p == PAINT) p++;
-    return (uintptr_t)p;
-}
-
-/* Calls that do nothing, with the parameters of those that are measured. */
-#define NOTHING(result, name, ...) static __attribute__((noinline)) result nothing_##name(__VA_ARGS__)
-#define UNSEEN __asm__ volatile("" ::: "memory")
-NOTHING(answer, take, uint16_t n, const int16_t *samples, size_t length, int16_t *to, size_t room)
+static __attribute__((noinline)) answer nothing(uint16_t n, const int16_t *samples, size_t length, int16_t *to, size_t room)
 {
     __asm__ volatile("" ::"r"(samples), "r"(to), "r"(length), "r"(room) : "memory");
     return (answer){n, 0, 0, 0};
 }
-NOTHING(uint32_t, start, daxfolin_record *r, uint32_t hertz, daxfolin_settings s) { UNSEEN; return (uint32_t)(uintptr_t)r + hertz + s.scale; }
-NOTHING(uint32_t, change, daxfolin_record *r, daxfolin_settings s) { UNSEEN; return (uint32_t)(uintptr_t)r + s.scale; }
-NOTHING(uint32_t, reset, daxfolin_record *r) { UNSEEN; return (uint32_t)(uintptr_t)r; }
-NOTHING(uint32_t, midi, daxfolin_record *r, const uint8_t *bytes, size_t n) { UNSEEN; return (uint32_t)((uintptr_t)r + (uintptr_t)bytes + n); }
-NOTHING(daxfolin_shown, meter, const daxfolin_record *r) { UNSEEN; return (daxfolin_shown){(uint32_t)(uintptr_t)r, 0, 0, 0, 0}; }
-NOTHING(daxfolin_answer, block, daxfolin_record *r, uint16_t n, const int16_t *samples, size_t length, int16_t *to, size_t room)
-{
-    __asm__ volatile("" ::"r"(r), "r"(samples), "r"(to), "r"(length), "r"(room) : "memory");
-    return (daxfolin_answer){n, 0, 0, 0};
-}
 
-/* A call as it is measured, made by the function itself or by the one that does nothing; it gives the number answered. */
-typedef uint32_t way(bool nothing);
-#define WAY(name) static __attribute__((noinline)) uint32_t way_##name(bool nothing)
-static const daxfolin_settings defaults = DAXFOLIN_DEFAULTS;
-static const uint8_t key[3] = {144, 60, 100};
-static size_t sent, length = 512;
-WAY(library) { return (nothing ? nothing_take : library_block)(number, in + sent, length, out, 512).number; }
-WAY(night) { return (nothing ? nothing_take : library_night_block)(number, in + sent, length, out, 512).number; }
-WAY(plain) { return (nothing ? nothing_take : plain_take)(number, in + sent, length, out, 512).number; }
-WAY(start) { return (nothing ? nothing_start : daxfolin_start)(&tuner, DAXFOLIN_CD, defaults); }
-WAY(start_default) { return (nothing ? nothing_reset : daxfolin_start_default)(&tuner); }
-WAY(change) { return (nothing ? nothing_change : daxfolin_change)(&tuner, defaults); }
-WAY(block) { return (nothing ? nothing_block : daxfolin_block)(&tuner, number, in + sent, length, out, 512).number; }
-WAY(midi) { return (nothing ? nothing_midi : daxfolin_midi)(&tuner, key, 3); }
-WAY(reset) { return (nothing ? nothing_reset : daxfolin_reset)(&tuner); }
-WAY(meter) { return (nothing ? nothing_meter : daxfolin_meter)(&tuner).state; }
+typedef answer call(uint16_t, const int16_t *, size_t, int16_t *, size_t);
 
-static __attribute__((noinline)) uintptr_t below(way *w, bool nothing, uint32_t *answered)
+static __attribute__((noinline)) uintptr_t below(call *f, uint16_t n, size_t at)
 {
     paint();
-    *answered = w(nothing);
+    f(n, in + at, 512, out + at, 512);
     return lowest_changed();
 }
 
-/* The depth of a call, below that of one which does nothing; it must be answered as expected. */
-static uintptr_t depth(way *w, uint32_t expected)
+/* The greatest depth over a stretch of singing, the first search and tracking among it, below that of a call which does nothing. */
+static uintptr_t stack_of(const program *p)
 {
-    uint32_t answered;
-    uintptr_t top = below(w, true, &answered), low = below(w, false, &answered);
-    failures += answered != expected;
-    return top - low;
-}
-
-/* The greatest over a stretch of singing, the first search and tracking among it. */
-static uintptr_t depth_taken(way *w)
-{
-    uintptr_t most = 0;
-    for (number = 0, sent = 0; number < 200; number++, sent += 512) {
-        uintptr_t d = depth(w, DAXFOLIN_TAKEN);
-        if (d > most) most = d;
+    uintptr_t top = below(nothing, 0, 0), lowest = top;
+    start(p, DAXFOLIN_CD);
+    for (uint16_t n = 0; n < 200; n++) {
+        uintptr_t deep = below(p->block, n, 512 * (size_t)n);
+        if (deep < lowest) lowest = deep;
     }
-    return most;
+    return top - lowest;
 }
 
 static int sizes(void)
 {
-    static way *const ways[PROGRAMS] = {way_library, way_plain, way_night};
     sound('a', in, MINUTE);
-    for (int i = 0; i < PROGRAMS; i++) {
-        start(&programs[i], DAXFOLIN_CD);
-        printf("%s record %lu stack %lu\n", programs[i].name, programs[i].record, depth_taken(ways[i]));
-    }
-    return failures != 0;
-}
-
-static int stacks(void)
-{
-    sound('a', in, MINUTE);
-    printf("start %lu\n", depth(way_start, DAXFOLIN_TAKEN));
-    printf("start with the defaults %lu\n", depth(way_start_default, DAXFOLIN_TAKEN));
-    printf("change %lu\n", depth(way_change, DAXFOLIN_TAKEN));
-    printf("block taken %lu\n", depth_taken(way_block));
-    start(&programs[0], DAXFOLIN_CD);
-    printf("night of one block %lu\n", depth_taken(way_night));
-    number--, sent -= 512;
-    printf("block given again %lu\n", depth(way_block, DAXFOLIN_GIVEN_AGAIN));
-    length = 511;
-    printf("block refused, 6 %lu\n", depth(way_block, DAXFOLIN_OTHER_SAMPLES));
-    number += 9, length = 512;
-    printf("block refused, 5 %lu\n", depth(way_block, DAXFOLIN_NUMBER_NEITHER));
-    printf("keyboard bytes %lu\n", depth(way_midi, DAXFOLIN_TAKEN));
-    printf("meter %lu\n", depth(way_meter, DAXFOLIN_PITCHED));
-    tuner.heard.energies[108]++;
-    printf("block refused, 9 %lu\n", depth(way_block, DAXFOLIN_RECORD_OUT_OF_RANGE));
-    tuner.heard.energies[108]--;
-    tuner.layout--;
-    printf("block refused, 9 by the layout %lu\n", depth(way_block, DAXFOLIN_RECORD_OUT_OF_RANGE));
-    tuner.layout++;
-    printf("reset %lu\n", depth(way_reset, DAXFOLIN_TAKEN));
-    return failures != 0;
+    for (int i = 0; i < PROGRAMS; i++) printf("%s record %lu stack %lu\n", programs[i].name, programs[i].record, stack_of(&programs[i]));
+    return 0;
 }
 
 static int tracked(char which)
@@ -304,7 +219,6 @@ static size_t whole(const char *word) { return (size_t)strtol(word, 0, 10); }
 int main(int argc, char **argv)
 {
     if (argc == 2 && !strcmp(argv[1], "sizes")) return sizes();
-    if (argc == 2 && !strcmp(argv[1], "stacks")) return stacks();
     if (argc == 3 && !strcmp(argv[1], "tracked")) return tracked(argv[2][0]);
     if ((argc == 6 || argc == 7) && !strcmp(argv[1], "compare")) {
         sound(argv[2][0], in, MINUTE);
