@@ -1,13 +1,24 @@
 -- The list of the notes sung: a row of note, first sample and length for each longest run of samples with the same wanted note. Definitions only.
--- A sample's wanted note is the one of its tone: 0 to 127, and `noNote`, 128, where there is none. Without a period there is none (`noTone` of the rules).
+-- Notes are numbers, 0 to 127, and `noNote`, 128, where there is none.
 use mathlib.Core.Path.{_≡_}
 use mathlib.Core.Bool.{Bool, not, cond, _&&_}
-use mathlib.Core.List.{List, [], _∷_, _++_, flatten}
+use mathlib.Core.List.{List, [], _∷_, _++_, map, flatten}
 use Prim.Native.Nat.{ℕ, suc, _+_, _-_, _*_, _/_, _≤_, _<_, min}
 use lib.Dec.{ltb, eqb}
 use lib.ListN.{length, take, drop}
-use Rattle.rules.specs.Rules.{noNote}
+use Rattle.rules.specs.declared.Tone.{Tone}
+use Rattle.rules.specs.Rules.{noNote, Given}
 use Rattle.lists.specs.declared.Listing.{Listing}
+
+-- ---- Notes
+
+-- the note of a sample in the list: the wanted note of its tone, and none without a period
+unfoldable pub sungNote : Tone → ℕ
+sungNote t = cond (eqb (t .period) 0) noNote (t .note)
+
+-- the notes of samples, by what the rules give for each
+abbrev pub notesSung : List Given → List ℕ
+notesSung gs = map (λ (g : Given). sungNote (g .tone)) gs
 
 -- ---- Rows
 

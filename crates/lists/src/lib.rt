@@ -5,7 +5,7 @@ ghost use Prim.Native.Nat.{_+_, _-_, _*_, _≤_, _<_};
 ghost use lib.ListN.{length, take};
 ghost use Rattle.whole.specs.Tests.{Decides};
 ghost use Rattle.rules.specs.Rules.{takeLimit};
-ghost use Rattle.lists.specs.Lists.{row, room, put, emptyListing, sheet, begun, listingAfter, storeAfter, afterNotes, PlaceIn, ListingIn};
+ghost use Rattle.lists.specs.Lists.{sungNote, row, room, put, emptyListing, sheet, begun, listingAfter, storeAfter, afterNotes, PlaceIn, ListingIn};
 ghost use Rattle.lists.specs.Folds.{afterStretch, Level, Four};
 
 // The most rows of a list.
@@ -80,6 +80,16 @@ pub fn right(l: Listing, count: u64) -> bool
         return false;
     }
     place_right(l.rows, l.place)
+}
+
+// The note of a sample in the list, by its tone.
+pub fn sung(t: rules::Tone) -> u32
+    ensures { λ r. ⌜ r ≡ sungNote t ⌝ }
+{
+    if t.period == 0 {
+        return rules::NO_NOTE;
+    }
+    t.note
 }
 
 // A run begins.
