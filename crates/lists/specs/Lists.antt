@@ -154,6 +154,15 @@ pub record IsList (notes s : List ℕ) (k : Sheet) : Type 0 where
 abbrev pub HoweverCut : Type 0
 HoweverCut = (pieces : List (List ℕ)) (s : List ℕ) → IsList (flatten pieces) s (afterPieces noNote 0 (sheet emptyListing s) pieces)
 
+-- ---- Any store
+
+-- whatever listing may be kept, and whatever store is lent, the store is left as long as it was, and behind the rows so far it is left as it was
+abbrev pub NothingBehind : Type 0
+NothingBehind =
+    (last at : ℕ) (notes : List ℕ) (k : Sheet) → ListingIn at (k .listing)
+    → let after = afterNotes last at k notes in
+    (length (after .store) ≡ length (k .store)) × (drop (3 * after .listing .rows) (after .store) ≡ drop (3 * after .listing .rows) (k .store))
+
 -- ---- No store
 
 -- how many runs begin with these notes
