@@ -5,3 +5,4 @@ pub mod Folds
 pub mod Afresh
 pub mod Worked
 pub mod Sung
+pub mod Longest

@@ -2,10 +2,11 @@
 -- Notes are numbers, 0 to 127, and `noNote`, 128, where there is none.
 use mathlib.Core.Path.{_≡_}
 use mathlib.Core.Bool.{Bool, not, cond, _&&_}
+use mathlib.Core.Logic.{_⊎_}
 use mathlib.Core.List.{List, [], _∷_, _++_, map, flatten}
 use Prim.Native.Nat.{ℕ, suc, _+_, _-_, _*_, _/_, _≤_, _<_, min}
 use lib.Dec.{ltb, eqb}
-use lib.ListN.{length, take, drop}
+use lib.ListN.{length, getD, take, drop}
 use Rattle.rules.specs.declared.Tone.{Tone}
 use Rattle.rules.specs.Rules.{noNote, Given}
 use Rattle.lists.specs.declared.Listing.{Listing}
@@ -45,6 +46,34 @@ runsFrom at (note ∷ notes) = let later = runsFrom (suc at) notes in cond (eqb 
 -- the rows of a take, worked out afresh from the notes of all its samples
 abbrev pub runs : List ℕ → List Row
 runs notes = runsFrom 0 notes
+
+-- ---- What rows are
+
+-- the note of sample number i; none outside the take
+abbrev pub noteAt : List ℕ → ℕ → ℕ
+noteAt notes i = getD notes i noNote
+
+-- a longest run: there is a sample in it, all have the note, and the samples beside it have not
+pub record LongestRun (notes : List ℕ) (r : Row) : Type 0 where
+  pub some : 0 < r .length
+  pub sung : r .note ≡ noNote → ⊥
+  pub same : (i : ℕ) → i < r .length → noteAt notes (r .first + i) ≡ r .note
+  pub ahead : (i : ℕ) → suc i ≡ r .first → noteAt notes i ≡ r .note → ⊥
+  pub behind : noteAt notes (r .first + r .length) ≡ r .note → ⊥
+
+-- each row a longest run, one behind the other, from a sample on
+unfoldable pub LongestRuns : ℕ → List ℕ → List Row → Type 0
+LongestRuns from notes [] = Unit
+LongestRuns from notes (r ∷ rs) = (from ≤ r .first) × LongestRun notes r × LongestRuns (r .first + r .length) notes rs
+
+-- a sample is in one of the rows
+unfoldable pub InRow : ℕ → List Row → Type 0
+InRow i [] = ⊥
+InRow i (r ∷ rs) = ((r .first ≤ i) × (i < r .first + r .length)) ⊎ InRow i rs
+
+-- the rows of a take are longest runs in order, and every sample with a note is in one
+abbrev pub RowsAreRuns : Type 0
+RowsAreRuns = (notes : List ℕ) → LongestRuns 0 notes (runs notes) × ((i : ℕ) → (noteAt notes i ≡ noNote → ⊥) → InRow i (runs notes))
 
 -- ---- The store
 
