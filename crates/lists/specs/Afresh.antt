@@ -1,21 +1,21 @@
 -- The list that notes leave, one after the other, is the one worked out afresh from all of them, however the take was cut. What runs is carried along: after
 -- each sample the run that goes on is the last row of all.
 use mathlib.Core.Path.{_≡_, refl, sym, ap, _∙_, subst}
-use mathlib.Core.Bool.{false, not}
+use mathlib.Core.Bool.{false, not, _&&_}
 use mathlib.Core.List.{List, [], _∷_, _++_, append-assoc, append-nil, flatten}
-use Prim.Native.Nat.{ℕ, suc, _+_, _-_, _≤_, _<_, min}
+use Prim.Native.Nat.{ℕ, suc, _+_, _-_, _*_, _≤_, _<_, min}
 use native.Mathlib.Omega.{arith}
 use borrow.Author.Tests.{ltb-true, ltb-false, eqb-true, eqb-false, lt-ltb, le-ltb, ne-eqb}
 use lib.Dec.{ltb, eqb}
-use lib.ListN.{length, take, length-append, length-take, length-drop}
+use lib.ListN.{length, take, drop, length-append, length-take, length-drop}
 use lib.Seq.{take-nil, append-snoc}
-use Rattle.whole.specs.Tests.{by, cond-no, and-no}
+use Rattle.whole.specs.Tests.{by, cond-no, cond-case, and-no, and-right}
 use Rattle.rules.specs.Rules.{noNote}
 use Rattle.lists.specs.declared.Listing.{Listing}
-use Rattle.lists.specs.Lists.{Row, row, runs, runsFrom, room, numbers, put, holding, noPlace, emptyListing, Sheet, sheet, begins, begun, listingAfter, storeAfter, afterNote, afterNotes, lastNote, afterPieces, IsList, HoweverCut, beginnings, WithoutRoom, NoStore}
+use Rattle.lists.specs.Lists.{Row, row, runs, runsFrom, room, numbers, put, holding, noPlace, emptyListing, Sheet, sheet, begins, begun, listingAfter, storeAfter, afterNote, afterNotes, lastNote, afterPieces, IsList, PlaceIn, listed, left-out, ListingIn, HoweverCut, NothingBehind, beginnings, WithoutRoom, NoStore}
 use Rattle.lists.specs.Runs.{run-none, run-new, run-same, Longer, longer, lengthened-last}
-use Rattle.lists.specs.Stores.{holding-next, holding-last, holding-full, holding-length}
-use Rattle.lists.specs.Folds.{lastNote-append}
+use Rattle.lists.specs.Stores.{in-room, put-before, holding-next, holding-last, holding-full, holding-length}
+use Rattle.lists.specs.Folds.{lastNote-append, afterNotes-length, listing-in}
 
 -- the run that goes on is the last row of all, and has its place where there was room for it
 pub record Running (room last : ℕ) (notes : List ℕ) (l : Listing) : Type 0 where
@@ -196,6 +196,43 @@ is-list {s} {notes} d =
 pub however-cut : HoweverCut
 unfolding lastNote
 however-cut pieces s = is-list (listed-pieces s [] pieces (sheet emptyListing s) (listed-empty s))
+
+-- ---- any store
+rows-grow : (n last at note : ℕ) (l : Listing) → l .rows ≤ listingAfter n last at note l .rows
+unfolding listingAfter begun
+rows-grow n last at note l =
+    cond-case (begins last note) _ l (λ (z : Listing). l .rows ≤ z .rows) (λ e. cond-case (ltb (l .rows) n) _ _ (λ (z : Listing). l .rows ≤ z .rows) (λ f. omega arith) (λ f. omega arith)) (λ e. omega arith)
+
+all-grow : (last at : ℕ) (k : Sheet) (notes : List ℕ) → k .listing .rows ≤ afterNotes last at k notes .listing .rows
+unfolding afterNotes afterNote
+all-grow last at k [] = omega arith
+all-grow last at k (n ∷ notes) = omega (arith, rows-grow (room (length (k .store))) last at n (k .listing), all-grow n (suc at) (afterNote last at n k) notes)
+
+-- a row is written before the rows so far end
+behind-one : (m count note : ℕ) (l : Listing) (s : List ℕ) → l .rows ≤ m → PlaceIn (l .rows) (l .place) → drop (3 * m) (storeAfter count note l s) ≡ drop (3 * m) s
+unfolding storeAfter
+behind-one m count note l s h p =
+    cond-case (not (eqb note noNote) && ltb (l .place) (room (length s))) _ s (λ (z : List ℕ). drop (3 * m) z ≡ drop (3 * m) s)
+    (λ e.
+    let f = ltb-true (l .place) (room (length s)) (and-right (not (eqb note noNote)) _ e) in
+    put-before s (l .place) (in-room (l .place) (length s) f) _ m (in-rows (length s) p f h))
+    (λ e. refl)
+  where
+    in-rows : {rows place m : ℕ} (n : ℕ) → PlaceIn rows place → place < room n → rows ≤ m → place < m
+    in-rows n (listed l) f h = omega arith
+    in-rows n (left-out e) f h = absurd (omega arith)
+
+behind : (m last at : ℕ) (k : Sheet) (notes : List ℕ) → ListingIn at (k .listing) → afterNotes last at k notes .listing .rows ≤ m
+    → drop (3 * m) (afterNotes last at k notes .store) ≡ drop (3 * m) (k .store)
+unfolding afterNotes afterNote
+behind m last at k [] i h = refl
+behind m last at k (n ∷ notes) i h =
+    let j = listing-in (length (k .store)) last at n i in
+    behind m n (suc at) (afterNote last at n k) notes j h
+    ∙ behind-one m (suc at) n _ (k .store) (omega (arith, all-grow n (suc at) (afterNote last at n k) notes)) (j .place)
+
+pub nothing-behind : NothingBehind
+nothing-behind last at notes k i = (afterNotes-length last at k notes, behind (afterNotes last at k notes .listing .rows) last at k notes i (omega arith))
 
 -- ---- no store
 unwritten : (s : List ℕ) (count note : ℕ) (l : Listing) → room (length s) ≡ 0 → storeAfter count note l s ≡ s

@@ -69,20 +69,45 @@ pub record Level (notes : List ℕ) (n from to : ℕ) : Type 0 where
   pub within : to ≤ n
   pub level : take to notes ≡ take from notes ++ replicate (to - from) (getD notes from 0)
 
--- no sample yet
-pub level-none : (notes : List ℕ) (from note : ℕ) → take from notes ≡ take from notes ++ replicate (from - from) note
-level-none notes from note = let z : from - from ≡ 0 = omega arith in rw z (sym (append-nil (take from notes)))
+-- four samples with a note
+pub record Four (notes : List ℕ) (at note : ℕ) : Type 0 where
+  pub first : getD notes at 0 ≡ note
+  pub second : getD notes (at + 1) 0 ≡ note
+  pub third : getD notes (at + 2) 0 ≡ note
+  pub fourth : getD notes (at + 3) 0 ≡ note
 
--- one sample more with that note
-pub level-more : (notes : List ℕ) (from to note : ℕ) → from ≤ to → to < length notes → getD notes to 0 ≡ note → take to notes ≡ take from notes ++ replicate (to - from) note
-    → take (to + 1) notes ≡ take from notes ++ replicate (to + 1 - from) note
-level-more notes from to note f h e l =
-    let m : to - from + 1 ≡ to + 1 - from = omega arith in
-    ap (λ (j : ℕ). take j notes) (add-one to)
-    ∙ take-suc notes to 0 h
-    ∙ (λ i. l i ++ e i ∷ [])
-    ∙ append-assoc (take from notes) (replicate (to - from) note) (note ∷ [])
-    ∙ ap (λ (r : List ℕ). take from notes ++ r) (replicate-append-replicate (to - from) 1 note ∙ ap (λ (j : ℕ). replicate j note) m)
+module _ (notes : List ℕ) (n from : ℕ) (h : n ≤ length notes) where
+  -- one sample more with that note
+  longer-level : (to : ℕ) → from ≤ to → to < n → getD notes to 0 ≡ getD notes from 0 → take to notes ≡ take from notes ++ replicate (to - from) (getD notes from 0) → Level notes n from (to + 1)
+  longer-level to f l e v =
+      let note = getD notes from 0 in
+      let m : to - from + 1 ≡ to + 1 - from = omega arith in
+      record {
+        forth = omega arith;
+        within = omega arith;
+        level =
+            ap (λ (j : ℕ). take j notes) (add-one to)
+            ∙ take-suc notes to 0 (omega arith)
+            ∙ (λ i. v i ++ e i ∷ [])
+            ∙ append-assoc (take from notes) (replicate (to - from) note) (note ∷ [])
+            ∙ ap (λ (r : List ℕ). take from notes ++ r) (replicate-append-replicate (to - from) 1 note ∙ ap (λ (j : ℕ). replicate j note) m);
+      }
+
+  pub level-one : from < n → Level notes n from (from + 1)
+  level-one l = let z : from - from ≡ 0 = omega arith in longer-level from (omega arith) l refl (rw z (sym (append-nil (take from notes))))
+
+  pub level-more : (to : ℕ) → Level notes n from to → to < n → getD notes to 0 ≡ getD notes from 0 → Level notes n from (to + 1)
+  level-more to v l e = longer-level to (omega (arith, v .forth)) l e (v .level)
+
+  pub level-four : (to : ℕ) → Level notes n from to → to + 4 ≤ n → Four notes to (getD notes from 0) → Level notes n from (to + 4)
+  level-four to v l q =
+      let two : to + 1 + 1 ≡ to + 2 = omega arith in
+      let three : to + 2 + 1 ≡ to + 3 = omega arith in
+      let four : to + 3 + 1 ≡ to + 4 = omega arith in
+      let a = level-more to v (omega arith) (q .first) in
+      let b = level-more (to + 1) a (omega arith) (q .second) in
+      let c = level-more (to + 2) (rw two at b) (omega arith) (q .third) in
+      rw four at (level-more (to + 3) (rw three at c) (omega arith) (q .fourth))
 
 module _ {notes : List ℕ} {n from to : ℕ} (v : Level notes n from to) (h : n ≤ length notes) where
   abbrev level-note : ℕ

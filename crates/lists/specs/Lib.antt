@@ -4,3 +4,5 @@ pub mod Stores
 pub mod Folds
 pub mod Afresh
 pub mod Worked
+pub mod Sung
+pub mod Longest

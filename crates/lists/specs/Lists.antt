@@ -1,13 +1,25 @@
 -- The list of the notes sung: a row of note, first sample and length for each longest run of samples with the same wanted note. Definitions only.
--- A sample's wanted note is the one of its tone: 0 to 127, and `noNote`, 128, where there is none. Without a period there is none (`noTone` of the rules).
+-- Notes are numbers, 0 to 127, and `noNote`, 128, where there is none.
 use mathlib.Core.Path.{_≡_}
 use mathlib.Core.Bool.{Bool, not, cond, _&&_}
-use mathlib.Core.List.{List, [], _∷_, _++_, flatten}
+use mathlib.Core.Logic.{_⊎_}
+use mathlib.Core.List.{List, [], _∷_, _++_, map, flatten}
 use Prim.Native.Nat.{ℕ, suc, _+_, _-_, _*_, _/_, _≤_, _<_, min}
 use lib.Dec.{ltb, eqb}
-use lib.ListN.{length, take, drop}
-use Rattle.rules.specs.Rules.{noNote}
+use lib.ListN.{length, getD, take, drop}
+use Rattle.rules.specs.declared.Tone.{Tone}
+use Rattle.rules.specs.Rules.{noNote, Given}
 use Rattle.lists.specs.declared.Listing.{Listing}
+
+-- ---- Notes
+
+-- the note of a sample in the list: the wanted note of its tone, and none without a period
+unfoldable pub sungNote : Tone → ℕ
+sungNote t = cond (eqb (t .period) 0) noNote (t .note)
+
+-- the notes of samples, by what the rules give for each
+abbrev pub notesSung : List Given → List ℕ
+notesSung gs = map (λ (g : Given). sungNote (g .tone)) gs
 
 -- ---- Rows
 
@@ -34,6 +46,34 @@ runsFrom at (note ∷ notes) = let later = runsFrom (suc at) notes in cond (eqb 
 -- the rows of a take, worked out afresh from the notes of all its samples
 abbrev pub runs : List ℕ → List Row
 runs notes = runsFrom 0 notes
+
+-- ---- What rows are
+
+-- the note of sample number i; none outside the take
+abbrev pub noteAt : List ℕ → ℕ → ℕ
+noteAt notes i = getD notes i noNote
+
+-- a longest run: there is a sample in it, all have the note, and the samples beside it have not
+pub record LongestRun (notes : List ℕ) (r : Row) : Type 0 where
+  pub some : 0 < r .length
+  pub sung : r .note ≡ noNote → ⊥
+  pub same : (i : ℕ) → i < r .length → noteAt notes (r .first + i) ≡ r .note
+  pub ahead : (i : ℕ) → suc i ≡ r .first → noteAt notes i ≡ r .note → ⊥
+  pub behind : noteAt notes (r .first + r .length) ≡ r .note → ⊥
+
+-- each row a longest run, one behind the other, from a sample on
+unfoldable pub LongestRuns : ℕ → List ℕ → List Row → Type 0
+LongestRuns from notes [] = Unit
+LongestRuns from notes (r ∷ rs) = (from ≤ r .first) × LongestRun notes r × LongestRuns (r .first + r .length) notes rs
+
+-- a sample is in one of the rows
+unfoldable pub InRow : ℕ → List Row → Type 0
+InRow i [] = ⊥
+InRow i (r ∷ rs) = ((r .first ≤ i) × (i < r .first + r .length)) ⊎ InRow i rs
+
+-- the rows of a take are longest runs in order, and every sample with a note is in one
+abbrev pub RowsAreRuns : Type 0
+RowsAreRuns = (notes : List ℕ) → LongestRuns 0 notes (runs notes) × ((i : ℕ) → (noteAt notes i ≡ noNote → ⊥) → InRow i (runs notes))
 
 -- ---- The store
 
@@ -142,6 +182,15 @@ pub record IsList (notes s : List ℕ) (k : Sheet) : Type 0 where
 -- from the beginning of a list on, however the take is cut, the list is the one worked out afresh from all its notes
 abbrev pub HoweverCut : Type 0
 HoweverCut = (pieces : List (List ℕ)) (s : List ℕ) → IsList (flatten pieces) s (afterPieces noNote 0 (sheet emptyListing s) pieces)
+
+-- ---- Any store
+
+-- whatever listing may be kept, and whatever store is lent, the store is left as long as it was, and behind the rows so far it is left as it was
+abbrev pub NothingBehind : Type 0
+NothingBehind =
+    (last at : ℕ) (notes : List ℕ) (k : Sheet) → ListingIn at (k .listing)
+    → let after = afterNotes last at k notes in
+    (length (after .store) ≡ length (k .store)) × (drop (3 * after .listing .rows) (after .store) ≡ drop (3 * after .listing .rows) (k .store))
 
 -- ---- No store
 

@@ -27,6 +27,9 @@ numbers-append (r ∷ rs) qs = ap (λ (l : List ℕ). r .note ∷ r .first ∷ r
 pub in-room : (place n : ℕ) → place < room n → 3 * place + 3 ≤ n
 in-room place n h = omega arith
 
+three : (n a b c : ℕ) (l : List ℕ) → drop (3 + n) (a ∷ b ∷ c ∷ l) ≡ drop n l
+three n a b c l = let e : 3 + n ≡ suc (suc (suc n)) = omega arith in rw e
+
 module _ (s : List ℕ) (place : ℕ) (fits : 3 * place + 3 ≤ length s) where
   before-place : length (take (3 * place) s) ≡ 3 * place
   before-place = length-take-le (3 * place) s (omega arith)
@@ -45,6 +48,20 @@ module _ (s : List ℕ) (place : ℕ) (fits : 3 * place + 3 ≤ length s) where
       let d : drop (3 * place) (put s place r) ≡ rest = drop-at (take (3 * place) s) rest (3 * place) before-place in
       let e : drop (3 * place + 3) (put s place r) ≡ drop (3 * place + 3) s = sym (drop-drop 3 (3 * place) (put s place r)) ∙ ap (drop 3) d in
       λ i. t i ++ q .note ∷ q .first ∷ q .length ∷ e i
+
+  -- what lies behind stays
+  pub put-before : (r : Row) (m : ℕ) → place < m → drop (3 * m) (put s place r) ≡ drop (3 * m) s
+  unfolding put
+  put-before r m h =
+      let e : 3 * place + (3 + (3 * m - (3 * place + 3))) ≡ 3 * m = omega arith in
+      let f : 3 * place + 3 + (3 * m - (3 * place + 3)) ≡ 3 * m = omega arith in
+      let rest = r .note ∷ r .first ∷ r .length ∷ drop (3 * place + 3) s in
+      ap (λ (n : ℕ). drop n (put s place r)) (sym e)
+      ∙ sym (drop-drop (3 + (3 * m - (3 * place + 3))) (3 * place) (put s place r))
+      ∙ ap (drop (3 + (3 * m - (3 * place + 3)))) (drop-at (take (3 * place) s) rest (3 * place) before-place)
+      ∙ three (3 * m - (3 * place + 3)) (r .note) (r .first) (r .length) (drop (3 * place + 3) s)
+      ∙ drop-drop (3 * m - (3 * place + 3)) (3 * place + 3) s
+      ∙ ap (λ (n : ℕ). drop n s) f
 
   -- number by number
   pub put-is : (n f k : ℕ) → set (set (set s (3 * place) n) (3 * place + 1) f) (3 * place + 2) k ≡ put s place (row n f k)

@@ -1,11 +1,12 @@
 // The list of the notes sung: rows of note, first sample and length in a lent store, three numbers a row. The store is written and never read.
 ghost use mathlib.Core.Path.{_≡_};
+ghost use mathlib.Core.Bool.{true};
 ghost use Prim.Native.Nat.{_+_, _-_, _*_, _≤_, _<_};
 ghost use lib.ListN.{length, take};
 ghost use Rattle.whole.specs.Tests.{Decides};
 ghost use Rattle.rules.specs.Rules.{takeLimit};
-ghost use Rattle.lists.specs.Lists.{row, room, put, emptyListing, sheet, begun, listingAfter, storeAfter, afterNotes, PlaceIn, ListingIn};
-ghost use Rattle.lists.specs.Folds.{afterStretch, Level};
+ghost use Rattle.lists.specs.Lists.{sungNote, row, room, put, emptyListing, sheet, begun, listingAfter, storeAfter, afterNotes, PlaceIn, ListingIn};
+ghost use Rattle.lists.specs.Folds.{afterStretch, Level, Four};
 
 // The most rows of a list.
 pub const MOST_ROWS: u32 = 4096;
@@ -81,6 +82,16 @@ pub fn right(l: Listing, count: u64) -> bool
     place_right(l.rows, l.place)
 }
 
+// The note of a sample in the list, by its tone.
+pub fn sung(t: rules::Tone) -> u32
+    ensures { λ r. ⌜ r ≡ sungNote t ⌝ }
+{
+    if t.period == 0 {
+        return rules::NO_NOTE;
+    }
+    t.note
+}
+
 // A run begins.
 fn begun(l: Listing, room: u32, at: u32) -> Listing
     requires { ⌜ (l .rows < 4294967295) × (l .left < 4294967295) ⌝ }
@@ -151,13 +162,46 @@ fn stretch(l: Listing, last: u32, at: u32, to: u32, note: u32, store: &mut [u32]
     with
 }
 
-// Where the stretch of samples with the note of one of the first n ends.
-fn level(notes: &[u32], from: usize, n: usize) -> usize
+// Four samples have this note.
+fn four(notes: &[u32], at: usize, note: u32) -> bool
+    requires { ⌜ at + 4 ≤ length (now notes) ⌝ }
+    ensures { λ r. ⌜ (r ≡ true → Four (now (notes .entry)) at note) ⌝ }
+{
+    if notes[at] != note {
+        return false;
+    }
+    if notes[at + 1] != note {
+        return false;
+    }
+    if notes[at + 2] != note {
+        return false;
+    }
+    notes[at + 3] == note
+}
+
+// How far the stretch of samples with the note of one of the first n goes, by steps of four.
+fn fours(notes: &[u32], from: usize, n: usize) -> usize
     requires { ⌜ (from < n) × (n ≤ length (now notes)) ⌝ }
     ensures { λ r. ⌜ Level (now (notes .entry)) n from r ⌝ }
 {
     let note = notes[from];
     let mut to = from + 1;
+    while 4 <= n - to {
+        if !four(notes, to, note) {
+            return to;
+        }
+        to += 4;
+    }
+    to
+}
+
+// Where it ends.
+fn level(notes: &[u32], from: usize, n: usize) -> usize
+    requires { ⌜ (from < n) × (n ≤ length (now notes)) ⌝ }
+    ensures { λ r. ⌜ Level (now (notes .entry)) n from r ⌝ }
+{
+    let note = notes[from];
+    let mut to = fours(notes, from, n);
     while to < n {
         if notes[to] != note {
             return to;

@@ -1,16 +1,13 @@
--- `lists::level` meets its contract: each sample that the loop passed has the first one's note.
+-- `lists::level` meets its contract: behind the steps of four, each sample that the loop passed has the first one's note.
 -- Assumes nothing.
-use mathlib.Core.Path.{_≡_, refl}
-use mathlib.Core.List.{_++_}
-use Prim.Native.Nat.{_-_, _≤_, _<_}
+use Prim.Native.Nat.{_-_}
 use native.Mathlib.Omega.{arith}
-use lib.ListN.{take, replicate}
-use Rattle.lists.specs.Folds.{level-none, level-more}
+use Rattle.lists.specs.Folds.{Level, level-more}
 use Rattle.lists.proofs.level.Statement.{statement}
 use Rattle.lists.proofs.level.Tie as tie
 
 abbrev Inv-loop : tie.InvT-loop
-Inv-loop notes from n note to₀ to = (from < to) × (to ≤ n) × (take to notes ≡ take from notes ++ replicate (to - from) note)
+Inv-loop notes from n note to₀ to = Level notes n from to
 
 abbrev μ-loop : tie.MeasureT-loop
 μ-loop notes from n note to₀ to = n - to
@@ -21,13 +18,11 @@ mul-note c = omega arith
 shared-slice-read-note : tie.Need-shared-slice-read-note Inv-loop μ-loop
 shared-slice-read-note c = omega arith
 
-add-to : tie.Need-add-to Inv-loop μ-loop
-add-to c = omega arith
+fours-requires : tie.Need-fours-requires Inv-loop μ-loop
+fours-requires c κs = (omega arith, omega arith)
 
 loop-holds : tie.Need-loop-holds Inv-loop μ-loop
-loop-holds c =
-    let a = c .before .args in
-    (omega arith, omega arith, level-more (a .notes .now) (a .from) (a .from) _ (omega arith) (omega arith) refl (level-none (a .notes .now) (a .from) _))
+loop-holds c = c .fours .ensures
 
 mul-if1 : tie.Need-mul-if1 Inv-loop μ-loop
 mul-if1 c = omega arith
@@ -36,22 +31,22 @@ shared-slice-read-if1 : tie.Need-shared-slice-read-if1 Inv-loop μ-loop
 shared-slice-read-if1 c = omega arith
 
 returns : tie.Need-returns Inv-loop μ-loop
-returns c = let i = c .before .before .before .loop .inv in record { forth = i .0; within = i .1; level = i .2 }
+returns c = c .before .before .before .loop .inv
 
-add-to-2 : tie.Need-add-to-2 Inv-loop μ-loop
-add-to-2 c = omega arith
+add-to : tie.Need-add-to Inv-loop μ-loop
+add-to c = omega arith
 
 loop-less : tie.Need-loop-less Inv-loop μ-loop
 loop-less c = omega arith
 
 loop-again : tie.Need-loop-again Inv-loop μ-loop
 loop-again c =
+    let a = c .before .before .before .before .before .before .before .args in
     let l = c .before .before .before .loop in
-    let a = c .before .before .before .before .before .args in
-    (omega arith, omega arith, level-more (a .notes .now) (a .from) (l .to) _ (omega arith) (omega arith) (c .if1 .left) (l .inv .2))
+    level-more (a .notes .now) (a .n) (a .from) (omega arith) (l .to) (l .inv) (omega arith) (c .if1 .left)
 
 returns-2 : tie.Need-returns-2 Inv-loop μ-loop
-returns-2 c = let i = c .before .loop .inv in record { forth = i .0; within = i .1; level = i .2 }
+returns-2 c = c .before .loop .inv
 
 pub level-spec : {M : Type 1} → statement M
 level-spec =
@@ -61,12 +56,12 @@ level-spec =
     μ-loop
     mul-note
     shared-slice-read-note
-    add-to
+    fours-requires
     loop-holds
     mul-if1
     shared-slice-read-if1
     returns
-    add-to-2
+    add-to
     loop-less
     loop-again
     returns-2)
