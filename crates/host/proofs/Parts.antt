@@ -201,31 +201,7 @@ module _ (r : Record) (vs : List Val) (is : Is T.the-row r vs) where
         let left = LL.owed N.the-type N′.the-laws n ws of-left in
         let numbers = LL.owed B.the-type B′.the-laws (n .last) _ (left .1 .1 .1 .1 .0) in
         let t = changed r (changedBy y n) .tuner in
-        LL.owes T.the-type T′.the-laws (changed r (changedBy y n)) (
-          layout-is,
-          (
-            LL.owes U.the-type U′.the-laws t (
-              of-tuner .0,
-              (
-                of-tuner .1 .0,
-                (
-                  of-tuner .1 .1 .0,
-                  (
-                    LL.owes G.the-type G′.the-laws (t .heard) (left .1 .0, (untold u64 Energies (y .energies) (are .energies), (untold i64 Correlations (y .correlations) (are .correlations), (untold i16 (Samples 1764) (y .store) (are .store), (untold i16 (Samples 224) (y .eighths) (are .eighths), tt))))),
-                    (
-                      left .1 .1 .0,
-                      (
-                        left .1 .1 .1 .0,
-                        (LL.owes L.the-type L′.the-laws (t .last) (numbers .0, (numbers .1 .0, (numbers .1 .1 .0, (numbers .1 .1 .1 .0, (untold i16 (Samples 512) (y .out) (are .out), tt))))), tt),
-                      ),
-                    ),
-                  ),
-                ),
-              ),
-            ),
-            tt,
-          ),
-        )
+        LL.owes T.the-type T′.the-laws (changed r (changedBy y n)) (layout-is, (LL.owes U.the-type U′.the-laws t (of-tuner .0, (of-tuner .1 .0, (of-tuner .1 .1 .0, (LL.owes G.the-type G′.the-laws (t .heard) (left .1 .0, (untold u64 Energies (y .energies) (are .energies), (untold i64 Correlations (y .correlations) (are .correlations), (untold i16 (Samples 1764) (y .store) (are .store), (untold i16 (Samples 224) (y .eighths) (are .eighths), tt))))), (left .1 .1 .0, (left .1 .1 .1 .0, (LL.owes L.the-type L′.the-laws (t .last) (numbers .0, (numbers .1 .0, (numbers .1 .1 .0, (numbers .1 .1 .1 .0, (untold i16 (Samples 512) (y .out) (are .out), tt))))), tt))))))), tt))
 
 -- ---- the cells
 

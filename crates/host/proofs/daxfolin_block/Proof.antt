@@ -116,103 +116,10 @@ module _ {M : Type 1} (𝓤 : URA M) (H : Heap 𝓤) (A : Atoms 𝓤) (W : Given
     κs = (α₀ ∷ [], (α₁ ∷ [], (α₂ ∷ [], (α₃ ∷ [], (α₄ ∷ [], (κ₁, (κ₂, tt)))))))
 
     abbrev passed : Args taken.signature κs
-    passed = (
-      h .layout,
-      (
-        h .tuner .settings,
-        (
-          h .tuner .hertz,
-          (
-            h .tuner .keyboard,
-            (
-              h .tuner .heard .count,
-              (
-                h .tuner .pitch,
-                (
-                  h .tuner .head,
-                  (
-                    h .tuner .last .number,
-                    (
-                      h .tuner .last .length,
-                      (
-                        h .tuner .last .repeated,
-                        (
-                          h .tuner .last .dropped,
-                          (
-                            record { ptr = (b, energies-at o); name = γ₀; now = h .tuner .heard .energies },
-                            (
-                              record { ptr = (b, correlations-at o); name = γ₁; now = h .tuner .heard .correlations },
-                              (
-                                record { ptr = (b, store-at o); name = γ₂; now = h .tuner .heard .store },
-                                (
-                                  record { ptr = (b, eighths-at o); name = γ₃; now = h .tuner .heard .eighths },
-                                  (record { ptr = (b, out-at o); name = γ₄; now = h .tuner .last .out }, (n, (x, (y, tt)))),
-                                ),
-                              ),
-                            ),
-                          ),
-                        ),
-                      ),
-                    ),
-                  ),
-                ),
-              ),
-            ),
-          ),
-        ),
-      ),
-    )
+    passed = (h .layout, (h .tuner .settings, (h .tuner .hertz, (h .tuner .keyboard, (h .tuner .heard .count, (h .tuner .pitch, (h .tuner .head, (h .tuner .last .number, (h .tuner .last .length, (h .tuner .last .repeated, (h .tuner .last .dropped, (record { ptr = (b, energies-at o); name = γ₀; now = h .tuner .heard .energies }, (record { ptr = (b, correlations-at o); name = γ₁; now = h .tuner .heard .correlations }, (record { ptr = (b, store-at o); name = γ₂; now = h .tuner .heard .store }, (record { ptr = (b, eighths-at o); name = γ₃; now = h .tuner .heard .eighths }, (record { ptr = (b, out-at o); name = γ₄; now = h .tuner .last .out }, (n, (x, (y, tt)))))))))))))))))))
 
     abbrev passed-vals : Vals taken.signature κs
-    passed-vals = (
-      vint w64 (h .layout) ∷ [],
-      (
-        S′.lowered (h .tuner .settings) ∷ [],
-        (
-          vint w64 (h .tuner .hertz) ∷ [],
-          (
-            Y′.lowered (h .tuner .keyboard) ∷ [],
-            (
-              vint w64 (h .tuner .heard .count) ∷ [],
-              (
-                P′.lowered (h .tuner .pitch) ∷ [],
-                (
-                  D′.lowered (h .tuner .head) ∷ [],
-                  (
-                    vint w16 (h .tuner .last .number) ∷ [],
-                    (
-                      vint w16 (h .tuner .last .length) ∷ [],
-                      (
-                        vint w16 (h .tuner .last .repeated) ∷ [],
-                        (
-                          vint w16 (h .tuner .last .dropped) ∷ [],
-                          (
-                            vptr b (energies-at o) ∷ [],
-                            (
-                              vptr b (correlations-at o) ∷ [],
-                              (
-                                vptr b (store-at o) ∷ [],
-                                (
-                                  vptr b (eighths-at o) ∷ [],
-                                  (
-                                    vptr b (out-at o) ∷ [],
-                                    (vint w16 n ∷ [], (slice-vals x, (slice-vals y, tt))),
-                                  ),
-                                ),
-                              ),
-                            ),
-                          ),
-                        ),
-                      ),
-                    ),
-                  ),
-                ),
-              ),
-            ),
-          ),
-        ),
-      ),
-    )
+    passed-vals = (vint w64 (h .layout) ∷ [], (S′.lowered (h .tuner .settings) ∷ [], (vint w64 (h .tuner .hertz) ∷ [], (Y′.lowered (h .tuner .keyboard) ∷ [], (vint w64 (h .tuner .heard .count) ∷ [], (P′.lowered (h .tuner .pitch) ∷ [], (D′.lowered (h .tuner .head) ∷ [], (vint w16 (h .tuner .last .number) ∷ [], (vint w16 (h .tuner .last .length) ∷ [], (vint w16 (h .tuner .last .repeated) ∷ [], (vint w16 (h .tuner .last .dropped) ∷ [], (vptr b (energies-at o) ∷ [], (vptr b (correlations-at o) ∷ [], (vptr b (store-at o) ∷ [], (vptr b (eighths-at o) ∷ [], (vptr b (out-at o) ∷ [], (vint w16 n ∷ [], (slice-vals x, (slice-vals y, tt)))))))))))))))))))
 
     abbrev to-callee : Called 𝓤 H A mem′ run .Ghost
     to-callee = ((κs, (fullShare, (fullShare, (fullShare, (fullShare, (fullShare, (q₁, (q₂, tt))))))), tt, passed, passed-vals), tt)
