@@ -1,8 +1,8 @@
 /* Daxfolin for C: a proved tuner for one sung voice, mono, 16-bit samples, 44,100 or 48,000 a second.
  *
  * Each function below is proved (crates/host): for any bytes in the record, any settings, any block and any lengths it comes to an end,
- * does nothing undefined, and answers as said here. It takes no memory of its own but under 12 KB of stack, has no state outside the
- * record, and calls nothing but memcpy and memset. The archive is for x86-64 Linux:
+ * does nothing undefined, and answers as said here. It takes no memory of its own but under 12 KB of stack (a night under 32 KB), has no
+ * state outside the record, and calls nothing but memcpy and memset. The archive is for x86-64 Linux:
  *
  *     tools/library                                 proves it and writes target/staticlib/libhost.a
  *     cc -std=c11 -Ihost program.c target/staticlib/libhost.a
