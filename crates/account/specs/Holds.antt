@@ -277,6 +277,10 @@ module _ {r : Received} {t : Tuner} (k : Keeps r t) where
 pub holds : Theorem
 holds cs t h = kept-accounted (series-keeps h)
 
+-- the course of its take is in its ranges
+pub series-course : {cs : List Call} {t : Tuner} → Series cs t → CourseIn (courseOf (received cs))
+series-course h = course-right (series-keeps h)
+
 -- the arrays of such a tuner are as long as they were
 pub series-lengths : {cs : List Call} {t : Tuner} → Series cs t → Lengths t
 series-lengths h = series-keeps h .lengths

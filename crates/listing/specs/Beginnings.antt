@@ -34,6 +34,10 @@ pub number-without : (v n : ℕ) → v ≡ 0 → (0 < room n → ⊥) → listNu
 unfolding listNumber
 number-without v n e h = cond-yes _ v (eq-eqb v 0 e) ∙ cond-no 0 17 (lt-leb 1 (room n) (omega arith))
 
+-- where it is 0 so is the call's own
+pub number-zero : (v n : ℕ) → listNumber v n ≡ 0 → v ≡ 0
+number-zero v n e = by (eqb v 0) (λ z. eqb-true v 0 z) (λ z. sym (number-kept v n (eqb-false v 0 z)) ∙ e)
+
 -- where it is not 17 it is 0 as the call's own
 pub number-same : (v n : ℕ) → (listNumber v n ≡ 17 → ⊥) → eqb (listNumber v n) 0 ≡ eqb v 0
 number-same v n h =

@@ -1,0 +1,2 @@
+pub mod Sung
+pub mod Follows
