@@ -1,3 +1,4 @@
 pub mod Listings
 pub mod Beginnings
 pub mod Hushes
+pub mod Ones
