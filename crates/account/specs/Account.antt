@@ -179,9 +179,20 @@ pub record NeverNine (t : Tuner) : Type 0 where
 
 -- ---- a night's blocks in one call
 
+-- all of these calls are blocks
+unfoldable pub OnlyBlocks : List Call → Type 0
+OnlyBlocks [] = Unit
+OnlyBlocks (start hertz s a ∷ cs) = ⊥
+OnlyBlocks (change s a ∷ cs) = ⊥
+OnlyBlocks (block k xs ys a ys′ ∷ cs) = OnlyBlocks cs
+OnlyBlocks (midi bytes a ∷ cs) = ⊥
+OnlyBlocks (reset a ∷ cs) = ⊥
+OnlyBlocks (meter m ∷ cs) = ⊥
+
 -- the night is a series of single calls after the calls cs, so that the account holds with these calls in it; what was answered is what they add up to, and never 9
 pub record AsSingleCalls (cs : List Call) (t′ : Tuner) (a : NightAnswer) : Type 0 where
   pub calls : List Call
+  pub blocks : OnlyBlocks calls
   pub series : Series (calls ++ cs) t′
   pub written : length (received (calls ++ cs) .written) ≡ length (received cs .written) + a .written
   pub repeated : received (calls ++ cs) .repeated ≡ received cs .repeated + a .repeated

@@ -15,17 +15,37 @@ use Rattle.tuner.specs.Verdicts.{verdict-fits}
 use Rattle.staying.specs.Staying.{took-good, took-number, took-keeps, overlaid-starts}
 use Rattle.nights.specs.declared.NightAnswer.{NightAnswer}
 use Rattle.nights.specs.Nights.{addedBy, noNight, OneByOne, all-done, and-on, refused, Untouched, record-out-of-range, size-out-of-range, output-short, one-by-one}
-use Rattle.account.specs.Account.{Call, block, by-block, Series, and-then, Received, withBlock, plus, received, AsSingleCalls, NightTheorem}
+use Rattle.account.specs.Account.{Call, start, change, block, midi, reset, meter, OnlyBlocks, by-block, Series, and-then, Received, withBlock, plus, received, AsSingleCalls, NightTheorem}
 use Rattle.account.specs.Holds.{holds, series-lengths, never-nine}
 
 -- what the calls add up to, after an answer n
 record Singly (cs : List Call) (t′ : Tuner) (n n′ : NightAnswer) : Type 0 where
   calls : List Call
+  blocks : OnlyBlocks calls
   series : Series (calls ++ cs) t′
   written : length (received (calls ++ cs) .written) + n .written ≡ length (received cs .written) + n′ .written
   repeated : received (calls ++ cs) .repeated + n .repeated ≡ received cs .repeated + n′ .repeated
   dropped : received (calls ++ cs) .dropped + n .dropped ≡ received cs .dropped + n′ .dropped
   nine : n′ .number ≡ 9 → n .number ≡ 9
+
+one-block : (k : ℕ) (xs ys ys′ : List ℤ) (a : Answer) → OnlyBlocks (block k xs ys a ys′ ∷ [])
+unfolding OnlyBlocks
+one-block k xs ys ys′ a = tt
+
+-- blocks, and then blocks
+only-append : (bs cs : List Call) → OnlyBlocks bs → OnlyBlocks cs → OnlyBlocks (bs ++ cs)
+unfolding OnlyBlocks
+only-append [] cs p q = q
+only-append (start hertz s a ∷ bs) cs p q = absurd p
+only-append (change s a ∷ bs) cs p q = absurd p
+only-append (block k xs ys a ys′ ∷ bs) cs p q = only-append bs cs p q
+only-append (midi bytes a ∷ bs) cs p q = absurd p
+only-append (reset a ∷ bs) cs p q = absurd p
+only-append (meter m ∷ bs) cs p q = absurd p
+
+no-blocks : OnlyBlocks []
+unfolding OnlyBlocks
+no-blocks = tt
 
 module _ (cs : List Call) {t u : Tuner} {k : ℕ} {xs ys zs : List ℤ} {a : Answer} (s : Series cs t) (p : Took t k xs ys u a zs) where
   -- one single call
@@ -59,6 +79,7 @@ module _ (cs : List Call) {t u : Tuner} {k : ℕ} {xs ys zs : List ℤ} {a : Ans
       let e = untaken h in
       record {
         calls = block k xs ys a zs ∷ [];
+        blocks = one-block k xs ys zs a;
         series = one-call;
         written = omega (arith, ap (λ (r : Received). length (r .written)) e, w);
         repeated = omega (arith, ap (λ (r : Received). r .repeated) e, r);
@@ -73,6 +94,7 @@ module _ (cs : List Call) {t u : Tuner} {k : ℕ} {xs ys zs : List ℤ} {a : Ans
       let w = block-written e in
       record {
         calls = block k xs ys a zs ∷ [];
+        blocks = one-block k xs ys zs a;
         series = one-call;
         written = omega (arith, ap (λ (r : Received). length (r .written)) t, length-append (received cs .written) (take (a .written) zs), w);
         repeated = omega (arith, ap (λ (r : Received). r .repeated) t);
@@ -88,6 +110,7 @@ then-singly {cs} {t′ = t′} p q =
     let e = append-assoc (q .calls) (p .calls) cs in
     record {
       calls = q .calls ++ p .calls;
+      blocks = only-append (q .calls) (p .calls) (q .blocks) (p .blocks);
       series = subst (λ (l : List Call). Series l t′) (sym e) (q .series);
       written = omega (arith, ap (λ (l : List Call). length (received l .written)) e, p .written, q .written);
       repeated = omega (arith, ap (λ (l : List Call). received l .repeated) e, p .repeated, q .repeated);
@@ -96,7 +119,7 @@ then-singly {cs} {t′ = t′} p q =
     }
 
 no-call : {cs : List Call} {t : Tuner} {n : NightAnswer} → Series cs t → Singly cs t n n
-no-call s = record { calls = []; series = s; written = refl; repeated = refl; dropped = refl; nine = λ z. z }
+no-call s = record { calls = []; blocks = no-blocks; series = s; written = refl; repeated = refl; dropped = refl; nine = λ z. z }
 
 singly : {cs : List Call} {t t′ : Tuner} {k : ℕ} {n n′ : NightAnswer} {xss : List (List ℤ)} {ys zs : List ℤ} → Series cs t → OneByOne t k n xss ys t′ n′ zs → Singly cs t′ n n′
 singly s all-done = no-call s
@@ -107,6 +130,7 @@ from-none : {cs : List Call} {t′ : Tuner} {a : NightAnswer} → Singly cs t′
 from-none p =
     record {
       calls = p .calls;
+      blocks = p .blocks;
       series = p .series;
       written = omega (arith, p .written);
       repeated = omega (arith, p .repeated);
@@ -120,6 +144,7 @@ none-made {cs} {v = v} s not-nine p =
     let e = p .answer in
     record {
       calls = [];
+      blocks = no-blocks;
       series = subst (Series cs) (sym (p .tuner)) s;
       written = omega (arith, ap (λ (n : NightAnswer). n .written) e);
       repeated = omega (arith, ap (λ (n : NightAnswer). n .repeated) e);
