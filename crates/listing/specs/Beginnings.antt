@@ -14,13 +14,13 @@ use Rattle.rules.specs.Rules.{startNumber, defaults, cdRate}
 use Rattle.answers.specs.declared.Answer.{Answer}
 use Rattle.answers.specs.Numbering.{plain}
 use Rattle.lists.specs.declared.Listing.{Listing}
-use Rattle.lists.specs.Lists.{room, emptyListing, sungNote, sheet, afterNotes}
+use Rattle.lists.specs.Lists.{room, emptyListing}
 use Rattle.tuner.specs.declared.Tuner.{Tuner}
 use Rattle.tuner.specs.Tuners.{Good, freshTuner, defaultTuner, Started, NineOnly, record-out-of-range, record-good, Reset, Took}
 use Rattle.tuner.specs.Starts.{default-start-taken}
 use Rattle.listing.specs.declared.ListTuner.{ListTuner}
 use Rattle.listing.specs.declared.ListAnswer.{ListAnswer}
-use Rattle.listing.specs.Listings.{listTuner, ListGood, listAnswer, listNumber, ListStarted, blockNotes, ListedBy, goes-on, as-it-was, ListTook, as-plain}
+use Rattle.listing.specs.Listings.{listTuner, ListGood, listAnswer, listNumber, ListStarted, ListedBy, ListTook, as-plain}
 
 pub number-kept : (v n : ℕ) → (v ≡ 0 → ⊥) → listNumber v n ≡ v
 unfolding listNumber
@@ -89,14 +89,8 @@ reset-taken {t} g p = p .tuner ∙ go (p .verdict)
     go (record-good h) = refl
 
 -- ---- a block, by the plain call's own promise
-module _ {l : ListTuner} {k : ℕ} {xs ys ys′ : List ℤ} {store store′ : List ℕ} {t′ : Tuner} {l′ : Listing} {a : Answer} {b : ListAnswer} (g : ListGood l) (p : Took (l .tuner) k xs ys t′ a ys′) (same : b ≡ listAnswer a l′) where
-  by-plain : ListedBy (l .tuner) xs (l .list) store l′ store′ (a .number) → ListTook l k xs ys store (listTuner t′ l′) b ys′ store′
-  by-plain d =
-      let e = sym (ap (λ (x : ListAnswer). x .answer) same) in
-      as-plain g (subst (λ (x : Answer). Took (l .tuner) k xs ys t′ x ys′) e p) (subst (λ (x : Answer). ListedBy (l .tuner) xs (l .list) store l′ store′ (x .number)) e d) (same ∙ ap (λ (x : Answer). listAnswer x l′) e)
-
-  pub list-taken : a .number ≡ 0 → sheet l′ store′ ≡ afterNotes (sungNote (l .tuner .pitch .tone)) (l .tuner .heard .count) (sheet (l .list) store) (blockNotes (l .tuner) xs) → ListTook l k xs ys store (listTuner t′ l′) b ys′ store′
-  list-taken z e = by-plain (subst (ListedBy (l .tuner) xs (l .list) store l′ store′) (sym z) (goes-on e))
-
-  pub list-untaken : 0 < a .number → l′ ≡ l .list → store′ ≡ store → ListTook l k xs ys store (listTuner t′ l′) b ys′ store′
-  list-untaken z e f = by-plain (as-it-was z e f)
+pub by-plain : {l : ListTuner} {k : ℕ} {xs ys ys′ : List ℤ} {store store′ : List ℕ} {t′ : Tuner} {l′ : Listing} {a : Answer} {b : ListAnswer} → ListGood l → Took (l .tuner) k xs ys t′ a ys′
+    → b ≡ listAnswer a l′ → ListedBy (l .tuner) xs (l .list) store l′ store′ (a .number) → ListTook l k xs ys store (listTuner t′ l′) b ys′ store′
+by-plain {l} {k} {xs} {ys} {ys′} {store} {store′} {t′} {l′} g p same d =
+    let e = sym (ap (λ (x : ListAnswer). x .answer) same) in
+    as-plain g (subst (λ (x : Answer). Took (l .tuner) k xs ys t′ x ys′) e p) (subst (λ (x : Answer). ListedBy (l .tuner) xs (l .list) store l′ store′ (x .number)) e d) (same ∙ ap (λ (x : Answer). listAnswer x l′) e)

@@ -1,25 +1,36 @@
 // A tuner with a list of the notes sung: the calls that lend a store for its rows.
 use answers::Answer;
+use keyboard::Keyboard;
 use lists::Listing;
+use pitch::Pitch;
+use record::Head;
 use record::Heard;
 use record::Last;
+use rules::EIGHTH_LAGS;
+use rules::KEPT_EIGHTHS;
+use rules::KEPT_SAMPLES;
 use rules::LONGEST_BLOCK;
 use rules::NO_NOTE;
 use rules::Settings;
 use tuner::LastNumbers;
+use tuner::Left;
 use tuner::Tuner;
 ghost use mathlib.Core.Path.{_≡_};
-ghost use Prim.Native.Nat.{_≤_};
+ghost use mathlib.Core.Bool.{cond};
+ghost use Prim.Native.Nat.{_+_, _≤_, _<_};
+ghost use lib.Dec.{eqb};
 ghost use lib.ListN.{length, take, drop};
 ghost use Rattle.whole.specs.Tests.{Decides};
+ghost use Rattle.rules.specs.Rules.{noNote, longestBlock, takeLimit};
 ghost use Rattle.answers.specs.Numbering.{plain};
-ghost use Rattle.lists.specs.Lists.{emptyListing};
-ghost use mathlib.Core.Bool.{cond};
-ghost use lib.Dec.{eqb};
-ghost use Rattle.rules.specs.Rules.{noNote, longestBlock};
-ghost use Rattle.tuner.specs.Tuners.{Verdict};
+ghost use Rattle.lists.specs.Lists.{emptyListing, sungNote, sheet, afterNotes, ListingIn};
+ghost use Rattle.record.specs.declared.Last.{Last};
+ghost use Rattle.record.specs.Records.{AllRight, noLast};
+ghost use Rattle.record.specs.Parts.{heardOf, Stores};
+ghost use Rattle.tuner.specs.Parted.{tunerOf, lastWith, given};
+ghost use Rattle.tuner.specs.Tuners.{afterBlock, Took};
 ghost use Rattle.listing.specs.Hushes.{hushed};
-ghost use Rattle.listing.specs.Listings.{listTuner, ListGood, listAnswer, listNumber, ListStarted, ListReset, ListTook};
+ghost use Rattle.listing.specs.Listings.{listTuner, ListGood, listAnswer, listNumber, ListStarted, ListReset, blockNotes, ListedBy, ListTook};
 
 // A tuner, and the list of its take.
 #[repr(C)]
@@ -41,8 +52,14 @@ pub struct ListTaken {
     pub answer: ListAnswer,
 }
 
+// What a block leaves beside the lent arrays: the tuner's, and the list.
+pub struct ListLeft {
+    pub left: Left,
+    pub list: Listing,
+}
+
 // A tuner with a list is good.
-fn good(l: ListTuner) -> bool
+pub fn good(l: ListTuner) -> bool
     ensures { λ r. ⌜ Decides r (ListGood l) ⌝ }
 {
     let t = l.tuner;
@@ -154,23 +171,27 @@ pub fn reset(l: ListTuner, store: &[u32]) -> ListTaken
     begin(u, 0)
 }
 
-// A block that is taken, by a tuner with a list that is known to be good.
-fn take(l: ListTuner, number: u16, samples: &[i16], out: &mut [i16], store: &mut [u32]) -> ListTaken
-    requires { ⌜ ListGood l × Verdict (l .tuner) number (now samples) (length (now out)) 0 ⌝ }
-    ensures { λ r. ⌜ ListTook l number (now (samples .entry)) (now (out .entry)) (now (store .entry)) (r .tuner) (r .answer) (now (out .exit)) (now (store .exit)) ⌝ }
+// A block is taken, over the parts of a record: the list goes on with the notes sung of its samples.
+fn take_parts(
+    settings: Settings,
+    hertz: u64,
+    keys: Keyboard,
+    count: u64,
+    energies: &mut [u64; EIGHTH_LAGS],
+    correlations: &mut [i64; EIGHTH_LAGS],
+    heard: &mut [i16; KEPT_SAMPLES],
+    eighths: &mut [i16; KEPT_EIGHTHS],
+    v: Pitch,
+    head: Head,
+    kept: &mut [i16; LONGEST_BLOCK],
+    number: u16,
+    samples: &[i16],
+    list: Listing,
+    store: &mut [u32],
+) -> ListLeft
+    requires { ⌜ ((l : Last) × AllRight settings hertz keys (heardOf count (now energies) (now correlations) (now heard) (now eighths)) v head l) × Stores (heardOf count (now energies) (now correlations) (now heard) (now eighths)) × (length (now kept) ≡ longestBlock) × (0 < length (now samples)) × (length (now samples) ≤ longestBlock) × (count + length (now samples) ≤ takeLimit) × ListingIn count list ⌝ }
+    ensures { λ r. ⌜ ((l : Last) → tunerOf settings hertz keys (heardOf (r .left .count) (now (energies .exit)) (now (correlations .exit)) (now (heard .exit)) (now (eighths .exit))) (r .left .pitch) (r .left .head) (lastWith (r .left .last) (now (kept .exit))) ≡ afterBlock (tunerOf settings hertz keys (heardOf count (now (energies .entry)) (now (correlations .entry)) (now (heard .entry)) (now (eighths .entry))) v head l) number (now (samples .entry))) × (r .left .answer ≡ given 0 (now (samples .entry)) (r .left .last)) × Stores (heardOf (r .left .count) (now (energies .exit)) (now (correlations .exit)) (now (heard .exit)) (now (eighths .exit))) × (sheet (r .list) (now (store .exit)) ≡ afterNotes (sungNote (v .tone)) count (sheet list (now (store .entry))) (blockNotes (tunerOf settings hertz keys (heardOf count (now (energies .entry)) (now (correlations .entry)) (now (heard .entry)) (now (eighths .entry))) v head noLast) (now (samples .entry)))) ⌝ }
 {
-    let t = l.tuner;
-    let list = l.list;
-    let settings = t.settings;
-    let hertz = t.hertz;
-    let keys = t.keyboard;
-    let mut energies = t.heard.energies;
-    let mut correlations = t.heard.correlations;
-    let mut heard = t.heard.store;
-    let mut eighths = t.heard.eighths;
-    let mut kept = t.last.out;
-    let v = t.pitch;
-    let head = t.head;
     let n = samples.len();
     let mut periods = [0u32; LONGEST_BLOCK];
     let mut notes = [0u32; LONGEST_BLOCK];
@@ -179,54 +200,94 @@ fn take(l: ListTuner, number: u16, samples: &[i16], out: &mut [i16], store: &mut
         settings,
         hertz,
         keys,
-        t.heard.count,
-        &mut energies,
-        &mut correlations,
-        &mut heard,
-        &mut eighths,
+        count,
+        energies,
+        correlations,
+        heard,
+        eighths,
         v,
         head,
-        &mut kept,
+        kept,
         number,
         samples,
         &mut periods,
         &mut notes,
         &mut rates,
     );
-    copying::give(&kept, out, n);
     hush(&mut notes, &periods, n);
     let tone = v.tone;
-    let listed = lists::more(list, lists::sung(tone), &notes, n, t.heard.count, store);
-    let answer = left.answer;
-    let pitch = left.pitch;
-    let behind = left.head;
-    ListTaken {
-        tuner: ListTuner {
-            tuner: Tuner {
-                settings: settings,
-                hertz: hertz,
-                keyboard: keys,
-                heard: Heard {
-                    count: left.count,
-                    energies: energies,
-                    correlations: correlations,
-                    store: heard,
-                    eighths: eighths,
-                },
-                pitch: pitch,
-                head: behind,
-                last: Last {
-                    number: left.last.number,
-                    length: left.last.length,
-                    repeated: left.last.repeated,
-                    dropped: left.last.dropped,
-                    out: kept,
-                },
-            },
-            list: listed,
-        },
-        answer: answer_of(answer, listed),
+    let listed = lists::more(list, lists::sung(tone), &notes, n, count, store);
+    ListLeft {
+        left: left,
+        list: listed,
     }
+}
+
+// A block over the parts of a record that is known to be good: taken, given again or refused; the list goes on with a block that is taken.
+pub fn block_to_good(
+    settings: Settings,
+    hertz: u64,
+    keys: Keyboard,
+    count: u64,
+    energies: &mut [u64; EIGHTH_LAGS],
+    correlations: &mut [i64; EIGHTH_LAGS],
+    heard: &mut [i16; KEPT_SAMPLES],
+    eighths: &mut [i16; KEPT_EIGHTHS],
+    v: Pitch,
+    head: Head,
+    last: LastNumbers,
+    kept: &mut [i16; LONGEST_BLOCK],
+    number: u16,
+    samples: &[i16],
+    out: &mut [i16],
+    list: Listing,
+    store: &mut [u32],
+) -> ListLeft
+    requires { ⌜ AllRight settings hertz keys (heardOf count (now energies) (now correlations) (now heard) (now eighths)) v head (lastWith last (now kept)) × Stores (heardOf count (now energies) (now correlations) (now heard) (now eighths)) × (length (now kept) ≡ longestBlock) × ListingIn count list ⌝ }
+    ensures { λ r. ⌜ Took (tunerOf settings hertz keys (heardOf count (now (energies .entry)) (now (correlations .entry)) (now (heard .entry)) (now (eighths .entry))) v head (lastWith last (now (kept .entry)))) number (now (samples .entry)) (now (out .entry)) (tunerOf settings hertz keys (heardOf (r .left .count) (now (energies .exit)) (now (correlations .exit)) (now (heard .exit)) (now (eighths .exit))) (r .left .pitch) (r .left .head) (lastWith (r .left .last) (now (kept .exit)))) (r .left .answer) (now (out .exit)) × Stores (heardOf (r .left .count) (now (energies .exit)) (now (correlations .exit)) (now (heard .exit)) (now (eighths .exit))) × ListedBy (tunerOf settings hertz keys (heardOf count (now (energies .entry)) (now (correlations .entry)) (now (heard .entry)) (now (eighths .entry))) v head (lastWith last (now (kept .entry)))) (now (samples .entry)) list (now (store .entry)) (r .list) (now (store .exit)) (r .left .answer .number) ⌝ }
+{
+    let verdict = tuner::judge_parts(count, last, heard, number, samples, out.len());
+    if verdict != 0 {
+        return ListLeft {
+            left: tuner::block_to_good(
+                settings,
+                hertz,
+                keys,
+                count,
+                energies,
+                correlations,
+                heard,
+                eighths,
+                v,
+                head,
+                last,
+                kept,
+                number,
+                samples,
+                out,
+            ),
+            list: list,
+        };
+    }
+    let taken = take_parts(
+        settings,
+        hertz,
+        keys,
+        count,
+        energies,
+        correlations,
+        heard,
+        eighths,
+        v,
+        head,
+        kept,
+        number,
+        samples,
+        list,
+        store,
+    );
+    copying::give(kept, out, samples.len());
+    taken
 }
 
 // Takes a block, gives the last one again or refuses; the list goes on with a block that is taken.
@@ -244,25 +305,70 @@ pub fn block(
     }
     let t = l.tuner;
     let list = l.list;
-    let heard = t.heard.store;
+    let settings = t.settings;
+    let hertz = t.hertz;
+    let keys = t.keyboard;
+    let mut energies = t.heard.energies;
+    let mut correlations = t.heard.correlations;
+    let mut heard = t.heard.store;
+    let mut eighths = t.heard.eighths;
+    let mut kept = t.last.out;
+    let v = t.pitch;
+    let head = t.head;
     let last = LastNumbers {
         number: t.last.number,
         length: t.last.length,
         repeated: t.last.repeated,
         dropped: t.last.dropped,
     };
-    let verdict = tuner::judge_parts(t.heard.count, last, &heard, number, samples, out.len());
-    if verdict == 0 {
-        return take(l, number, samples, out, store);
-    }
-    let d = Tuner::block(t, number, samples, out);
-    let u = d.tuner;
-    let a = d.answer;
+    let d = block_to_good(
+        settings,
+        hertz,
+        keys,
+        t.heard.count,
+        &mut energies,
+        &mut correlations,
+        &mut heard,
+        &mut eighths,
+        v,
+        head,
+        last,
+        &mut kept,
+        number,
+        samples,
+        out,
+        list,
+        store,
+    );
+    let answer = d.left.answer;
+    let pitch = d.left.pitch;
+    let behind = d.left.head;
+    let listed = d.list;
     ListTaken {
         tuner: ListTuner {
-            tuner: u,
-            list: list,
+            tuner: Tuner {
+                settings: settings,
+                hertz: hertz,
+                keyboard: keys,
+                heard: Heard {
+                    count: d.left.count,
+                    energies: energies,
+                    correlations: correlations,
+                    store: heard,
+                    eighths: eighths,
+                },
+                pitch: pitch,
+                head: behind,
+                last: Last {
+                    number: d.left.last.number,
+                    length: d.left.last.length,
+                    repeated: d.left.last.repeated,
+                    dropped: d.left.last.dropped,
+                    out: kept,
+                },
+            },
+            list: listed,
         },
-        answer: answer_of(a, list),
+        answer: answer_of(answer, listed),
     }
 }
