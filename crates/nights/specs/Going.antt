@@ -89,6 +89,10 @@ module _ {t t′ : Tuner} {k : ℕ} {xs ys zs : List ℤ} {a : Answer} (p : Took
   pub few-more : {n : NightAnswer} → Few (t .heard .count) n → a .repeated < 65536 → a .dropped < 65536 → Few (t′ .heard .count) (added n k a)
   few-more {n} f r d = few-by (a .number) n refl f r d
 
+-- where a night begins
+pub nothing-few : {count : ℕ} {n : NightAnswer} → n ≡ noNight → Few count n
+nothing-few {count} e = subst (Few count) (sym e) (record { taken = omega arith; written = omega arith; repeated = omega arith; dropped = omega arith })
+
 -- within the limit of a take
 pub few-within : {count : ℕ} {n : NightAnswer} → count ≤ takeLimit → Few count n → Few takeLimit n
 few-within h f =

@@ -63,7 +63,7 @@ pub fn refused_night(number: u32) -> NightAnswer
 }
 
 // One single call more, of the block with this number.
-fn add(n: NightAnswer, number: u16, a: Answer) -> NightAnswer
+pub fn add(n: NightAnswer, number: u16, a: Answer) -> NightAnswer
     requires { ⌜ Few takeLimit n ⌝ }
     ensures { λ r. ⌜ (r ≡ added n number a) × (a .repeated < 65536) × (a .dropped < 65536) ⌝ }
 {
@@ -102,7 +102,7 @@ fn add(n: NightAnswer, number: u16, a: Answer) -> NightAnswer
 }
 
 // The place behind a block that begins at a place.
-fn end_of(at: usize, size: usize, length: usize) -> usize
+pub fn end_of(at: usize, size: usize, length: usize) -> usize
     requires { ⌜ at ≤ length ⌝ }
     ensures { λ r. ⌜ r ≡ min (at + size) length ⌝ }
 {
@@ -113,7 +113,7 @@ fn end_of(at: usize, size: usize, length: usize) -> usize
 }
 
 // The night goes on: a block is left, and none was refused.
-fn goes_on(g: Reached, length: usize) -> bool
+pub fn goes_on(g: Reached, length: usize) -> bool
     ensures { λ r. ⌜ Decides r ((g .at < length) × (g .answer .number ≡ 0)) ⌝ }
 {
     if g.at < length {
@@ -212,7 +212,7 @@ fn go(
 }
 
 // The number that refuses a night before its first block, or 0.
-fn judge(t: Tuner, size: usize, length: usize, room: usize) -> u32
+pub fn judge(t: Tuner, size: usize, length: usize, room: usize) -> u32
     ensures { λ r. ⌜ Verdict t size length room r ⌝ }
 {
     if !tuner::good(t) {

@@ -1,13 +1,11 @@
 -- `nights::night` meets its contract: it is refused before its first block, or goes over its own parts.
 -- Assumes nothing.
-use mathlib.Core.Path.{_≡_, refl, sym, subst}
-use Prim.Native.Nat.{ℕ}
+use mathlib.Core.Path.{refl}
 use native.Mathlib.Omega.{arith}
 use borrow.Author.Needs.{needs}
 use Rattle.tuner.proofs.Fields.{stores, out-long}
-use Rattle.nights.specs.declared.NightAnswer.{NightAnswer}
-use Rattle.nights.specs.Nights.{noNight, one-by-one}
-use Rattle.nights.specs.Going.{Few, night-refused, night-begins}
+use Rattle.nights.specs.Nights.{one-by-one}
+use Rattle.nights.specs.Going.{nothing-few, night-refused, night-begins}
 use Rattle.nights.proofs.night.Statement.{statement}
 use Rattle.nights.proofs.night.Tie as tie
 
@@ -25,9 +23,6 @@ plain-requires c κs = search needs
 
 refused-night-requires-2 : tie.Need-refused-night-requires-2
 refused-night-requires-2 c κs = search needs
-
-nothing-few : {count : ℕ} {n : NightAnswer} → n ≡ noNight → Few count n
-nothing-few {count} e = subst (Few count) (sym e) (record { taken = omega arith; written = omega arith; repeated = omega arith; dropped = omega arith })
 
 go-requires : tie.Need-go-requires
 go-requires c κs =

@@ -1,0 +1,4 @@
+pub mod ListNights
+pub mod Onward
+pub mod Singing
+pub mod Ones
