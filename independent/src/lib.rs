@@ -10,6 +10,7 @@ pub mod generator;
 pub mod history;
 pub mod keyboard;
 pub mod lines;
+pub mod list;
 pub mod mend;
 pub mod night;
 pub mod play;

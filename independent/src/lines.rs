@@ -1,10 +1,11 @@
 //! The line program: any bytes in, one answer line for each line.
 
+use crate::list::{List, MOST_ROWS};
 use crate::rules::LONGEST_BLOCK;
 use crate::settings::Settings;
-use crate::statistics::Statistics;
+use crate::statistics::{Between, Statistics};
 use crate::table::CD;
-use crate::tuner::{Answer, Tuner};
+use crate::tuner::{Answer, Standing, Tuner};
 
 /// The most bytes before a line's end.
 pub const LONGEST_LINE: usize = 8_192;
@@ -113,6 +114,10 @@ pub struct Program {
     pub statistics: Statistics,
     /// The line so far, cut once it is too long to be read.
     line: Vec<u8>,
+    /// The lists of the takes that ended, until they are asked for; and what
+    /// fell between the samples of the one that goes on.
+    lists: Vec<List>,
+    between: Between,
 }
 
 impl Default for Program {
@@ -121,6 +126,8 @@ impl Default for Program {
             tuner: Tuner::default_start(),
             statistics: Statistics::default(),
             line: Vec::new(),
+            lists: Vec::new(),
+            between: Between::default(),
         }
     }
 }
@@ -142,6 +149,14 @@ impl Program {
         if !self.line.is_empty() {
             self.answer_line(answers);
         }
+        self.end_take();
+    }
+
+    /// The lists of the takes that ended since this was last asked: each where
+    /// a start or a reset was taken, the opening's too, and the last with the
+    /// input.
+    pub fn lists(&mut self) -> Vec<List> {
+        std::mem::take(&mut self.lists)
     }
 
     pub fn tuner(&self) -> &Tuner {
@@ -152,6 +167,14 @@ impl Program {
     fn lengthen(&mut self, piece: &[u8]) {
         let room = LONGEST_LINE + 1 - self.line.len();
         self.line.extend(piece.iter().take(room));
+    }
+
+    /// The list of the take, afresh from the notes of all its samples.
+    fn end_take(&mut self) {
+        let list = List::of(self.tuner.notes(), MOST_ROWS);
+        self.statistics.list(&list, &self.between);
+        self.between = Between::default();
+        self.lists.push(list);
     }
 
     fn answer_line(&mut self, answers: &mut Vec<u8>) {
@@ -168,7 +191,7 @@ impl Program {
             }),
             Some(Record::Mode(mode)) => self.change(|now| Settings { mode, ..now }),
             Some(Record::Channel(channel)) => self.change(|now| Settings { channel, ..now }),
-            Some(Record::Midi(bytes)) => self.tuner.midi(&bytes, &mut self.statistics).number(),
+            Some(Record::Midi(bytes)) => self.midi(&bytes).number(),
             Some(Record::Reset) => self.reset().number(),
             Some(Record::Block(number, samples)) => {
                 self.block(number, &samples, &mut numbers).number()
@@ -190,6 +213,7 @@ impl Program {
         let before = self.tuner.standing();
         if answer == Answer::Taken {
             self.statistics.start(&before, hertz);
+            self.end_take();
             self.tuner = tuner;
         } else {
             self.statistics.refused_start(&before, answer, &settings);
@@ -202,11 +226,27 @@ impl Program {
         let before = self.tuner.standing();
         let answer = self.tuner.change(to(self.tuner.settings));
         self.statistics.change(&before, &self.tuner.standing());
+        self.look_between(&before);
         answer.number()
     }
 
+    fn midi(&mut self, bytes: &[u8]) -> Answer {
+        let before = self.tuner.standing();
+        let answer = self.tuner.midi(bytes, &mut self.statistics);
+        self.look_between(&before);
+        answer
+    }
+
+    /// What a line changed that is no block.
+    fn look_between(&mut self, before: &Standing) {
+        let (count, after) = (self.tuner.count(), self.tuner.standing());
+        self.between.look(count, before, &after);
+    }
+
+    /// A tuner that calls from a start reached is good, so it is taken.
     fn reset(&mut self) -> Answer {
         self.statistics.reset(&self.tuner.standing());
+        self.end_take();
         self.tuner.reset()
     }
 
@@ -216,10 +256,22 @@ impl Program {
         let (answer, counts) = self
             .tuner
             .block(number, samples, &mut output, &mut self.statistics);
+        if answer == Answer::GivenAgain {
+            self.between.repeats.push(self.tuner.count());
+        }
         numbers.extend([counts.written, counts.repeated, counts.dropped].map(|count| count as i64));
         numbers.extend(output[..counts.written].iter().map(|&out| i64::from(out)));
         answer
     }
+}
+
+/// What `notes` prints of an input: the list of each of its takes.
+pub fn lists_of(input: &[u8]) -> String {
+    let mut program = Program::default();
+    let mut answers = Vec::new();
+    program.read(input, &mut answers);
+    program.end(&mut answers);
+    program.lists().iter().map(List::to_string).collect()
 }
 
 /// All answers to an input, and what was seen on the way.

@@ -370,6 +370,8 @@ impl Record {
             keyboard: self.keyboard().expect("a good record has a keyboard"),
             limit: count + TAKE_LIMIT - self.count as usize,
             take: history(&self.store, count),
+            // Those of the samples that the call takes.
+            notes: Vec::new(),
             eighths: history(&self.eighths, count / 8),
             mode: match self.tracking {
                 0 => Mode::Searching,

@@ -2,6 +2,7 @@
 //! looks on.
 
 use crate::keyboard::{Event, Keyboard, Message};
+use crate::list::{List, Row};
 use crate::rules::*;
 use crate::settings::Settings;
 use crate::table::{notes_at, CD, FILM};
@@ -201,6 +202,50 @@ counters! {
     changes_at_48000,
     resets_at_48000,
     midis_at_48000,
+    /// Of the lists of the takes that ended: rows, and those left out.
+    rows,
+    rows_left_out,
+    /// Takes without a row.
+    lists_without_row,
+    /// A row that begins where the one before it ends; and one behind it, of
+    /// the same note, which was lost between them or not wanted.
+    rows_without_rest,
+    rows_of_the_same_note,
+    /// Of one step: the next one wants another note, or loses it.
+    rows_of_5_samples,
+    /// Of a key outside both tables.
+    rows_outside_the_tables,
+    /// Something fell between two samples of one row.
+    settings_changed_within_row,
+    modes_changed_within_row,
+    keys_changed_within_row,
+    blocks_given_again_within_row,
+}
+
+/// After how many samples of a take something fell between two of them.
+#[derive(Default)]
+pub struct Between {
+    settings: Vec<usize>,
+    modes: Vec<usize>,
+    keys: Vec<usize>,
+    pub repeats: Vec<usize>,
+}
+
+impl Between {
+    /// What differs after so many samples.
+    pub fn look(&mut self, count: usize, before: &Standing, after: &Standing) {
+        let (old, new) = (before.settings, after.settings);
+        let four = |of: Settings| [of.scale, of.eps, of.decay, of.floor];
+        if four(old) != four(new) {
+            self.settings.push(count);
+        }
+        if old.mode != new.mode {
+            self.modes.push(count);
+        }
+        if before.keyboard.key != after.keyboard.key {
+            self.keys.push(count);
+        }
+    }
 }
 
 /// 1 at the rate 48,000, and else 0.
@@ -449,10 +494,39 @@ impl Statistics {
         *counter += u64::from(!count.is_multiple_of(apart));
     }
 
+    /// The list of a take, and what fell between the take's samples.
+    pub fn list(&mut self, list: &List, between: &Between) {
+        let rows = &list.rows;
+        self.rows += rows.len() as u64;
+        self.rows_left_out += list.left as u64;
+        self.lists_without_row += u64::from(rows.is_empty());
+        for pair in rows.windows(2) {
+            self.rows_without_rest += u64::from(pair[1].first == pair[0].end());
+            self.rows_of_the_same_note += u64::from(pair[1].note == pair[0].note);
+        }
+        for row in rows {
+            self.rows_of_5_samples += u64::from(row.length == 5);
+            self.rows_outside_the_tables += u64::from(row.note < 32 || row.note > 102);
+        }
+        self.settings_changed_within_row += within(rows, &between.settings);
+        self.modes_changed_within_row += within(rows, &between.modes);
+        self.keys_changed_within_row += within(rows, &between.keys);
+        self.blocks_given_again_within_row += within(rows, &between.repeats);
+    }
+
     pub fn value(&mut self, value: i64) {
         self.values_held_above += u64::from(value > i64::from(held(value)));
         self.values_held_below += u64::from(value < i64::from(held(value)));
     }
+}
+
+/// How often the samples on both sides of such a place are in one row.
+fn within(rows: &[Row], places: &[usize]) -> u64 {
+    let inside = |place: &&usize| {
+        let behind = rows.partition_point(|row| row.end() <= **place);
+        rows.get(behind).is_some_and(|row| row.first < **place)
+    };
+    places.iter().filter(inside).count() as u64
 }
 
 /// One line a counter: its name, a tab, its count.

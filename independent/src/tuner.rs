@@ -2,6 +2,7 @@
 
 use crate::history::History;
 use crate::keyboard::{Keyboard, HIGHEST_KEY};
+use crate::list::Note;
 use crate::rules::*;
 use crate::settings::{Settings, KEYBOARD};
 use crate::statistics::Statistics;
@@ -30,6 +31,8 @@ pub enum Answer {
     ChannelOutOfRange = 14,
     ModeUnknown = 15,
     RateUnknown = 16,
+    /// A call's own that lends a store for the list: no room for one row.
+    StoreWithoutRoom = 17,
 }
 
 impl Answer {
@@ -114,6 +117,9 @@ pub struct Tuner {
     pub(crate) keyboard: Keyboard,
     pub(crate) limit: usize,
     pub(crate) take: History,
+    /// The wanted note of each sample, as it stood after its search or step;
+    /// none without a period. The list of the notes sung is made of them.
+    pub(crate) notes: Vec<Note>,
     pub(crate) eighths: History,
     pub(crate) mode: Mode,
     pub(crate) rate: i64,
@@ -160,6 +166,7 @@ impl Tuner {
             keyboard: Keyboard::FRESH,
             limit,
             take: History::fresh(),
+            notes: Vec::new(),
             eighths: History::fresh(),
             mode: Mode::Searching,
             rate: LEVEL_RATE,
@@ -314,6 +321,7 @@ impl Tuner {
             Mode::Tracking(tracking) if n.is_multiple_of(5) => self.track(tracking, seen),
             _ => {}
         }
+        self.notes.push(self.note());
         let input = input_position(n);
         let grown = self.position + self.rate;
         let period = self.period();
@@ -413,6 +421,22 @@ impl Tuner {
 
     fn period(&self) -> Option<i64> {
         self.pitch().map(|pitch| pitch.period)
+    }
+
+    /// The wanted note that stands; none without a period.
+    pub fn note(&self) -> Note {
+        let note = self.pitch()?.wanted_note?;
+        Some(u8::try_from(note).expect("a note is a key of a keyboard"))
+    }
+
+    /// The wanted note of each sample of the take.
+    pub fn notes(&self) -> &[Note] {
+        &self.notes
+    }
+
+    /// Samples of the take.
+    pub fn count(&self) -> usize {
+        self.take.count()
     }
 
     pub fn meter(&self) -> Meter {

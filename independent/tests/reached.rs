@@ -128,6 +128,17 @@ const REACHED: &[(&str, &str, u64)] = &[
     ("key_101_at_48000", "ends", 1),
     ("key_102_at_48000", "ends", 1),
     ("key_103_at_48000", "ends", 1),
+    ("rows", "rests", 1),
+    ("rows_left_out", "rows", 1),
+    ("lists_without_row", "rough", 1),
+    ("rows_without_rest", "rows", 1),
+    ("rows_of_the_same_note", "rests", 1),
+    ("rows_of_5_samples", "rows", 1),
+    ("rows_outside_the_tables", "outside", 1),
+    ("settings_changed_within_row", "within", 1),
+    ("modes_changed_within_row", "within", 1),
+    ("keys_changed_within_row", "within", 1),
+    ("blocks_given_again_within_row", "rests", 1),
     ("answer_0", "endless", 1),
     ("answer_1", "mixed", 1),
     ("answer_2", "hostile", 1),
@@ -148,6 +159,9 @@ const REACHED: &[(&str, &str, u64)] = &[
 /// out (4), its limit needs 1,000,000,000 samples (7), and no tuner reached
 /// from a start by calls is out of range (9). The calls' own tests reach them.
 const NEVER: [&str; 3] = ["answer_4", "answer_7", "answer_9"];
+
+/// For a list that is full the night is too short.
+const NOT_IN_THE_NIGHT: &str = "rows_left_out";
 
 fn statistics(kind: &str, seed: u64, samples: usize) -> Statistics {
     let script = script(kind_named(kind).unwrap(), seed, samples);
@@ -204,7 +218,7 @@ fn the_night_reaches_every_branch() {
     write_night(&mut night).unwrap();
     let (_, seen) = answers_to(&night);
     for (name, count) in seen.counters() {
-        let reachable = !NEVER.contains(&name.as_str());
+        let reachable = !NEVER.contains(&name.as_str()) && name != NOT_IN_THE_NIGHT;
         assert_eq!(count > 0, reachable, "{name}: {count}");
     }
 }

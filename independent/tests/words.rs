@@ -2,12 +2,13 @@
 
 use std::process::{Command, Output, Stdio};
 
-const COMMANDS: [(&str, &str); 10] = [
+const COMMANDS: [(&str, &str); 11] = [
     ("compare", env!("CARGO_BIN_EXE_compare")),
     ("files", env!("CARGO_BIN_EXE_files")),
     ("generate", env!("CARGO_BIN_EXE_generate")),
     ("lines", env!("CARGO_BIN_EXE_lines")),
     ("night", env!("CARGO_BIN_EXE_night")),
+    ("notes", env!("CARGO_BIN_EXE_notes")),
     ("play", env!("CARGO_BIN_EXE_play")),
     ("raw", env!("CARGO_BIN_EXE_raw")),
     ("records", env!("CARGO_BIN_EXE_records")),

@@ -7,6 +7,7 @@ use super::holding;
 use super::hostile::{endless_line, hostile_line};
 use super::player;
 use super::random::Random;
+use super::runs;
 use super::script::Moment;
 use super::sound::{period_of_note, Passage, Wave};
 use crate::table::{notes_at, CD, FILM};
@@ -39,6 +40,8 @@ pub struct Kind {
     pub resets: usize,
     /// So many times in a thousand by something that is not the next block.
     pub trouble: usize,
+    /// So many times in a thousand by a block that changes nothing.
+    pub in_vain: usize,
     /// So many times in a thousand by a line that cannot be read.
     pub unreadable: usize,
     /// What may follow each block.
@@ -59,6 +62,7 @@ const fn kind(name: &'static str, meaning: &'static str, singing: Singing) -> Ki
         changes: 20,
         resets: 0,
         trouble: 0,
+        in_vain: 0,
         unreadable: 0,
         following: None,
         cut: false,
@@ -246,6 +250,33 @@ pub const KINDS: &[Kind] = &[
         following: Some(cuts::falls),
         cut: true,
         ..played("cuts", "each take cut in several ways", song)
+    },
+    Kind {
+        settings: Some("4095\t200\t0\t10"),
+        changes: 10,
+        resets: 10,
+        trouble: 20,
+        in_vain: 40,
+        ..kind("rests", "songs with rests, each note twice", runs::rests)
+    },
+    Kind {
+        settings: Some("4095\t409\t0\t1"),
+        lengths: (1, 200),
+        changes: 0,
+        in_vain: 40,
+        unreadable: 20,
+        following: Some(runs::within),
+        ..kind(
+            "within",
+            "changes, modes and keys within a note",
+            runs::held,
+        )
+    },
+    Kind {
+        lengths: (5, 5),
+        in_vain: 5,
+        following: Some(runs::keys),
+        ..played("rows", "a key before every step", runs::steady)
     },
     Kind {
         settings: Some("4095\t409\t0\t1"),

@@ -17,6 +17,7 @@ pub mod night;
 mod nights;
 mod player;
 mod random;
+mod runs;
 pub mod script;
 mod sound;
 mod spoilt;

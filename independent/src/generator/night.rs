@@ -7,8 +7,12 @@ use std::io::{self, Write};
 
 const WHOLE_CASE: &[u8] = include_bytes!("../../../examples/whole_case.txt");
 
-/// Each kind, a seed and so many samples with which it reaches what it is
-/// there for. Only `endless` is left out: its lines are too long to be stored.
+/// Kinds that are not stored: of the list of the notes sung the line program
+/// says nothing, and the lines of `endless` are too long.
+pub const NOT_STORED: [&str; 4] = ["rests", "within", "rows", "endless"];
+
+/// Each other kind, a seed and so many samples with which it reaches what it is
+/// there for.
 pub const NIGHT: &[(&str, u64, usize)] = &[
     ("opening", 3, 5_000),
     ("tones", 29, 8_000),

@@ -150,6 +150,11 @@ impl<'a, W: Write> Script<'a, W> {
         if self.random.chance(self.kind.trouble) {
             self.trouble()?;
         }
+        // Of a kind without such blocks chance is left as it is.
+        if self.kind.in_vain > 0 && self.random.chance(self.kind.in_vain) {
+            let which = self.random.whole(0, IN_VAIN - 1);
+            self.send_in_vain(which)?;
+        }
         while self.random.chance(self.kind.unreadable) {
             let line = spoilt_line(&mut self.random);
             self.send(&line)?;
