@@ -6,6 +6,7 @@
 
 use crate::history::History;
 use crate::keyboard::Keyboard;
+use crate::list::{room, Listing, Note};
 use crate::night::Night;
 use crate::rules::*;
 use crate::settings::Settings;
@@ -83,6 +84,13 @@ pub enum Call {
     Meter,
     /// The length of a recording, and which stretch of it.
     Cut(u64, u64),
+    /// A start, a reset, a block or a night that lends a listing and a store
+    /// for the list of the notes sung.
+    Listed {
+        listing: Listing,
+        store: Vec<u32>,
+        call: Box<Call>,
+    },
 }
 
 /// What a call answers and leaves. What it has no word on is 0 and empty.
@@ -104,9 +112,38 @@ pub struct Left {
     pub stretch: [u64; 2],
     pub record: Vec<u8>,
     pub out: Vec<i16>,
+    /// Of a call with a list, the rows and those left out that it answers, the
+    /// listing's four numbers and the store.
+    pub list: [u32; 2],
+    pub listing: [u32; 4],
+    pub store: Vec<u32>,
 }
 
 impl Left {
+    /// Refused with this number before anything was done.
+    fn refused(bytes: &[u8; SIZE], number: u32, call: &Call) -> Left {
+        let out = match call {
+            Call::Block { out, .. } | Call::Night { out, .. } => out.clone(),
+            _ => vec![],
+        };
+        Left {
+            number,
+            record: bytes.to_vec(),
+            out,
+            ..Left::default()
+        }
+    }
+
+    /// With this listing, its counts answered, and this store.
+    fn listed(self, listing: Listing, store: &[u32]) -> Left {
+        Left {
+            list: [listing.rows, listing.left],
+            listing: listing.words(),
+            store: store.to_vec(),
+            ..self
+        }
+    }
+
     fn start(&mut self, hertz: u32, settings: Settings) {
         let (answer, tuner) = Tuner::start(hertz, settings);
         self.number = answer.number() as u32;
@@ -444,7 +481,52 @@ fn keep(history: &History, to: &mut [i16]) {
 
 /// What a call over these bytes answers and leaves.
 pub fn made(bytes: &[u8; SIZE], call: &Call) -> Left {
+    match call {
+        Call::Listed {
+            listing,
+            store,
+            call,
+        } => made_listed(bytes, *listing, store, call),
+        _ => made_plain(bytes, call).0,
+    }
+}
+
+/// The plain call, and what it makes of the list: 9 also where the listing is
+/// out of its ranges, and 17 where a list would begin in a store without room
+/// for a row.
+fn made_listed(bytes: &[u8; SIZE], listing: Listing, store: &[u32], call: &Call) -> Left {
+    const NO_ROOM: u32 = Answer::StoreWithoutRoom as u32;
+    let has_room = room(store.len()) > 0;
+    let (left, notes) = made_plain(bytes, call);
+    if let Call::Start(..) = call {
+        if left.number == 0 && !has_room {
+            // Of the list that did not begin there are no rows.
+            let list = [0, 0];
+            let left = Left::refused(bytes, NO_ROOM, call).listed(listing, store);
+            return Left { list, ..left };
+        }
+        return left.listed(Listing::FRESH, store);
+    }
     let record = Record::of_bytes(bytes);
+    if !(record.is_good() && listing.is_good(record.count)) {
+        let number = Answer::RecordOutOfRange.number() as u32;
+        return Left::refused(bytes, number, call).listed(listing, store);
+    }
+    if let Call::Reset = call {
+        return match has_room {
+            true => left.listed(Listing::FRESH, store),
+            false => Left::refused(bytes, NO_ROOM, call).listed(listing, store),
+        };
+    }
+    let (mut listing, mut store) = (listing, store.to_vec());
+    listing.go_on(record.tuner().note(), record.count, &notes, &mut store);
+    left.listed(listing, &store)
+}
+
+/// A call without a list; and the notes of the samples that it took.
+fn made_plain(bytes: &[u8; SIZE], call: &Call) -> (Left, Vec<Note>) {
+    let record = Record::of_bytes(bytes);
+    let mut notes = Vec::new();
     let mut left = Left {
         record: bytes.to_vec(),
         ..Left::default()
@@ -487,6 +569,7 @@ pub fn made(bytes: &[u8; SIZE], call: &Call) -> Left {
             if answer == Answer::Taken {
                 left.record = record.after(&tuner, &seen).bytes();
             }
+            notes = tuner.notes;
         }
         Call::Night {
             first,
@@ -501,6 +584,7 @@ pub fn made(bytes: &[u8; SIZE], call: &Call) -> Left {
             if night.taken > 0 {
                 left.record = record.after(&tuner, &seen).bytes();
             }
+            notes = tuner.notes;
         }
         Call::Meter if record.is_good() => match record.tuner().meter() {
             Meter::Searching => {}
@@ -517,6 +601,7 @@ pub fn made(bytes: &[u8; SIZE], call: &Call) -> Left {
             left.out.clone_from(out);
         }
         Call::Change(_) | Call::Midi(_) | Call::Reset => left.number = 9,
+        Call::Listed { .. } => unreachable!("a list has plain calls"),
     }
-    left
+    (left, notes)
 }

@@ -1,11 +1,20 @@
 //! The list of the notes sung: runs of notes, however a take is cut, whatever
 //! store is lent, and what `notes` prints of an input.
 
+use independent::generator::cases::{sung, Cases};
 use independent::generator::cuts::CUTTINGS;
+use independent::generator::edges::bytes_of;
 use independent::generator::kinds::{kind_named, KINDS};
+use independent::generator::lists::{list_choices, listed, BAD, GOOD};
 use independent::generator::script::script;
 use independent::lines::{lists_of, Program};
 use independent::list::{room, runs, List, Listing, Note, Row, MOST_ROWS, NO_PLACE, ROW};
+use independent::record::{made, Call, Record, SIZE};
+use independent::settings::Settings;
+use independent::statistics::Statistics;
+use independent::table::CD;
+use independent::tuner::Tuner;
+use std::collections::BTreeMap;
 
 fn row((note, first, length): (u8, usize, usize)) -> Row {
     Row {
@@ -250,4 +259,139 @@ fn cuttings_have_the_same_list() {
         })
         .sum();
     assert!(rows > 10, "{rows}");
+}
+
+#[test]
+fn the_edges_of_a_listing() {
+    for words in GOOD {
+        assert!(Listing::of(*words).is_good(2_400), "{words:?}");
+    }
+    for words in BAD {
+        assert!(!Listing::of(*words).is_good(2_400), "{words:?}");
+    }
+}
+
+/// A take over a record's bytes, with a list: the plain calls' record and output,
+/// and the list of the take.
+#[test]
+fn a_take_over_a_record() {
+    let take = sung();
+    let (_, mut tuner) = Tuner::start(CD, Settings::DEFAULT);
+    let mut out = vec![0; take.len()];
+    tuner.night(0, 512, &take, &mut out, &mut Statistics::default());
+    for numbers in [3, 8, 90] {
+        let list = List::of(tuner.notes(), room(numbers));
+        let mut bytes = bytes_of(Record::default_start().bytes());
+        let (mut listing, mut store) = (Listing::FRESH, vec![7; numbers]);
+        for (number, samples) in (0..).zip(take.chunks(300)) {
+            let block = Call::Block {
+                number,
+                samples: samples.to_vec(),
+                out: vec![9; samples.len()],
+            };
+            let plain = made(&bytes, &block);
+            let call = Call::Listed {
+                listing,
+                store,
+                call: Box::new(block),
+            };
+            let left = made(&bytes, &call);
+            assert_eq!((left.number, &left.record), (0, &plain.record));
+            assert_eq!(left.out, plain.out);
+            assert_eq!(left.list, left.listing[..2]);
+            (listing, store) = (Listing::of(left.listing), left.store);
+            bytes = bytes_of(left.record);
+        }
+        let mut right = list.numbers();
+        right.resize(numbers, 7);
+        assert_eq!(store, right);
+        let counts = (listing.rows as usize, listing.left as usize);
+        assert_eq!(counts, (list.rows.len(), list.left));
+    }
+}
+
+/// What each refusal leaves: 17 after a start's own, and after 9.
+#[test]
+fn refusals_with_a_list() {
+    let good = bytes_of(Record::default_start().bytes());
+    let mut bad = good;
+    bad[0] ^= 1;
+    let other = Listing::of([1, 0, 0, 0]);
+    let start = |bytes: &[u8; SIZE], hertz, scale, numbers| {
+        let settings = Settings::of([scale, 100, 0, 100]);
+        made(bytes, &listed(other, numbers, Call::Start(hertz, settings)))
+    };
+    for (hertz, scale, number) in [(CD + 1, 0, 16), (CD, 0, 8)] {
+        for numbers in [2, 3] {
+            let left = start(&bad, hertz, scale, numbers);
+            assert_eq!((left.number, left.list), (number, [0, 0]));
+            assert_eq!(left.record, Record::default_start().bytes());
+            assert_eq!(left.listing, Listing::FRESH.words());
+        }
+    }
+    let left = start(&bad, CD, 1, 2);
+    assert_eq!((left.number, left.list), (17, [0, 0]));
+    assert_eq!((&left.record[..], left.listing), (&bad[..], other.words()));
+    let left = start(&bad, CD, 1, 3);
+    assert_eq!((left.number, left.listing), (0, Listing::FRESH.words()));
+    let reset = |bytes: &[u8; SIZE], listing, numbers| {
+        let left = made(bytes, &listed(listing, numbers, Call::Reset));
+        let same = left.record == bytes && left.listing == listing.words();
+        assert!(left.number == 0 || same);
+        left.number
+    };
+    assert_eq!(reset(&bad, Listing::FRESH, 0), 9);
+    assert_eq!(reset(&good, other, 0), 9);
+    assert_eq!(reset(&good, Listing::FRESH, 2), 17);
+    assert_eq!(reset(&good, Listing::FRESH, 3), 0);
+}
+
+/// Calls over records meet all that a listing and a store can do.
+#[test]
+fn calls_over_records_meet_lists() {
+    let mut source = Cases::seeded(20_261_116);
+    let chosen = list_choices().into_iter();
+    let chosen = chosen.map(|(record, call)| (bytes_of(record.bytes()), call));
+    let others = (0..20_000).map(|_| source.case());
+    let mut met: BTreeMap<&str, usize> = BTreeMap::new();
+    for (bytes, call) in chosen.chain(others) {
+        let Call::Listed {
+            listing,
+            store,
+            call: plain,
+        } = &call
+        else {
+            continue;
+        };
+        let left = made(&bytes, &call);
+        let [rows, missing, place, _] = left.listing;
+        let runs = |rows: u32, left: u32| u64::from(rows) + u64::from(left);
+        let begun = runs(rows, missing).saturating_sub(runs(listing.rows, listing.left));
+        let what = match (&**plain, left.number) {
+            (Call::Start(..), 0) => "list begun by a start",
+            (Call::Start(..), 17) => "start without room",
+            (Call::Start(..), _) => "start refused",
+            (Call::Reset, 0) => "list begun by a reset",
+            (Call::Reset, 17) => "reset without room",
+            (_, 9) if Record::of_bytes(&bytes).is_good() => "listing refused",
+            (_, 9) => "record refused",
+            (_, 0) if begun > 1 => "runs begun",
+            (_, 0) if missing > listing.left && rows as usize == MOST_ROWS => "list is full",
+            (_, 0) if missing > listing.left => "run left out",
+            (_, 0) if rows > listing.rows => "run begun",
+            (_, 0) if left.store != *store => "row goes on",
+            (_, 0) if place != NO_PLACE && place as usize >= room(store.len()) => {
+                "row out of store"
+            }
+            (_, 0) => "nothing to list",
+            (_, 1) => "block given again",
+            _ => "block or night refused",
+        };
+        let same = left.listing == listing.words() && left.store == *store;
+        assert!(
+            same || left.number == 0 || matches!(**plain, Call::Night { .. } | Call::Start(..))
+        );
+        *met.entry(what).or_default() += 1;
+    }
+    assert_eq!(met.len(), 16, "{met:?}");
 }

@@ -277,7 +277,7 @@ fn one_by_one(bytes: [u8; SIZE], call: &Call) -> Option<Left> {
 fn nights_over_records_are_the_single_calls() {
     let mut source = Cases::seeded(20_261_115);
     let mut met: BTreeMap<&str, usize> = BTreeMap::new();
-    for case in 0..12_000 {
+    for case in 0..20_000 {
         let (bytes, call) = source.case();
         let Call::Night {
             first,

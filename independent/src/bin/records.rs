@@ -16,16 +16,27 @@ use std::process::{Command, Stdio};
 const USAGE: &str = "records CASES SEED PROGRAM WORDS..";
 
 /// The bytes of what the other program says before the record.
-const SAID: usize = 112;
+const SAID: usize = 136;
+
+/// What a call with a list has more in its number than the plain one.
+const LISTED: u32 = 16;
 
 fn asked(bytes: &[u8; SIZE], call: &Call) -> Vec<u8> {
     let mut words = [0u32; 10];
     let mut longs = [0u64; 2];
     let (mut midi, mut samples, mut out): (&[u8], &[i16], &[i16]) = (&[], &[], &[]);
-    match call {
+    let (plain, listing, store): (&Call, [u32; 4], &[u32]) = match call {
+        Call::Listed {
+            listing,
+            store,
+            call,
+        } => (call, listing.words(), store),
+        _ => (call, [0; 4], &[]),
+    };
+    match plain {
         Call::Start(_, settings) | Call::Change(settings) => {
             // A start's sample rate stands in the place of a block's number.
-            (words[0], words[1]) = match call {
+            (words[0], words[1]) = match plain {
                 Call::Start(hertz, _) => (0, *hertz),
                 _ => (2, 0),
             };
@@ -75,26 +86,37 @@ fn asked(bytes: &[u8; SIZE], call: &Call) -> Vec<u8> {
             (words[0], words[2]) = (8, bytes.len() as u32);
             midi = bytes;
         }
+        Call::Listed { .. } => unreachable!("a list has plain calls"),
     }
-    let mut asked = Vec::with_capacity(56 + SIZE + 4 * samples.len() + midi.len());
+    if plain != call {
+        words[0] += LISTED;
+    }
+    let mut asked = Vec::with_capacity(80 + SIZE + 4 * samples.len() + midi.len());
     words
         .iter()
         .for_each(|word| asked.extend(word.to_le_bytes()));
     longs
         .iter()
         .for_each(|long| asked.extend(long.to_le_bytes()));
+    listing
+        .iter()
+        .for_each(|word| asked.extend(word.to_le_bytes()));
+    asked.extend((store.len() as u64).to_le_bytes());
     asked.extend(bytes);
     asked.extend(midi);
     samples
         .iter()
         .chain(out)
         .for_each(|sample| asked.extend(sample.to_le_bytes()));
+    store
+        .iter()
+        .for_each(|number| asked.extend(number.to_le_bytes()));
     asked
 }
 
 /// What the other program says that the call left, and whether it touched anything else.
-fn said(from: &mut impl Read, room: usize) -> std::io::Result<(Left, bool)> {
-    let mut bytes = vec![0; SAID + SIZE + 2 * room];
+fn said(from: &mut impl Read, room: usize, numbers: usize) -> std::io::Result<(Left, bool)> {
+    let mut bytes = vec![0; SAID + SIZE + 2 * room + 4 * numbers];
     from.read_exact(&mut bytes)?;
     let half = |at: usize| u16::from_le_bytes(bytes[at..at + 2].try_into().unwrap());
     let word = |at: usize| u32::from_le_bytes(bytes[at..at + 4].try_into().unwrap());
@@ -110,9 +132,15 @@ fn said(from: &mut impl Read, room: usize) -> std::io::Result<(Left, bool)> {
         sums: [64, 72, 80, 88].map(long),
         again: (word(96), [100, 102, 104].map(half)),
         record: bytes[SAID..SAID + SIZE].to_vec(),
-        out: bytes[SAID + SIZE..]
+        out: bytes[SAID + SIZE..][..2 * room]
             .chunks_exact(2)
             .map(|sample| i16::from_le_bytes([sample[0], sample[1]]))
+            .collect(),
+        list: [112, 116].map(word),
+        listing: [120, 124, 128, 132].map(word),
+        store: bytes[SAID + SIZE + 2 * room..]
+            .chunks_exact(4)
+            .map(|number| u32::from_le_bytes(number.try_into().unwrap()))
             .collect(),
     };
     Ok((left, word(36) != 0))
@@ -129,6 +157,12 @@ fn name(call: &Call) -> &'static str {
         Call::Reset => "reset",
         Call::Meter => "meter",
         Call::Cut(..) => "cut",
+        Call::Listed { call, .. } => match **call {
+            Call::Start(..) => "list_start",
+            Call::Block { .. } => "list_block",
+            Call::Night { .. } => "list_night",
+            _ => "list_reset",
+        },
     }
 }
 
@@ -155,7 +189,8 @@ fn main() {
         to.write_all(&asked(&bytes, &call))
             .expect("the call is sent");
         to.flush().expect("the call is sent");
-        let (left, touched) = said(&mut from, right.out.len()).expect("the call is answered");
+        let (left, touched) =
+            said(&mut from, right.out.len(), right.store.len()).expect("the call is answered");
         assert!(
             !touched,
             "case {case}: something else was touched by {call:?}"

@@ -2,6 +2,7 @@
 //! lengths and buffers of every sort; the records at the edges come first.
 
 use super::edges::{bytes_of, calls_over, choices, edges, fresh_of_version_2, BEGINNING_OF_OLD};
+use super::lists::{any_listed, list_choices};
 use super::nights::{any_night, night_choices};
 use super::random::Random;
 use super::sound::{period_of_note, sing, Passage, Wave};
@@ -34,7 +35,8 @@ impl Cases {
             let calls = calls_over(&record).into_iter();
             first.extend(calls.map(|call| (bytes_of(record.bytes()), call)));
         }
-        let choices = choices().into_iter().chain(night_choices());
+        let choices = choices().into_iter();
+        let choices = choices.chain(night_choices()).chain(list_choices());
         first.extend(choices.map(|(record, call)| (bytes_of(record.bytes()), call)));
         let calls = calls_over(&reached[0]).into_iter();
         first.extend(calls.map(|call| (fresh_of_version_2(), call)));
@@ -62,6 +64,14 @@ impl Cases {
             94..=96 => Call::Start(hertz(random), settings(random)),
             97 => Call::StartDefault,
             _ => Call::Cut(long(random), long(random) / 512),
+        };
+        let call = match call {
+            Call::Block { .. } | Call::Night { .. } | Call::Reset | Call::Start(..)
+                if random.chance(400) =>
+            {
+                any_listed(random, &record, call)
+            }
+            _ => call,
         };
         let mut bytes = bytes_of(record.bytes());
         match random.whole(0, 19) {

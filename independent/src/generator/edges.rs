@@ -1,6 +1,7 @@
 //! Records with a number at the end of its range, and with one just past it,
 //! number by number as `docs/RANGES.md` lists them; and calls over each.
 
+use super::lists::lists_over;
 use super::nights::nights_over;
 use crate::record::{made, Call, Record, LAYOUT, SIZE};
 use crate::settings::Settings;
@@ -368,8 +369,8 @@ pub fn edges() -> Vec<(Record, bool)> {
     good.chain(bad).chain(wrong).collect()
 }
 
-/// Every call that reads the record: the next block and the last again, nights that begin with these, changes that are allowed and one
-/// that isn't, bytes of the keyboard, a reset, the meter.
+/// Every call that reads the record: the next block and the last again, nights that begin with these, a block and a reset with a list,
+/// changes that are allowed and one that isn't, bytes of the keyboard, a reset, the meter.
 pub fn calls_over(record: &Record) -> Vec<Call> {
     let block = |number, samples: &[i16]| Call::Block {
         number,
@@ -377,11 +378,14 @@ pub fn calls_over(record: &Record) -> Vec<Call> {
         out: vec![77; samples.len() + 1],
     };
     let [ones, again] = nights_over(record);
+    let [with_list, anew] = lists_over(record);
     vec![
         block(record.next_number(), &[1_000, -1_000, 500]),
         block(record.number, record.last_samples()),
         ones,
         again,
+        with_list,
+        anew,
         Call::Change(Settings::DEFAULT),
         Call::Change(settings([0, 410, 256, 0, 2, 16])),
         Call::Change(settings([1, 409, 255, 1, 1, record.settings.channel])),

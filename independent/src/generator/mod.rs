@@ -13,6 +13,7 @@ mod filming;
 mod holding;
 mod hostile;
 pub mod kinds;
+pub mod lists;
 pub mod night;
 mod nights;
 mod player;

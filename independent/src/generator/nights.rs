@@ -27,7 +27,7 @@ const SIZES: [u64; 10] = [
     1 << 32,
 ];
 
-fn night(first: u16, size: u64, samples: &[i16], room: usize) -> Call {
+pub(super) fn night(first: u16, size: u64, samples: &[i16], room: usize) -> Call {
     Call::Night {
         first,
         size,
@@ -97,7 +97,7 @@ fn shifted() -> Vec<(Record, Call)> {
 }
 
 /// The wave of the record that is pitched, from where that ends.
-fn square(length: i16) -> Vec<i16> {
+pub(super) fn square(length: i16) -> Vec<i16> {
     (0..length)
         .map(|at| 9_000 * (at / 48 % 2) - 4_500)
         .collect()
