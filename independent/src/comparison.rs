@@ -1,11 +1,13 @@
 //! Another program, held to this one: a script of lines or cases of WAVE files to
-//! both, and the first answer that differs.
+//! both, and the first answer that differs; or the first row of a list of the
+//! notes sung.
 //!
 //! Threads of their own write the other's input and read its output, so that
 //! it never stands still for this program, nor this one for it.
 
 use crate::generator::files::Files;
 use crate::lines::Program;
+use crate::list::List;
 use crate::takes::Disagreement;
 use crate::waves::{Case, Independent};
 use std::fmt;
@@ -37,6 +39,9 @@ pub struct Equal {
     pub samples: u64,
     /// Cases of WAVE files.
     pub files: u64,
+    /// Rows of the lists of the notes sung, and how many takes they are of.
+    pub rows: u64,
+    pub lists: u64,
 }
 
 impl Equal {
@@ -44,6 +49,8 @@ impl Equal {
         self.lines += other.lines;
         self.samples += other.samples;
         self.files += other.files;
+        self.rows += other.rows;
+        self.lists += other.lists;
     }
 
     /// Written, repeated and dropped come before a block's samples.
@@ -57,6 +64,9 @@ impl Equal {
 impl fmt::Display for Equal {
     fn fmt(&self, to: &mut fmt::Formatter) -> fmt::Result {
         write!(to, "{} lines, {} samples out", self.lines, self.samples)?;
+        if self.lists > 0 {
+            write!(to, ", {} rows of notes in {} takes", self.rows, self.lists)?;
+        }
         match self.files {
             0 => Ok(()),
             files => write!(to, ", {files} cases of files"),
@@ -123,16 +133,48 @@ fn shown(line: &[u8], from: usize) -> String {
     }
 }
 
+/// What came of a script.
+pub struct Held {
+    /// The other program's answers.
+    pub answers: Vec<u8>,
+    /// The list of each take, by this program.
+    pub lists: Vec<List>,
+}
+
 /// Gives a script to both programs, the other being this command, and counts
-/// what is equal. Gives the other's answers.
+/// what is equal.
 pub fn compare(
     script: &[u8],
     command: &[String],
     host: Host,
     equal: &mut Equal,
-) -> Result<Vec<u8>, Unequal> {
+) -> Result<Held, Unequal> {
     with_program(command, script, host, |go, answers| {
         hold(script, go, answers, equal)
+    })
+}
+
+/// Gives a script to this command, which prints the list of each take, and holds
+/// it to these lists. Lines are then those of what it prints.
+pub fn compare_lists(
+    script: &[u8],
+    lists: &[List],
+    command: &[String],
+    equal: &mut Equal,
+) -> Result<(), Unequal> {
+    with_program(command, script, Host::Streaming, |go, mut answers| {
+        // A program that has ended is told by its answers.
+        let _ = go.send(());
+        let mut line = 1;
+        for list in lists {
+            for row in list.to_string().split_inclusive('\n') {
+                answers.hold(line, b"", row.as_bytes())?;
+                line += 1;
+            }
+            equal.rows += list.rows.len() as u64;
+            equal.lists += 1;
+        }
+        answers.hold(line, b"", b"").map(drop)
     })
 }
 
@@ -198,13 +240,13 @@ fn writer(mut to: ChildStdin, input: Arc<[u8]>, host: Host) -> Sender<()> {
     go
 }
 
-/// Holds the answers to this program's, and gives them.
+/// Holds the answers to this program's, and gives them with this program's lists.
 fn hold(
     script: &[u8],
     go: Sender<()>,
     mut answers: Answers,
     equal: &mut Equal,
-) -> Result<Vec<u8>, Unequal> {
+) -> Result<Held, Unequal> {
     let mut program = Program::default();
     let mut got = Vec::new();
     let mut line = 1;
@@ -214,14 +256,18 @@ fn hold(
         let mut expected = Vec::new();
         program.read(input, &mut expected);
         if !input.ends_with(b"\n") {
-            program.end(&mut expected);
+            program.end_line(&mut expected);
         }
         got.extend(answers.hold(line, input, &expected)?);
         equal.add_answer(&expected);
         line += 1;
     }
     answers.hold(line, b"", b"")?;
-    Ok(got)
+    program.end(&mut Vec::new());
+    Ok(Held {
+        answers: got,
+        lists: program.lists(),
+    })
 }
 
 /// What the other program writes, as it comes.

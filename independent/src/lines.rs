@@ -146,10 +146,15 @@ impl Program {
 
     /// The input has ended; a last line may lack its end.
     pub fn end(&mut self, answers: &mut Vec<u8>) {
+        self.end_line(answers);
+        self.end_take();
+    }
+
+    /// Answers a last line that lacks its end.
+    pub fn end_line(&mut self, answers: &mut Vec<u8>) {
         if !self.line.is_empty() {
             self.answer_line(answers);
         }
-        self.end_take();
     }
 
     /// The lists of the takes that ended since this was last asked: each where

@@ -4,6 +4,7 @@
 use std::process::{Command, Output};
 
 const LINES: &str = env!("CARGO_BIN_EXE_lines");
+const NOTES: &str = env!("CARGO_BIN_EXE_notes");
 const WAVES: &str = env!("CARGO_BIN_EXE_waves");
 
 fn compare(arguments: &[&str]) -> Output {
@@ -39,7 +40,7 @@ fn the_program_is_equal_to_itself() {
     assert!(said[0].starts_with("seed 7: "));
     assert!(said[1].starts_with("seed 8: "));
     assert!(said[2].starts_with("equal: "));
-    assert!(said[2].contains("; 39 kinds, seeds 7 to 8, "));
+    assert!(said[2].contains("; 42 kinds, seeds 7 to 8, "));
     assert_eq!(said.len(), 3);
     let words: Vec<&str> = said[2].split(' ').collect();
     let (lines, samples): (u64, u64) = (words[1].parse().unwrap(), words[3].parse().unwrap());
@@ -120,7 +121,7 @@ fn files_are_compared_too() {
     };
     let (status, said) = with_files(WAVES);
     assert_eq!(status, Some(0), "{said}");
-    assert!(said.contains(", 6000 cases of files; 39 kinds, seeds 7 to 8, "));
+    assert!(said.contains(", 6000 cases of files; 42 kinds, seeds 7 to 8, "));
     let (status, said) = with_files(LINES);
     assert_eq!(status, Some(1));
     let parts = [
@@ -129,6 +130,33 @@ fn files_are_compared_too() {
         "\n  expected  r\\t0\\t44100\\t0\\n\n",
         "\n  got       10\\n\n",
         "\n  script    files 7 3000\n",
+    ];
+    for part in parts {
+        assert!(said.contains(part), "no {part:?} in\n{said}");
+    }
+}
+
+/// The list of each take of every script is held too.
+#[test]
+fn notes_are_compared_too() {
+    let with_notes = |program: &str| {
+        let words = ["--notes", program, "7", "1", "3000", "--", LINES];
+        let output = compare(&words);
+        let said = String::from_utf8(output.stdout).unwrap();
+        (output.status.code(), said)
+    };
+    let (status, said) = with_notes(NOTES);
+    assert_eq!(status, Some(0), "{said}");
+    let rows: Vec<&str> = said.lines().next().unwrap().split(", ").collect();
+    let (rows, takes) = rows[2].split_once(" rows of notes in ").unwrap();
+    assert!(rows.parse::<u64>().unwrap() > 500, "{said}");
+    assert!(takes.ends_with(" takes"), "{said}");
+    let (status, said) = with_notes(LINES);
+    assert_eq!(status, Some(1));
+    let parts = [
+        "not equal: notes of kind opening, seed 7, line 1, from byte 1 ",
+        "\n  input     nothing\n",
+        "\n  script    generate opening 7 3000\n",
     ];
     for part in parts {
         assert!(said.contains(part), "no {part:?} in\n{said}");
@@ -154,6 +182,7 @@ fn wrong_arguments_are_refused() {
         &["18446744073709551615", "2", "100", "--", LINES],
         &["--hasty", "1", "1", "100", "--", LINES],
         &["--files", "1", "1", "100", "--", LINES],
+        &["--notes", "1", "1", "100", "--", LINES],
         &["--files", "many", WAVES, "1", "1", "100", "--", LINES],
     ];
     for arguments in refused {

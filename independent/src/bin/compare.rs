@@ -1,9 +1,10 @@
-//! `compare [--waiting] [--files CASES PROGRAM] FIRST_SEED SEEDS SAMPLES -- COMMAND
-//! ARG..`: holds another line program to this one, by a script of each kind for
-//! each seed; and its answers to the cuttings of a take to one another. With
+//! `compare [--waiting] [--notes PROGRAM] [--files CASES PROGRAM] FIRST_SEED SEEDS
+//! SAMPLES -- COMMAND ARG..`: holds another line program to this one, by a script
+//! of each kind for each seed; and its answers to the cuttings of a take to one
+//! another. With `--notes` also PROGRAM to `notes`, by the same scripts. With
 //! `--files` then PROGRAM to `waves`, by so many cases of WAVE files for each seed.
 
-use independent::comparison::{compare, compare_files, Equal, Host, Unequal};
+use independent::comparison::{compare, compare_files, compare_lists, Equal, Host, Unequal};
 use independent::generator::cuts::CUTTINGS;
 use independent::generator::kinds::{Kind, KINDS};
 use independent::generator::script::script;
@@ -13,11 +14,13 @@ use std::ops::RangeInclusive;
 use std::process::ExitCode;
 use std::time::Instant;
 
-const USAGE: &str = "compare [--waiting] [--files CASES PROGRAM] FIRST_SEED SEEDS SAMPLES \
-                     -- COMMAND ARG..";
+const USAGE: &str = "compare [--waiting] [--notes PROGRAM] [--files CASES PROGRAM] \
+                     FIRST_SEED SEEDS SAMPLES -- COMMAND ARG..";
 
 struct Task {
     host: Host,
+    /// The program that is to print the list of the notes sung in each take.
+    notes: Option<String>,
     /// So many cases of WAVE files, and the program that is to answer them.
     files: Option<(u64, String)>,
     seeds: RangeInclusive<u64>,
@@ -31,6 +34,10 @@ fn task(arguments: &[String]) -> Option<Task> {
         [switch, rest @ ..] if switch == "--waiting" => (Host::Waiting, rest),
         _ => (Host::Streaming, arguments),
     };
+    let (notes, arguments) = match arguments {
+        [switch, program, rest @ ..] if switch == "--notes" => (Some(program.clone()), rest),
+        _ => (None, arguments),
+    };
     let (files, arguments) = match arguments {
         [switch, cases, program, rest @ ..] if switch == "--files" => {
             (Some((cases.parse().ok()?, program.clone())), rest)
@@ -43,6 +50,7 @@ fn task(arguments: &[String]) -> Option<Task> {
             let more = seeds.parse::<u64>().ok()?.checked_sub(1)?;
             Some(Task {
                 host,
+                notes,
                 files,
                 seeds: first..=first.checked_add(more)?,
                 samples: samples.parse().ok()?,
@@ -84,9 +92,9 @@ type Difference = (String, String, Unequal);
 fn compare_kinds(seed: u64, task: &Task, equal: &mut Equal) -> Result<(), Difference> {
     for kind in KINDS {
         let (name, samples) = (kind.name, task.samples);
-        compare_kind(kind, seed, task, equal).map_err(|unequal| {
+        compare_kind(kind, seed, task, equal).map_err(|(of, unequal)| {
             let made = format!("generate {name} {seed} {samples}");
-            (format!("kind {name}"), made, unequal)
+            (format!("{of}kind {name}"), made, unequal)
         })?;
     }
     let Some((cases, program)) = &task.files else {
@@ -98,11 +106,23 @@ fn compare_kinds(seed: u64, task: &Task, equal: &mut Equal) -> Result<(), Differ
     })
 }
 
-fn compare_kind(kind: &Kind, seed: u64, task: &Task, equal: &mut Equal) -> Result<(), Unequal> {
+/// Where it is not the answers that differ, what does, before the kind's name.
+fn compare_kind(
+    kind: &Kind,
+    seed: u64,
+    task: &Task,
+    equal: &mut Equal,
+) -> Result<(), (&'static str, Unequal)> {
     let script = script(kind, seed, task.samples);
-    let answers = compare(&script, &task.command, task.host, equal)?;
+    let answers = |unequal| ("", unequal);
+    let held = compare(&script, &task.command, task.host, equal).map_err(answers)?;
     if kind.cut {
-        hold_cuttings(&script, &answers, CUTTINGS.len()).map_err(Unequal::Cutting)?;
+        hold_cuttings(&script, &held.answers, CUTTINGS.len())
+            .map_err(|disagreement| ("", Unequal::Cutting(disagreement)))?;
     }
-    Ok(())
+    let Some(program) = &task.notes else {
+        return Ok(());
+    };
+    compare_lists(&script, &held.lists, std::slice::from_ref(program), equal)
+        .map_err(|unequal| ("notes of ", unequal))
 }
