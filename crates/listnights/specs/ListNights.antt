@@ -8,7 +8,6 @@ use lib.IntN.{ℤ}
 use lib.ListN.{take, drop}
 use Rattle.lists.specs.declared.Listing.{Listing}
 use Rattle.lists.specs.Lists.{sungNote, sheet, afterNotes}
-use Rattle.tuner.specs.declared.Tuner.{Tuner}
 use Rattle.nights.specs.declared.NightAnswer.{NightAnswer}
 use Rattle.nights.specs.Nights.{refusedNight, Nighted}
 use Rattle.listing.specs.declared.ListTuner.{ListTuner}

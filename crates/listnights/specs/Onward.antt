@@ -1,8 +1,8 @@
 -- A tuner after blocks that were taken one after the other holds the take that the rules leave after their samples, but for samples too old to be looked at. So the notes
 -- of the next block come behind theirs, as if all were one block.
 use mathlib.Core.Path.{_≡_, refl, sym, ap, _∙_}
-use mathlib.Core.List.{List, [], _∷_, _++_, map-append}
-use Prim.Native.Nat.{ℕ, _+_, _≤_}
+use mathlib.Core.List.{List, [], _++_, map-append}
+use Prim.Native.Nat.{ℕ, _+_}
 use native.Mathlib.Omega.{arith}
 use lib.IntN.{ℤ, pos, natAbs, _-ℤ_}
 use lib.ListN.{length, length-map}
@@ -12,7 +12,7 @@ use Rattle.rules.specs.Facts.{keeping}
 use Rattle.rules.specs.Hearing.{heardAll-append}
 use Rattle.rules.specs.Position.{in-bounds-behind}
 use Rattle.rules.specs.Blocks.{after-append, gives-append, after-count, after-sound, given-length}
-use Rattle.rules.specs.Sane.{Sane, after-sane}
+use Rattle.rules.specs.Sane.{after-sane}
 use Rattle.rules.specs.Local.{SameNewest, Agree, after-agree}
 use Rattle.lists.specs.Lists.{Sheet, sungNote, notesSung, lastNote, afterNotes}
 use Rattle.lists.specs.Folds.{afterNotes-append}

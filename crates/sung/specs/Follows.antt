@@ -23,16 +23,19 @@ use Rattle.answers.specs.declared.Answer.{Answer}
 use Rattle.answers.specs.Numbering.{plain}
 use Rattle.meters.specs.declared.Meter.{Meter}
 use Rattle.tuner.specs.declared.Tuner.{Tuner}
-use Rattle.tuner.specs.Tuners.{takeOf, freshTuner, defaultTuner, Took, Started, record-good, Reset}
+use Rattle.tuner.specs.Tuners.{takeOf, freshTuner, defaultTuner, Started, record-good, Reset}
 use Rattle.listing.specs.declared.ListTuner.{ListTuner}
 use Rattle.listing.specs.declared.ListAnswer.{ListAnswer}
 use Rattle.listing.specs.Listings.{listTuner, ListGood, listNumber, ListStarted, blockNotes, ListedBy, goes-on, as-it-was, ListTook, as-plain, ListReset, record-out-of-range, no-room, begun-anew}
 use Rattle.listing.specs.Beginnings.{number-zero}
+use Rattle.listnights.specs.declared.ListNightAnswer.{ListNightAnswer}
+use Rattle.listnights.specs.ListNights.{tookSamples, ListNighted, record-out-of-range as night-out-of-range, as-plain as night-as-plain}
 use Rattle.account.specs.Account.{Call, start, change, block, midi, reset, meter, by-start, by-change, by-block, by-midi, by-reset, by-meter, Series, fresh-start, and-then, Received, begun, courseOf, withEvents, ifTaken, plus, received, givenOf, withBlock}
 use Rattle.account.specs.Cutting.{tunerAfter}
 use Rattle.account.specs.Following.{course-agree}
 use Rattle.account.specs.Holds.{holds, tuner-holds, series-course}
-use Rattle.sung.specs.Sung.{ListSeries, first-start, then-start, then-reset, refused-reset, then-block, then-change, then-midi, then-meter, notesOf, SungIs, SungTheorem}
+use Rattle.sung.specs.NightNotes.{More, block-receives, night-receives, night-series}
+use Rattle.sung.specs.Sung.{listNightCalls, ListSeries, first-start, then-start, then-reset, refused-reset, then-block, then-night, then-change, then-midi, then-meter, notesOf, SungIs, SungTheorem}
 
 -- ---- the note of the last sample is that of the take's tone
 pub last-given : (c : Course) (es : List Event) → lastNote (sungNote (c .take .pitch .tone)) (notesSung (givenBy c es)) ≡ sungNote (courseAfter c es .take .pitch .tone)
@@ -65,12 +68,12 @@ module _ {cs : List Call} {t : Tuner} (h : Series cs t) where
       ap notesSung (given-samples now xs ∙ after-agree (course-force (series-course h)) (series-course h .take) (course-agree (series-course h) (t .last)) xs .1)
       ∙ ap (λ (u : Tuner). blockNotes u xs) (sym (tuner-holds cs t h))
 
-  -- the notes of a block that is taken come behind those before it
-  pub notes-more : (k : ℕ) (xs ys ys′ : List ℤ) (a : Answer) → a .number ≡ 0 → notesOf (block k xs ys a ys′ ∷ cs) ≡ notesOf cs ++ blockNotes t xs
-  unfolding received plus
-  notes-more k xs ys ys′ a z =
-      ap (λ (r : Received). notesSung (givenOf r)) (cond-yes (withBlock (received cs) xs a ys′) (received cs) (eq-eqb (a .number) 0 z))
-      ∙ ap notesSung (givenBy-append (freshCourse (received cs .hertz) (received cs .settings)) (received cs .events) (map sample xs))
+  -- the notes of samples received come behind those before them
+  pub notes-more : (xs : List ℤ) {r : Received} → More (received cs) r xs → notesSung (givenOf r) ≡ notesOf cs ++ blockNotes t xs
+  notes-more xs m =
+      ap notesSung
+      ((λ i. givenBy (freshCourse (m .hertz i) (m .settings i)) (m .events i))
+      ∙ givenBy-append (freshCourse (received cs .hertz) (received cs .settings)) (received cs .events) (map sample xs))
       ∙ map-append (λ (g : Given). sungNote (g .tone)) (givenOf (received cs)) (givenBy now (map sample xs))
       ∙ ap (λ (l : List ℕ). notesOf cs ++ l) (notes-are xs)
 
@@ -165,17 +168,17 @@ anew {l = l} store h e f =
 good : {cs : List Call} {l : ListTuner} {began store : List ℕ} → Follows cs l began store → ListGood l
 good {cs} {l} f = (holds cs (l .tuner) (f .series) .good, subst (λ (n : ℕ). ListingIn n (l .list)) (sym (count-is (f .series))) (f .within))
 
--- a block that is taken: its notes come behind those before it
-taken-follows : {cs : List Call} {l l′ : ListTuner} {began store store′ : List ℕ} (k : ℕ) (xs ys ys′ : List ℤ) (a : Answer) → Follows cs l began store → Took (l .tuner) k xs ys (l′ .tuner) a ys′ → a .number ≡ 0
-    → sheet (l′ .list) store′ ≡ afterNotes (sungNote (l .tuner .pitch .tone)) (l .tuner .heard .count) (sheet (l .list) store) (blockNotes (l .tuner) xs) → Follows (block k xs ys a ys′ ∷ cs) l′ began store′
-taken-follows {cs} {l} {l′} {began} {store} k xs ys ys′ a f p z e =
-    let more = notes-more (f .series) k xs ys ys′ a z in
+-- samples that are taken: their notes come behind those before them
+more-follows : {cs cs′ : List Call} {l l′ : ListTuner} {began store store′ : List ℕ} (xs : List ℤ) → Follows cs l began store → Series cs′ (l′ .tuner) → More (received cs) (received cs′) xs
+    → sheet (l′ .list) store′ ≡ afterNotes (sungNote (l .tuner .pitch .tone)) (l .tuner .heard .count) (sheet (l .list) store) (blockNotes (l .tuner) xs) → Follows cs′ l′ began store′
+more-follows {cs} {l = l} {l′} {began} {store} xs f h m e =
+    let more = notes-more (f .series) xs m in
     let new = blockNotes (l .tuner) xs in
     let is : sheet (l′ .list) _ ≡ afterNotes (lastNote noNote (notesOf cs)) (length (notesOf cs)) (sheet (l .list) store) new =
     e ∙ (λ i. afterNotes (last-is (f .series) i) (count-is (f .series) i) (sheet (l .list) store) new) in
     let in-more = afterNotes-in (lastNote noNote (notesOf cs)) (length (notesOf cs)) (sheet (l .list) store) new (f .within) in
     record {
-      series = and-then (f .series) (by-block p);
+      series = h;
       listed = transport (λ i. Listed began (sym more i) (sym is i)) (listed-more began (notesOf cs) new (sheet (l .list) store) (f .listed));
       within = transport (λ i. ListingIn ((sym (length-append (notesOf cs) new) ∙ ap (λ (ns : List ℕ). length ns) (sym more)) i) (sym is i .listing)) in-more;
     }
@@ -189,7 +192,15 @@ follow-block {cs} {l} {l′} {began} {store} {store′} {k} {xs} {ys} {ys′} {a
     by-number v z (as-it-was h e w) =
         let same = no-more f (and-then (f .series) (by-block p)) (untaken-notes cs k xs ys ys′ (a .answer) (omega arith)) in
         transport (λ i. Follows (block k xs ys (a .answer) ys′ ∷ cs) (listTuner (l′ .tuner) (sym e i)) began (sym w i)) same
-    by-number v z (goes-on e) = taken-follows k xs ys ys′ (a .answer) f p z e
+    by-number v z (goes-on e) =
+        let m = subst (More (received cs) (received (block k xs ys (a .answer) ys′ ∷ cs))) (cond-yes xs [] (eq-eqb (a .answer .number) 0 z)) (block-receives cs k xs ys ys′ (a .answer)) in
+        more-follows xs f (and-then (f .series) (by-block p)) m e
+
+follow-night : {cs : List Call} {l l′ : ListTuner} {began store store′ : List ℕ} {k size : ℕ} {xs ys ys′ : List ℤ} {a : ListNightAnswer}
+    → Follows cs l began store → (p : ListNighted l k size xs ys store l′ a ys′ store′) → Follows (listNightCalls p ++ cs) l′ began store′
+unfolding listNightCalls
+follow-night f (night-out-of-range n e b o w) = absurd (n (good f))
+follow-night {cs} {size = size} {xs} {a = a} f (night-as-plain g p d e) = more-follows (tookSamples (a .night) size xs) f (night-series (f .series) p) (night-receives cs p) d
 
 -- ---- after any series of calls
 follows : {cs : List Call} {l : ListTuner} {began store : List ℕ} → ListSeries cs l began store → Follows cs l began store
@@ -198,6 +209,7 @@ follows (then-start {cs} {store = store} {hertz} {s} {a} h p z) = let q = starte
 follows (then-reset {cs} {store = store} {a} h p z) = let q = reset-plain p z in anew store (and-then (follows h .series) (by-reset (q .0))) (q .1) (reset-notes cs (a .answer) z)
 follows (refused-reset {cs} {began = began} {store} h p z) = subst (λ (l : ListTuner). Follows cs l began store) (sym (reset-left p z)) (follows h)
 follows (then-block h p) = follow-block (follows h) p
+follows (then-night h p) = follow-night (follows h) p
 follows (then-change {cs} {s = s} {a = a} h p) = let f = follows h in no-more f (and-then (f .series) (by-change p)) (change-notes cs s a)
 follows (then-midi {cs} {bytes = bytes} {a = a} h p) = let f = follows h in no-more f (and-then (f .series) (by-midi p)) (midi-notes cs bytes a)
 follows (then-meter {cs} {m = m} h p) = let f = follows h in no-more f (and-then (f .series) (by-meter p)) (meter-notes cs m)

@@ -1,2 +1,4 @@
+pub mod NightCalls
+pub mod NightNotes
 pub mod Sung
 pub mod Follows
