@@ -22,6 +22,7 @@ use Rattle.lists.specs.Afresh.{Listed, listed-empty, listed-more, is-list}
 use Rattle.answers.specs.declared.Answer.{Answer}
 use Rattle.answers.specs.Numbering.{plain}
 use Rattle.meters.specs.declared.Meter.{Meter}
+use Rattle.rules.specs.Ranges.{default-start}
 use Rattle.tuner.specs.declared.Tuner.{Tuner}
 use Rattle.tuner.specs.Tuners.{takeOf, freshTuner, defaultTuner, Started, record-good, Reset}
 use Rattle.listing.specs.declared.ListTuner.{ListTuner}
@@ -35,7 +36,7 @@ use Rattle.account.specs.Cutting.{tunerAfter}
 use Rattle.account.specs.Following.{course-agree}
 use Rattle.account.specs.Holds.{holds, tuner-holds, series-course}
 use Rattle.sung.specs.NightNotes.{More, block-receives, night-receives, night-series}
-use Rattle.sung.specs.Sung.{listNightCalls, ListSeries, first-start, then-start, then-reset, refused-reset, then-block, then-night, then-change, then-midi, then-meter, notesOf, SungIs, SungTheorem}
+use Rattle.sung.specs.Sung.{listNightCalls, ListSeries, first-start, then-start, refused-start, then-reset, refused-reset, then-block, then-night, then-change, then-midi, then-meter, notesOf, SungIs, SungTheorem}
 
 -- ---- the note of the last sample is that of the take's tone
 pub last-given : (c : Course) (es : List Event) → lastNote (sungNote (c .take .pitch .tone)) (notesSung (givenBy c es)) ≡ sungNote (courseAfter c es .take .pitch .tone)
@@ -129,6 +130,20 @@ started-plain {hertz} {s} {store} p z =
       ap (λ (u : ListTuner). u .list) (p .tuner),
     )
 
+-- a start that is refused leaves what a start with the defaults does
+started-default : {hertz : ℕ} {s : Settings} {store : List ℕ} {l : ListTuner} {a : ListAnswer} → ListStarted hertz s store l a → 0 < a .answer .number → Started cdRate defaults (l .tuner) (plain 0) × (l .list ≡ emptyListing)
+started-default {hertz} {s} {store} {a = a} p h =
+    let n : a .answer .number ≡ listNumber (startNumber hertz s) (length store) = ap (λ (b : ListAnswer). b .answer .number) (p .answer) in (
+      record {
+        tuner =
+            ap (λ (u : ListTuner). u .tuner) (p .tuner)
+            ∙ cond-no (freshTuner hertz s) defaultTuner (ne-eqb (listNumber (startNumber hertz s) (length store)) 0 (λ z. omega (arith, n, h)))
+            ∙ sym (cond-yes defaultTuner defaultTuner (eq-eqb (startNumber cdRate defaults) 0 default-start));
+        answer = ap plain (sym default-start);
+      },
+      ap (λ (u : ListTuner). u .list) (p .tuner),
+    )
+
 -- so is a reset
 reset-plain : {l l′ : ListTuner} {store : List ℕ} {a : ListAnswer} → ListReset l store l′ a → a .answer .number ≡ 0 → Reset (l .tuner) (l′ .tuner) (a .answer) × (l′ .list ≡ emptyListing)
 reset-plain (record-out-of-range n e f) z = absurd (omega (arith, ap (λ (b : ListAnswer). b .answer .number) f))
@@ -206,6 +221,7 @@ follow-night {cs} {size = size} {xs} {a = a} f (night-as-plain g p d e) = more-f
 follows : {cs : List Call} {l : ListTuner} {began store : List ℕ} → ListSeries cs l began store → Follows cs l began store
 follows (first-start {hertz} {s} {store} {a = a} p z) = let q = started-plain p z in anew store (and-then fresh-start (by-start (q .0))) (q .1) (start-notes [] hertz s (a .answer) z)
 follows (then-start {cs} {store = store} {hertz} {s} {a} h p z) = let q = started-plain p z in anew store (and-then (follows h .series) (by-start (q .0))) (q .1) (start-notes cs hertz s (a .answer) z)
+follows (refused-start {cs} {store = store} h p z) = let q = started-default p z in anew store (and-then (follows h .series) (by-start (q .0))) (q .1) (start-notes cs cdRate defaults (plain 0) refl)
 follows (then-reset {cs} {store = store} {a} h p z) = let q = reset-plain p z in anew store (and-then (follows h .series) (by-reset (q .0))) (q .1) (reset-notes cs (a .answer) z)
 follows (refused-reset {cs} {began = began} {store} h p z) = subst (λ (l : ListTuner). Follows cs l began store) (sym (reset-left p z)) (follows h)
 follows (then-block h p) = follow-block (follows h) p

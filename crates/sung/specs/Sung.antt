@@ -4,7 +4,9 @@ use mathlib.Core.List.{List, [], _∷_, _++_}
 use Prim.Native.Nat.{ℕ, _<_}
 use lib.IntN.{ℤ}
 use Rattle.rules.specs.declared.Settings.{Settings}
+use Rattle.rules.specs.Rules.{defaults, cdRate}
 use Rattle.answers.specs.declared.Answer.{Answer}
+use Rattle.answers.specs.Numbering.{plain}
 use Rattle.meters.specs.declared.Meter.{Meter}
 use Rattle.lists.specs.Lists.{notesSung, sheet, IsList}
 use Rattle.tuner.specs.declared.Tuner.{Tuner}
@@ -23,11 +25,13 @@ listNightCalls (record-out-of-range n e f o w) = []
 listNightCalls (as-plain g p d e) = nightCalls p
 
 -- any calls one after the other over a tuner with a list, the newest first, from a taken start on, with the store lent each time as it was left: `began` is the store as it was where the list began.
--- The calls are kept as the tuner's own, a night as its single calls; a reset that is refused for its store, 17, is none of them
+-- The calls are kept as the tuner's own, a night as its single calls; a start that is refused leaves the default tuner and an empty list, as a start with the defaults; a reset that is refused for its store, 17, is none of them
 pub data ListSeries : List Call → ListTuner → (began store : List ℕ) → Type 0 where
   first-start : {hertz : ℕ} {s : Settings} {store : List ℕ} {l : ListTuner} {a : ListAnswer} → ListStarted hertz s store l a → a .answer .number ≡ 0 → ListSeries (start hertz s (a .answer) ∷ []) l store store
   then-start : {cs : List Call} {l l′ : ListTuner} {began store : List ℕ} {hertz : ℕ} {s : Settings} {a : ListAnswer}
       → ListSeries cs l began store → ListStarted hertz s store l′ a → a .answer .number ≡ 0 → ListSeries (start hertz s (a .answer) ∷ cs) l′ store store
+  refused-start : {cs : List Call} {l l′ : ListTuner} {began store : List ℕ} {hertz : ℕ} {s : Settings} {a : ListAnswer}
+      → ListSeries cs l began store → ListStarted hertz s store l′ a → 0 < a .answer .number → ListSeries (start cdRate defaults (plain 0) ∷ cs) l′ store store
   then-reset : {cs : List Call} {l l′ : ListTuner} {began store : List ℕ} {a : ListAnswer} → ListSeries cs l began store → ListReset l store l′ a → a .answer .number ≡ 0 → ListSeries (reset (a .answer) ∷ cs) l′ store store
   refused-reset : {cs : List Call} {l l′ : ListTuner} {began store : List ℕ} {a : ListAnswer} → ListSeries cs l began store → ListReset l store l′ a → 0 < a .answer .number → ListSeries cs l′ began store
   then-block : {cs : List Call} {l l′ : ListTuner} {began store store′ : List ℕ} {k : ℕ} {xs ys ys′ : List ℤ} {a : ListAnswer}
