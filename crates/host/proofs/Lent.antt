@@ -17,20 +17,19 @@ use ghost.Atoms.{Atoms, sem}
 use contract.Lifetimes.{Lfts}
 use contract.Monad.{fact}
 use contract.Running.{GhostRules, Running, givenOf, tables, tablesOf}
-use types.Kit.{Given, Goal, Item, Seq, Step, Soaks, Post, runs, lands, step, rewrite, ‵, raw, some, later, _⊛_, ⋆, mean, _$_, _∵_, !, qed, move, drop, use0, use1, split, join, pick, await, fjoin, fjoin3, feqI, suffices, frame, done}
+use types.Kit.{Given, Goal, Item, Seq, Step, Soaks, Post, runs, lands, step, rewrite, ‵, raw, some, later, _⊛_, ⋆, mean, _$_, _∵_, !, qed, move, drop, use0, join, fjoin, fjoin3, feqI, suffices, frame, done}
 use types.Run.{Walks as Reaches, Finds, look, init, store, stop, hop, fld, from, load, of-opd, assigns, land}
 use types.Part.{whole, sub, look-in}
 use types.SemTy.{Body}
 use sound.WpLaws.{FmC, fmOf, WpFn-mono}
 use denote.RattleType.{RattleType, Denots, Valss}
-use denote.Memory.{mem, cellAt}
-use denote.Laws.{Is, shows}
+use denote.Memory.{mem}
+use denote.Laws.{Is}
 use denote.Plain.{uint-makes}
 use denote.Builtin.{u32, RefMutOf}
 use denote.Exit.{yes}
 use denote.Signature.{Slot, typesAt, plain}
-use denote.Steps.{only, opens, closes, owned, peeks, heard, nothing}
-use denote.Struct.Steps.{spelt}
+use denote.Steps.{only, owned, nothing}
 use denote.Struct.Laws as LL
 use denote.Triple.Spec.{Meets, tripleOf}
 use denote.Triple.End.{Kepts, Fins}
@@ -49,13 +48,14 @@ use Rattle.host.proofs.Record as T
 use Rattle.host.proofs.Record.Laws as T′
 use Rattle.host.proofs.Done as K
 use Rattle.host.proofs.Done.Laws as K′
+use Rattle.host.proofs.Borrowed as B
 
 abbrev R : RattleType
 R = T.the-row
 
 -- a record's machine value
 abbrev pub mach : Record → Val
-mach r = LL.val T.the-type T′.the-laws r
+mach = B.mach T.the-type T′.the-laws
 
 -- the record's cell, what it owns, and what its borrow holds
 abbrev pub cell : ℕ → ℕ → Record → Fml
@@ -82,24 +82,17 @@ module _ {M : Type 1} {𝓤 : URA M} {H : Heap 𝓤} {A : Atoms 𝓤} {K : Type 
   pub opened : K → Soaks G → {κ : Lft} {q : Share} {γ : GName} (h : Record) (b o : ℕ)
       → (Is R h (mach h ∷ []) → Seq K W (‵ (cell b o h) ∷ ‵ (owning h) ∷ ‵ (fobor κ q (behind b o γ)) ∷ ‵ (fobs γ (R .coded .code h)) ∷ ‵ (fauth γ (R .coded .code h)) ∷ Γ) G)
       → Seq K W (‵ (fobs γ (R .coded .code h)) ∷ ‵ (fbor κ (behind b o γ)) ∷ ‵ (flft κ q) ∷ Γ) G
-  opened t z h b o k =
-      opens t z R {h = h} b o (λ vs. spelt t R (Is R) (shows 𝓤 H A R) (LL.vals T.the-type T′.the-laws) (LL.tells T.the-type T′.the-laws) fullShare h vs b o $
-      use1 W (‵ (cell b o h)) (W .laws .raw-at fullShare T′.mir b o (mach h)) $
-      move t (1 ∷ []) $ peeks t R (Is R) (shows 𝓤 H A R) h (mach h ∷ []) (λ g. move t (1 ∷ 0 ∷ []) $ k g))
+  opened = B.opened T.the-type T′.the-laws
 
   pub closed : K → Soaks G → {κ : Lft} {q : Share} {u v : Gv} {γ : GName} (h : Record) (b o : ℕ) → Is R h (mach h ∷ [])
       → Step K W (‵ (fobs γ (R .coded .code h)) ∷ ‵ (fbor κ (behind b o γ)) ∷ ‵ (flft κ q) ∷ Γ) G (‵ (cell b o h) ∷ ‵ (fobor κ q (behind b o γ)) ∷ ‵ (fobs γ u) ∷ ‵ (fauth γ v) ∷ Γ) G
-  closed t z h b o is =
-      step (λ s. use1 W (‵ (cellAt fullShare (R .mir) (mach h ∷ []) b o)) (W .laws .at-raw fullShare T′.mir b o (mach h)) $
-      owned t R (Is R) (LL.makes T.the-type T′.the-plain 𝓤 H A) h _ is $ move t (1 ∷ 0 ∷ []) $ closes t z R h (mach h ∷ []) b o $ s)
+  closed = B.closed T.the-type T′.the-laws T′.the-plain
 
   -- a callee that is passed no reference has returned w: it is some X of which the callee ensures φ
   pub answered : K → Soaks G → (X : RattleType) {P : SProp 𝓤} (E : X .Denot → SProp 𝓤) (φ : X .Denot → Type 0) (w : Val)
       → ent 𝓤 P (mean 𝓤 H A (later (some (λ (r : X .Denot). (‵ ftrue ⊛ ‵ (X .own r (w ∷ []))) ⊛ raw (E r))))) → ((r : X .Denot) → ent 𝓤 (E r) (fact 𝓤 (φ r)))
       → ((r : X .Denot) → φ r → Is X r (w ∷ []) → Seq K W (‵ (X .own r (w ∷ [])) ∷ Γ) G) → Seq K W (raw P ∷ Γ) G
-  answered t z X E φ w p e k =
-      use1 W (later (some (λ (r : X .Denot). (‵ ftrue ⊛ ‵ (X .own r (w ∷ []))) ⊛ raw (E r)))) p $ await t z $ pick t (λ r.
-      split t $ move t (1 ∷ []) $ use1 W (raw (fact 𝓤 (φ r))) (e r) $ heard t (φ r) (λ f. split t $ drop t $ peeks t X (Is X) (shows 𝓤 H A X) r (w ∷ []) (λ is. k r f is)))
+  answered t z X E φ w p e k = B.returned t z (‵ ftrue) X E φ w p e (λ r f is. move t (1 ∷ []) $ drop t $ k r f is)
 
 module _ {M : Type 1} {𝓤 : URA M} {H : Heap 𝓤} {A : Atoms 𝓤} {X : Type 0} {W : Given 𝓤 H A} {E : Env 𝓤 H} where
   -- a place within the local i

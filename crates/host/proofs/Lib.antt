@@ -1,3 +1,4 @@
+pub mod Borrowed
 pub mod Lent
 pub mod Locals
 pub mod Parts

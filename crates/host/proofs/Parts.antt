@@ -360,34 +360,42 @@ module _ {M : Type 1} {𝓤 : URA M} {H : Heap 𝓤} {A : Atoms 𝓤} (X : Type 
   unfolding held
   dropped-read t Γ = of-opd t (load t (within t e₁ (hop t (look t 1 refl) (to-tuner t (to-last t (fld t {d = 6} refl (stop t)))))) (look-in t 0 (sub t 3 {d = 6} refl (sub t 6 {d = 5936} refl (sub t 1 {d = 8} refl (whole t))))))
 
--- the code that stores what a block leaves
-abbrev pub remembering : Code → Code
-remembering rest = seq (assign (place 1 (deref T′.mir ∷ field 1 ∷ field 3 ∷ field 0 ∷ [])) (rvOpd (copy (place 5 (field 1 ∷ []))))) (seq (assign (place 1 (deref T′.mir ∷ field 1 ∷ field 4 ∷ [])) (rvOpd (copy (place 5 (field 2 ∷ []))))) (seq (assign (place 1 (deref T′.mir ∷ field 1 ∷ field 5 ∷ [])) (rvOpd (copy (place 5 (field 3 ∷ []))))) (seq (assign (place 1 (deref T′.mir ∷ field 1 ∷ field 6 ∷ field 0 ∷ [])) (rvOpd (copy (place 5 (field 4 ∷ field 0 ∷ []))))) (seq (assign (place 1 (deref T′.mir ∷ field 1 ∷ field 6 ∷ field 1 ∷ [])) (rvOpd (copy (place 5 (field 4 ∷ field 1 ∷ []))))) (seq (assign (place 1 (deref T′.mir ∷ field 1 ∷ field 6 ∷ field 2 ∷ [])) (rvOpd (copy (place 5 (field 4 ∷ field 2 ∷ []))))) (seq (assign (place 1 (deref T′.mir ∷ field 1 ∷ field 6 ∷ field 3 ∷ [])) (rvOpd (copy (place 5 (field 4 ∷ field 3 ∷ []))))) (seq (assign (place 0 []) (rvOpd (copy (place 5 (field 0 ∷ []))))) rest)))))))
+-- the code that stores what a block leaves in the local i
+abbrev pub remembering : ℕ → Code → Code
+remembering i rest = seq (assign (place 1 (deref T′.mir ∷ field 1 ∷ field 3 ∷ field 0 ∷ [])) (rvOpd (copy (place i (field 1 ∷ []))))) (seq (assign (place 1 (deref T′.mir ∷ field 1 ∷ field 4 ∷ [])) (rvOpd (copy (place i (field 2 ∷ []))))) (seq (assign (place 1 (deref T′.mir ∷ field 1 ∷ field 5 ∷ [])) (rvOpd (copy (place i (field 3 ∷ []))))) (seq (assign (place 1 (deref T′.mir ∷ field 1 ∷ field 6 ∷ field 0 ∷ [])) (rvOpd (copy (place i (field 4 ∷ field 0 ∷ []))))) (seq (assign (place 1 (deref T′.mir ∷ field 1 ∷ field 6 ∷ field 1 ∷ [])) (rvOpd (copy (place i (field 4 ∷ field 1 ∷ []))))) (seq (assign (place 1 (deref T′.mir ∷ field 1 ∷ field 6 ∷ field 2 ∷ [])) (rvOpd (copy (place i (field 4 ∷ field 2 ∷ []))))) (seq (assign (place 1 (deref T′.mir ∷ field 1 ∷ field 6 ∷ field 3 ∷ [])) (rvOpd (copy (place i (field 4 ∷ field 3 ∷ []))))) rest))))))
 
 module _ {M : Type 1} {𝓤 : URA M} {H : Heap 𝓤} {A : Atoms 𝓤} {X : Type 0} {W : Given 𝓤 H A} {E : Env 𝓤 H} where
-  -- what a block leaves lands in the local 5: its numbers are stored behind the first parameter, and its answer is the answer
-  remembered : X → {Γ : List (Item 𝓤)} {C : Calls 𝓤 H} {Λ : Loops 𝓤 H} {p : Post 𝓤 H} {b o l l₀ l₁ : ℕ} {ref : Ty} {rest : Code}
-      → spotOf 𝓤 H E 0 ≡ (F′.mir, l₀, 0) → spotOf 𝓤 H E 1 ≡ (ref, l₁, 0) → spotOf 𝓤 H E 5 ≡ (N′.mir, l, 0) → (y : Changes) (n : Left) (w : Val) → Is N.the-row n (w ∷ [])
-      → Step X W (cells b o (changedBy y n) ++ (‵ (fat fullShare N′.mir l 0 (N′.lowered n)) ∷ ‵ (fat fullShare ref l₁ 0 (vptr b o)) ∷ ‵ (fat fullShare F′.mir l₀ 0 (F′.lowered (n .answer))) ∷ Γ)) (runs C Λ E rest p)
-      (cells b o y ++ (‵ (froom N′.mir l 0) ∷ ‵ (fat fullShare ref l₁ 0 (vptr b o)) ∷ ‵ (froom F′.mir l₀ 0) ∷ Γ))
-      (lands C Λ E (place 5 []) w (remembering rest) p)
-  remembered t {l = l} e₀ e₁ e₅ y n w is =
-      let left = LL.owed N.the-type N′.the-laws n (w ∷ []) is in
+  -- what a block leaves lies in the local i: its numbers are stored behind the first parameter
+  remembered : X → {Γ : List (Item 𝓤)} {C : Calls 𝓤 H} {Λ : Loops 𝓤 H} {p : Post 𝓤 H} {b o i l l₁ : ℕ} {ref : Ty} {rest : Code}
+      → spotOf 𝓤 H E 1 ≡ (ref, l₁, 0) → spotOf 𝓤 H E i ≡ (N′.mir, l, 0) → (y : Changes) (n : Left) (vs : List Val) → Is N.the-row n vs
+      → Step X W (cells b o (changedBy y n) ++ (‵ (fat fullShare N′.mir l 0 (N′.lowered n)) ∷ ‵ (fat fullShare ref l₁ 0 (vptr b o)) ∷ Γ)) (runs C Λ E rest p)
+      (cells b o y ++ (‵ (fat fullShare N′.mir l 0 (N′.lowered n)) ∷ ‵ (fat fullShare ref l₁ 0 (vptr b o)) ∷ Γ)) (runs C Λ E (remembering i rest) p)
+  remembered t e₁ e y n vs is =
+      let left = LL.owed N.the-type N′.the-laws n vs is in
       let numbers = LL.owed B.the-type B′.the-laws (n .last) _ (left .1 .1 .1 .1 .0) in
-      step (λ k. land t (within t e₅ (stop t)) (init t 12 refl (LL.lawful N.the-type N′.the-laws 𝓤 H A W .typed n _ is .0)) $ rewrite t 12 (λ (u : Val). ‵ (fat fullShare N′.mir l 0 u)) (ap only (N′.lowers .val-is n (w ∷ []) is)) refl $
-      assigns t (of-opd t (load t (within t e₅ (fld t {d = 16} refl (stop t))) (look-in t 12 (sub t 1 {d = 16} refl (whole t))))) (within t e₁ (hop t (look t 13 refl) (to-tuner t (to-heard t (fld t {d = 0} refl (stop t)))))) (store t 5 refl (tt, record { fits = left .1 .0 .1 })) $
-      assigns t (of-opd t (load t (within t e₅ (fld t {d = 24} refl (stop t))) (look-in t 12 (sub t 2 {d = 24} refl (whole t))))) (within t e₁ (hop t (look t 13 refl) (to-tuner t (fld t {d = 5768} refl (stop t))))) (store t 6 refl (LL.lawful P.the-type P′.the-laws 𝓤 H A W .typed (n .pitch) _ (at-lowered P.the-type P′.the-laws P′.lowers (n .pitch) (left .1 .1 .0)) .0)) $
-      assigns t (of-opd t (load t (within t e₅ (fld t {d = 184} refl (stop t))) (look-in t 12 (sub t 3 {d = 184} refl (whole t))))) (within t e₁ (hop t (look t 13 refl) (to-tuner t (fld t {d = 5928} refl (stop t))))) (store t 7 refl (LL.lawful D.the-type D′.the-laws 𝓤 H A W .typed (n .head) _ (left .1 .1 .1 .0) .0)) $
-      assigns t (of-opd t (load t (within t e₅ (fld t {d = 192} refl (fld t {d = 0} refl (stop t)))) (look-in t 12 (sub t 0 {d = 0} refl (sub t 4 {d = 192} refl (whole t)))))) (within t e₁ (hop t (look t 13 refl) (to-tuner t (to-last t (fld t {d = 0} refl (stop t)))))) (store t 8 refl (tt, record { fits = numbers .0 .1 })) $
-      assigns t (of-opd t (load t (within t e₅ (fld t {d = 192} refl (fld t {d = 2} refl (stop t)))) (look-in t 12 (sub t 1 {d = 2} refl (sub t 4 {d = 192} refl (whole t)))))) (within t e₁ (hop t (look t 13 refl) (to-tuner t (to-last t (fld t {d = 2} refl (stop t)))))) (store t 9 refl (tt, record { fits = numbers .1 .0 .1 })) $
-      assigns t (of-opd t (load t (within t e₅ (fld t {d = 192} refl (fld t {d = 4} refl (stop t)))) (look-in t 12 (sub t 2 {d = 4} refl (sub t 4 {d = 192} refl (whole t)))))) (within t e₁ (hop t (look t 13 refl) (to-tuner t (to-last t (fld t {d = 4} refl (stop t)))))) (store t 10 refl (tt, record { fits = numbers .1 .1 .0 .1 })) $
-      assigns t (of-opd t (load t (within t e₅ (fld t {d = 192} refl (fld t {d = 6} refl (stop t)))) (look-in t 12 (sub t 3 {d = 6} refl (sub t 4 {d = 192} refl (whole t)))))) (within t e₁ (hop t (look t 13 refl) (to-tuner t (to-last t (fld t {d = 6} refl (stop t)))))) (store t 11 refl (tt, record { fits = numbers .1 .1 .1 .0 .1 })) $
-      assigns t (of-opd t (load t (within t e₅ (fld t {d = 0} refl (stop t))) (look-in t 12 (sub t 0 {d = 0} refl (whole t))))) (within t e₀ (stop t)) (init t 14 refl (LL.lawful F.the-type F′.the-laws 𝓤 H A W .typed (n .answer) _ (left .0) .0)) $ k)
+      step (λ k. assigns t (of-opd t (load t (within t e (fld t {d = 16} refl (stop t))) (look-in t 12 (sub t 1 {d = 16} refl (whole t))))) (within t e₁ (hop t (look t 13 refl) (to-tuner t (to-heard t (fld t {d = 0} refl (stop t)))))) (store t 5 refl (tt, record { fits = left .1 .0 .1 })) $
+      assigns t (of-opd t (load t (within t e (fld t {d = 24} refl (stop t))) (look-in t 12 (sub t 2 {d = 24} refl (whole t))))) (within t e₁ (hop t (look t 13 refl) (to-tuner t (fld t {d = 5768} refl (stop t))))) (store t 6 refl (LL.lawful P.the-type P′.the-laws 𝓤 H A W .typed (n .pitch) _ (at-lowered P.the-type P′.the-laws P′.lowers (n .pitch) (left .1 .1 .0)) .0)) $
+      assigns t (of-opd t (load t (within t e (fld t {d = 184} refl (stop t))) (look-in t 12 (sub t 3 {d = 184} refl (whole t))))) (within t e₁ (hop t (look t 13 refl) (to-tuner t (fld t {d = 5928} refl (stop t))))) (store t 7 refl (LL.lawful D.the-type D′.the-laws 𝓤 H A W .typed (n .head) _ (left .1 .1 .1 .0) .0)) $
+      assigns t (of-opd t (load t (within t e (fld t {d = 192} refl (fld t {d = 0} refl (stop t)))) (look-in t 12 (sub t 0 {d = 0} refl (sub t 4 {d = 192} refl (whole t)))))) (within t e₁ (hop t (look t 13 refl) (to-tuner t (to-last t (fld t {d = 0} refl (stop t)))))) (store t 8 refl (tt, record { fits = numbers .0 .1 })) $
+      assigns t (of-opd t (load t (within t e (fld t {d = 192} refl (fld t {d = 2} refl (stop t)))) (look-in t 12 (sub t 1 {d = 2} refl (sub t 4 {d = 192} refl (whole t)))))) (within t e₁ (hop t (look t 13 refl) (to-tuner t (to-last t (fld t {d = 2} refl (stop t)))))) (store t 9 refl (tt, record { fits = numbers .1 .0 .1 })) $
+      assigns t (of-opd t (load t (within t e (fld t {d = 192} refl (fld t {d = 4} refl (stop t)))) (look-in t 12 (sub t 2 {d = 4} refl (sub t 4 {d = 192} refl (whole t)))))) (within t e₁ (hop t (look t 13 refl) (to-tuner t (to-last t (fld t {d = 4} refl (stop t)))))) (store t 10 refl (tt, record { fits = numbers .1 .1 .0 .1 })) $
+      assigns t (of-opd t (load t (within t e (fld t {d = 192} refl (fld t {d = 6} refl (stop t)))) (look-in t 12 (sub t 3 {d = 6} refl (sub t 4 {d = 192} refl (whole t)))))) (within t e₁ (hop t (look t 13 refl) (to-tuner t (to-last t (fld t {d = 6} refl (stop t)))))) (store t 11 refl (tt, record { fits = numbers .1 .1 .1 .0 .1 })) $ k)
 
   -- and the record is whole again
-  pub settled : X → {Γ : List (Item 𝓤)} {C : Calls 𝓤 H} {Λ : Loops 𝓤 H} {p : Post 𝓤 H} {b o l l₀ l₁ : ℕ} {ref : Ty} {rest : Code}
-      → spotOf 𝓤 H E 0 ≡ (F′.mir, l₀, 0) → spotOf 𝓤 H E 1 ≡ (ref, l₁, 0) → spotOf 𝓤 H E 5 ≡ (N′.mir, l, 0) → (r : Record) (y : Changes) (n : Left) (w : Val) → Is N.the-row n (w ∷ [])
+  pub rejoins : X → {Γ : List (Item 𝓤)} {C : Calls 𝓤 H} {Λ : Loops 𝓤 H} {p : Post 𝓤 H} {b o i l l₁ : ℕ} {ref : Ty} {rest : Code}
+      → spotOf 𝓤 H E 1 ≡ (ref, l₁, 0) → spotOf 𝓤 H E i ≡ (N′.mir, l, 0) → (r : Record) (y : Changes) (n : Left) (vs : List Val) → Is N.the-row n vs
+      → Step X W (‵ (held b o (changed r (changedBy y n))) ∷ ‵ (fat fullShare N′.mir l 0 (N′.lowered n)) ∷ ‵ (fat fullShare ref l₁ 0 (vptr b o)) ∷ Γ) (runs C Λ E rest p)
+      (raw (⋆ 𝓤 H A (cells b o y)) ∷ ‵ (fat fullShare N′.mir l 0 (N′.lowered n)) ∷ ‵ (fat fullShare ref l₁ 0 (vptr b o)) ∷ raw (Back 𝓤 H A b o r) ∷ Γ) (runs C Λ E (remembering i rest) p)
+  rejoins t {b = b} {o} e₁ e r y n vs is =
+      step (λ k. scatter (cells b o y) $ remembered t e₁ e y n vs is $ move t (0 ∷ 1 ∷ 2 ∷ 3 ∷ 4 ∷ 5 ∷ 6 ∷ 7 ∷ 8 ∷ 9 ∷ 10 ∷ 11 ∷ 14 ∷ []) $ rejoined t b o r (changedBy y n) $ k)
+
+  -- what a block leaves lands in the local i, and its answer is the answer
+  pub settled : X → {Γ : List (Item 𝓤)} {C : Calls 𝓤 H} {Λ : Loops 𝓤 H} {p : Post 𝓤 H} {b o i l l₀ l₁ : ℕ} {ref : Ty} {rest : Code}
+      → spotOf 𝓤 H E 0 ≡ (F′.mir, l₀, 0) → spotOf 𝓤 H E 1 ≡ (ref, l₁, 0) → spotOf 𝓤 H E i ≡ (N′.mir, l, 0) → (r : Record) (y : Changes) (n : Left) (w : Val) → Is N.the-row n (w ∷ [])
       → Step X W (‵ (held b o (changed r (changedBy y n))) ∷ ‵ (fat fullShare N′.mir l 0 (N′.lowered n)) ∷ ‵ (fat fullShare ref l₁ 0 (vptr b o)) ∷ ‵ (fat fullShare F′.mir l₀ 0 (F′.lowered (n .answer))) ∷ Γ) (runs C Λ E rest p)
-      (raw (⋆ 𝓤 H A (cells b o y)) ∷ ‵ (froom N′.mir l 0) ∷ ‵ (fat fullShare ref l₁ 0 (vptr b o)) ∷ ‵ (froom F′.mir l₀ 0) ∷ raw (Back 𝓤 H A b o r) ∷ Γ) (lands C Λ E (place 5 []) w (remembering rest) p)
-  settled t {b = b} {o} e₀ e₁ e₅ r y n w is =
-      step (λ k. scatter (cells b o y) $ remembered t e₀ e₁ e₅ y n w is $ move t (0 ∷ 1 ∷ 2 ∷ 3 ∷ 4 ∷ 5 ∷ 6 ∷ 7 ∷ 8 ∷ 9 ∷ 10 ∷ 11 ∷ 15 ∷ []) $ rejoined t b o r (changedBy y n) $ k)
+      (raw (⋆ 𝓤 H A (cells b o y)) ∷ ‵ (froom N′.mir l 0) ∷ ‵ (fat fullShare ref l₁ 0 (vptr b o)) ∷ ‵ (froom F′.mir l₀ 0) ∷ raw (Back 𝓤 H A b o r) ∷ Γ)
+      (lands C Λ E (place i []) w (remembering i (seq (assign (place 0 []) (rvOpd (copy (place i (field 0 ∷ []))))) rest)) p)
+  settled t {l = l} e₀ e₁ e r y n w is =
+      step (λ k. land t (within t e (stop t)) (init t 1 refl (LL.lawful N.the-type N′.the-laws 𝓤 H A W .typed n _ is .0)) $ rewrite t 1 (λ (u : Val). ‵ (fat fullShare N′.mir l 0 u)) (ap only (N′.lowers .val-is n (w ∷ []) is)) refl $
+      move t (0 ∷ 1 ∷ 2 ∷ 4 ∷ []) $ rejoins t e₁ e r y n (w ∷ []) is $
+      assigns t (of-opd t (load t (within t e (fld t {d = 0} refl (stop t))) (look-in t 1 (sub t 0 {d = 0} refl (whole t))))) (within t e₀ (stop t)) (init t 3 refl (LL.lawful F.the-type F′.the-laws 𝓤 H A W .typed (n .answer) _ (LL.owed N.the-type N′.the-laws n (w ∷ []) is .0) .0)) $ k)

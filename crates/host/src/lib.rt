@@ -28,7 +28,7 @@ ghost use Rattle.host.specs.Hosts.{layoutNumber, recordOf, bare, shownAs
 
 // The number of this layout of the record: they are counted from 20000, since a record of versions 1 and 2 of the calls began with the scale, at most
 // 4095, and so is never taken for one of this layout.
-const LAYOUT: u64 = 20006;
+pub const LAYOUT: u64 = 20006;
 
 // A tuner with the number of its layout before it: a record of another layout is answered 9, and never misread.
 // 6976 bytes, none of them padding.
@@ -61,7 +61,7 @@ pub struct NightDone {
 }
 
 // A record of this layout holds a tuner.
-fn holds(layout: u64) -> bool
+pub fn holds(layout: u64) -> bool
     ensures { λ r. ⌜ Decides r (layout ≡ layoutNumber) ⌝ }
 {
     layout == LAYOUT

@@ -70,7 +70,7 @@ pub fn good(l: ListTuner) -> bool
     lists::right(list, t.heard.count)
 }
 
-fn answer_of(a: Answer, l: Listing) -> ListAnswer
+pub fn answer_of(a: Answer, l: Listing) -> ListAnswer
     ensures { λ r. ⌜ r ≡ listAnswer a l ⌝ }
 {
     ListAnswer {

@@ -1,0 +1,77 @@
+-- Laws of the promises of the calls with a list: a call over a tuner's record is the call of the tuner with that list, a refusal changes nothing, and no second answer meets a promise.
+use mathlib.Core.Path.{_≡_, refl, sym, ap, subst, _∙_}
+use mathlib.Core.List.{List}
+use Prim.Native.Nat.{ℕ}
+use Rattle.rules.specs.declared.Settings.{Settings}
+use Rattle.answers.specs.declared.Answer.{Answer}
+use Rattle.answers.specs.Numbering.{plain}
+use Rattle.lists.specs.declared.Listing.{Listing}
+use Rattle.tuner.specs.declared.Tuner.{Tuner}
+use Rattle.listing.specs.declared.ListTuner.{ListTuner}
+use Rattle.listing.specs.declared.ListAnswer.{ListAnswer}
+use Rattle.listing.specs.Listings.{listTuner, listAnswer, ListStarted, ListReset, record-out-of-range, no-room as no-room-for-a-row, begun-anew}
+use Rattle.listing.specs.Ones.{list-started-one, list-reset-one}
+use Rattle.host.specs.declared.Record.{Record}
+use Rattle.host.specs.Hosts.{layoutNumber, recordOf}
+use Rattle.host.specs.Lents.{recordWith}
+use Rattle.hostlist.specs.HostLists.{ListLent, held, unheld, HostListStarted, begun, no-room, HostListReset}
+
+-- a call over a tuner's record is the call of the tuner with that list
+pub list-tuner's-call : {Call : ListTuner → ListTuner → Type 0} {refused : Type 0} (t : Tuner) {list list′ : Listing} {r′ : Record} → ListLent Call refused (recordOf t) list r′ list′ → (l′ : ListTuner) × Call (listTuner t list) l′ × (r′ ≡ recordOf (l′ .tuner)) × (list′ ≡ l′ .list)
+list-tuner's-call t (held h {l′} p e f) = (l′, p, e, f)
+list-tuner's-call t (unheld h u e f) = absurd (h refl)
+
+-- ---- no second answer
+
+module _ {Call₁ Call₂ : ListTuner → ListTuner → Type 0} {refused₁ refused₂ Same : Type 0} {r r₁ r₂ : Record} {list list₁ list₂ : Listing} where
+  list-lent-one : ((l₁ l₂ : ListTuner) → Call₁ (listTuner (r .tuner) list) l₁ → Call₂ (listTuner (r .tuner) list) l₂ → (l₁ ≡ l₂) × Same) → (refused₁ → refused₂ → Same)
+      → ListLent Call₁ refused₁ r list r₁ list₁ → ListLent Call₂ refused₂ r list r₂ list₂ → (r₁ ≡ r₂) × (list₁ ≡ list₂) × Same
+  list-lent-one f g (held h {l′ = l₁} p e d) (held h′ {l′ = l₂} p′ e′ d′) = let (l, s) = f l₁ l₂ p p′ in (e ∙ ap (λ (x : ListTuner). recordOf (x .tuner)) l ∙ sym e′, d ∙ ap (λ (x : ListTuner). x .list) l ∙ sym d′, s)
+  list-lent-one f g (held h p e d) (unheld h′ u e′ d′) = absurd (h′ h)
+  list-lent-one f g (unheld h u e d) (held h′ p e′ d′) = absurd (h h′)
+  list-lent-one f g (unheld h u e d) (unheld h′ u′ e′ d′) = (e ∙ sym e′, d ∙ sym d′, g u u′)
+
+module _ {r r₁ r₂ : Record} {list list₁ list₂ : Listing} {store : List ℕ} {a₁ a₂ : ListAnswer} where
+  pub host-list-reset-one : HostListReset r list store r₁ list₁ a₁ → HostListReset r list store r₂ list₂ a₂ → (r₁ ≡ r₂) × (list₁ ≡ list₂) × (a₁ ≡ a₂)
+  host-list-reset-one = list-lent-one (λ l₁ l₂ p q. list-reset-one p q) (λ e f. e ∙ sym f)
+
+  pub host-list-started-one : {hertz : ℕ} {s : Settings} → HostListStarted r list hertz s store r₁ list₁ a₁ → HostListStarted r list hertz s store r₂ list₂ a₂ → (r₁ ≡ r₂) × (list₁ ≡ list₂) × (a₁ ≡ a₂)
+  host-list-started-one (begun p n e d) (begun q m e′ d′) = let (l, a) = list-started-one p q in (e ∙ ap (λ (x : ListTuner). recordOf (x .tuner)) l ∙ sym e′, d ∙ ap (λ (x : ListTuner). x .list) l ∙ sym d′, a)
+  host-list-started-one (begun p n e d) (no-room q m e′ d′) = absurd (n (ap (λ (a : ListAnswer). a .answer .number) (list-started-one p q .1) ∙ m))
+  host-list-started-one (no-room p n e d) (begun q m e′ d′) = absurd (m (ap (λ (a : ListAnswer). a .answer .number) (list-started-one q p .1) ∙ n))
+  host-list-started-one (no-room p n e d) (no-room q m e′ d′) = (e ∙ sym e′, d ∙ sym d′, list-started-one p q .1)
+
+-- ---- the promises, met by the calls by value
+
+-- the answer of a record of another layout
+pub nine-is : (list : Listing) {p : Answer} {a : ListAnswer} → a ≡ listAnswer p list → p ≡ plain 9 → a ≡ listAnswer (plain 9) list
+nine-is list e f = e ∙ ap (λ (x : Answer). listAnswer x list) f
+
+module _ {r r′ : Record} {list list′ : Listing} {a a′ : ListAnswer} {l′ : ListTuner} where
+  pub begun-by : {hertz : ℕ} {s : Settings} {store : List ℕ} → ListStarted hertz s store l′ a → (a .answer .number ≡ 17 → ⊥) → r′ ≡ recordOf (l′ .tuner) → list′ ≡ l′ .list → a′ ≡ a → HostListStarted r list hertz s store r′ list′ a′
+  begun-by {hertz} {s} {store} p n e d f = subst (HostListStarted r list hertz s store r′ list′) (sym f) (begun p n e d)
+
+  pub reset-by : {store : List ℕ} → r .layout ≡ layoutNumber → ListReset (listTuner (r .tuner) list) store l′ a → r′ ≡ recordOf (l′ .tuner) → list′ ≡ l′ .list → a′ ≡ a → HostListReset r list store r′ list′ a′
+  reset-by {store} h p e d f = held h (subst (ListReset (listTuner (r .tuner) list) store l′) (sym f) p) e d
+
+-- ---- a refusal changes nothing
+
+-- what leaves the tuner with its list leaves record and listing
+list-left-alone : {Call : ListTuner → ListTuner → Type 0} {refused : Type 0} {r r′ : Record} {list list′ : Listing} → ((l′ : ListTuner) → Call (listTuner (r .tuner) list) l′ → l′ ≡ listTuner (r .tuner) list) → ListLent Call refused r list r′ list′ → (r′ ≡ r) × (list′ ≡ list)
+list-left-alone {r = r} f (held h {l′} p e d) = let same = f l′ p in (e ∙ ap (λ (x : ListTuner). recordOf (x .tuner)) same ∙ sym (ap (λ (layout : ℕ). recordWith layout (r .tuner)) h), d ∙ ap (λ (x : ListTuner). x .list) same)
+list-left-alone f (unheld h u e d) = (e, d)
+
+module _ {r r′ : Record} {list list′ : Listing} {store : List ℕ} {a : ListAnswer} where
+  -- a start that is answered 17 leaves both, whatever they held
+  pub no-room-unchanged : {hertz : ℕ} {s : Settings} → HostListStarted r list hertz s store r′ list′ a → a .answer .number ≡ 17 → (r′ ≡ r) × (list′ ≡ list)
+  no-room-unchanged (begun p n e d) z = absurd (n z)
+  no-room-unchanged (no-room p n e d) z = (e, d)
+
+  -- a reset that is not answered 0 leaves both
+  pub unreset-unchanged : HostListReset r list store r′ list′ a → (a .answer .number ≡ 0 → ⊥) → (r′ ≡ r) × (list′ ≡ list)
+  unreset-unchanged p not = list-left-alone kept p
+    where
+      kept : (l′ : ListTuner) → ListReset (listTuner (r .tuner) list) store l′ a → l′ ≡ listTuner (r .tuner) list
+      kept l′ (record-out-of-range g e f) = e
+      kept l′ (no-room-for-a-row g z e f) = e
+      kept l′ (begun-anew g z e f) = absurd (not (ap (λ (x : ListAnswer). x .answer .number) f))
