@@ -2,12 +2,13 @@
 use mathlib.Core.Path.{_≡_}
 use mathlib.Core.List.{List}
 use Prim.Native.Nat.{ℕ}
+use lib.IntN.{ℤ}
 use Rattle.rules.specs.declared.Settings.{Settings}
 use Rattle.answers.specs.Numbering.{plain}
 use Rattle.lists.specs.declared.Listing.{Listing}
 use Rattle.listing.specs.declared.ListTuner.{ListTuner}
 use Rattle.listing.specs.declared.ListAnswer.{ListAnswer}
-use Rattle.listing.specs.Listings.{listTuner, listAnswer, ListStarted, ListReset}
+use Rattle.listing.specs.Listings.{listTuner, listAnswer, ListStarted, ListReset, ListTook}
 use Rattle.host.specs.declared.Record.{Record}
 use Rattle.host.specs.Hosts.{layoutNumber, recordOf}
 
@@ -24,3 +25,8 @@ pub data HostListStarted (r : Record) (list : Listing) (hertz : ℕ) (s : Settin
 -- a reset
 abbrev pub HostListReset : Record → Listing → List ℕ → Record → Listing → ListAnswer → Type 0
 HostListReset r list store r′ list′ a = ListLent (λ l l′. ListReset l store l′ a) (a ≡ listAnswer (plain 9) list) r list r′ list′
+
+-- a block
+abbrev pub HostListTook : Record → Listing → ℕ → List ℤ → List ℤ → List ℕ → Record → Listing → ListAnswer → List ℤ → List ℕ → Type 0
+HostListTook r list k xs ys store r′ list′ a ys′ store′ =
+    ListLent (λ l l′. ListTook l k xs ys store l′ a ys′ store′) ((a ≡ listAnswer (plain 9) list) × (ys′ ≡ ys) × (store′ ≡ store)) r list r′ list′

@@ -1,20 +1,33 @@
 -- Laws of the promises of the calls with a list: a call over a tuner's record is the call of the tuner with that list, a refusal changes nothing, and no second answer meets a promise.
 use mathlib.Core.Path.{_≡_, refl, sym, ap, subst, _∙_}
 use mathlib.Core.List.{List}
-use Prim.Native.Nat.{ℕ}
+use Prim.Native.Nat.{ℕ, _<_}
+use native.Mathlib.Omega.{arith}
+use borrow.Author.Tests.{eqb-true, eqb-false}
+use lib.Dec.{eqb}
+use lib.IntN.{ℤ}
+use Rattle.whole.specs.Tests.{by}
 use Rattle.rules.specs.declared.Settings.{Settings}
 use Rattle.answers.specs.declared.Answer.{Answer}
 use Rattle.answers.specs.Numbering.{plain}
 use Rattle.lists.specs.declared.Listing.{Listing}
+use Rattle.lists.specs.Lists.{ListingIn}
 use Rattle.tuner.specs.declared.Tuner.{Tuner}
+use Rattle.tuner.specs.Tuners.{Took, record-out-of-range as tuner-out-of-range}
+use Rattle.tuner.specs.Verdicts.{took-refused}
 use Rattle.listing.specs.declared.ListTuner.{ListTuner}
 use Rattle.listing.specs.declared.ListAnswer.{ListAnswer}
-use Rattle.listing.specs.Listings.{listTuner, listAnswer, ListStarted, ListReset, record-out-of-range, no-room as no-room-for-a-row, begun-anew}
-use Rattle.listing.specs.Ones.{list-started-one, list-reset-one}
+use Rattle.listing.specs.Listings.{listTuner, listAnswer, ListGood, ListStarted, ListReset, record-out-of-range, no-room as no-room-for-a-row, begun-anew, ListedBy, goes-on, as-it-was, as-plain}
+use Rattle.listing.specs.Beginnings.{by-plain}
+use Rattle.listing.specs.Ones.{list-started-one, list-reset-one, list-took-one}
 use Rattle.host.specs.declared.Record.{Record}
-use Rattle.host.specs.Hosts.{layoutNumber, recordOf}
-use Rattle.host.specs.Lents.{recordWith}
-use Rattle.hostlist.specs.HostLists.{ListLent, held, unheld, HostListStarted, begun, no-room, HostListReset}
+use Rattle.host.specs.Hosts.{layoutNumber, recordOf, held as held-plain, unheld as unheld-plain, HostTook}
+use Rattle.host.specs.Lents.{recordWith, untaken-unchanged, refused-untouched}
+use Rattle.hostlist.specs.HostLists.{ListLent, held, unheld, HostListStarted, begun, no-room, HostListReset, HostListTook}
+
+-- of this layout and good
+abbrev pub HoldsGood : ℕ → ListTuner → Type 0
+HoldsGood layout l = (layout ≡ layoutNumber) × ListGood l
 
 -- a call over a tuner's record is the call of the tuner with that list
 pub list-tuner's-call : {Call : ListTuner → ListTuner → Type 0} {refused : Type 0} (t : Tuner) {list list′ : Listing} {r′ : Record} → ListLent Call refused (recordOf t) list r′ list′ → (l′ : ListTuner) × Call (listTuner t list) l′ × (r′ ≡ recordOf (l′ .tuner)) × (list′ ≡ l′ .list)
@@ -35,6 +48,12 @@ module _ {r r₁ r₂ : Record} {list list₁ list₂ : Listing} {store : List �
   pub host-list-reset-one : HostListReset r list store r₁ list₁ a₁ → HostListReset r list store r₂ list₂ a₂ → (r₁ ≡ r₂) × (list₁ ≡ list₂) × (a₁ ≡ a₂)
   host-list-reset-one = list-lent-one (λ l₁ l₂ p q. list-reset-one p q) (λ e f. e ∙ sym f)
 
+  pub host-list-took-one : {k : ℕ} {xs ys zs₁ zs₂ : List ℤ} {store₁ store₂ : List ℕ} → HostListTook r list k xs ys store r₁ list₁ a₁ zs₁ store₁ → HostListTook r list k xs ys store r₂ list₂ a₂ zs₂ store₂
+      → (r₁ ≡ r₂) × (list₁ ≡ list₂) × (a₁ ≡ a₂) × (zs₁ ≡ zs₂) × (store₁ ≡ store₂)
+  host-list-took-one {zs₁ = zs₁} {zs₂} {store₁} {store₂} p q =
+      let (r, l, same) = list-lent-one {Same = (a₁ ≡ a₂) × (zs₁ ≡ zs₂) × (store₁ ≡ store₂)} (λ l₁ l₂ p q. let (l, a, o, s) = list-took-one p q in (l, (a, o, s))) (λ u v. (u .0 ∙ sym (v .0), u .1 ∙ sym (v .1), u .2 ∙ sym (v .2))) p q in
+      (r, l, same .0, same .1, same .2)
+
   pub host-list-started-one : {hertz : ℕ} {s : Settings} → HostListStarted r list hertz s store r₁ list₁ a₁ → HostListStarted r list hertz s store r₂ list₂ a₂ → (r₁ ≡ r₂) × (list₁ ≡ list₂) × (a₁ ≡ a₂)
   host-list-started-one (begun p n e d) (begun q m e′ d′) = let (l, a) = list-started-one p q in (e ∙ ap (λ (x : ListTuner). recordOf (x .tuner)) l ∙ sym e′, d ∙ ap (λ (x : ListTuner). x .list) l ∙ sym d′, a)
   host-list-started-one (begun p n e d) (no-room q m e′ d′) = absurd (n (ap (λ (a : ListAnswer). a .answer .number) (list-started-one p q .1) ∙ m))
@@ -53,6 +72,18 @@ module _ {r r′ : Record} {list list′ : Listing} {a a′ : ListAnswer} {l′ 
 
   pub reset-by : {store : List ℕ} → r .layout ≡ layoutNumber → ListReset (listTuner (r .tuner) list) store l′ a → r′ ≡ recordOf (l′ .tuner) → list′ ≡ l′ .list → a′ ≡ a → HostListReset r list store r′ list′ a′
   reset-by {store} h p e d f = held h (subst (ListReset (listTuner (r .tuner) list) store l′) (sym f) p) e d
+
+-- of parts: a record or a listing that may not be kept, whatever the layout is, and a good one
+module _ {layout : ℕ} {t : Tuner} {list : Listing} {k : ℕ} {xs ys : List ℤ} {store : List ℕ} {b : ListAnswer} where
+  pub refused-with : (HoldsGood layout (listTuner t list) → ⊥) → b ≡ listAnswer (plain 9) list → HostListTook (recordWith layout t) list k xs ys store (recordWith layout t) list b ys store
+  refused-with n e =
+      by (eqb layout layoutNumber)
+      (λ z. let h = eqb-true layout layoutNumber z in held h (record-out-of-range (λ g. n (h, g)) refl e refl refl) (ap (λ (x : ℕ). recordWith x t) h) refl)
+      (λ z. unheld (eqb-false layout layoutNumber z) (e, refl, refl) refl refl)
+
+  pub listed-with : {t′ : Tuner} {list′ : Listing} {a : Answer} {ys′ : List ℤ} {store′ : List ℕ} → HoldsGood layout (listTuner t list) → Took t k xs ys t′ a ys′ → b ≡ listAnswer a list′
+      → ListedBy t xs list store list′ store′ (a .number) → HostListTook (recordWith layout t) list k xs ys store (recordWith layout t′) list′ b ys′ store′
+  listed-with {t′} (h, g) p e d = held h (by-plain g p e d) (ap (λ (x : ℕ). recordWith x t′) h) refl
 
 -- ---- a refusal changes nothing
 
@@ -75,3 +106,29 @@ module _ {r r′ : Record} {list list′ : Listing} {store : List ℕ} {a : List
       kept l′ (record-out-of-range g e f) = e
       kept l′ (no-room-for-a-row g z e f) = e
       kept l′ (begun-anew g z e f) = absurd (not (ap (λ (x : ListAnswer). x .answer .number) f))
+
+-- a list that is not gone on with is left, and so is the store
+list-kept : {t : Tuner} {xs : List ℤ} {list list′ : Listing} {store store′ : List ℕ} {v : ℕ} → ListedBy t xs list store list′ store′ v → (v ≡ 0 → ⊥) → (list′ ≡ list) × (store′ ≡ store)
+list-kept (goes-on e) not = absurd (not refl)
+list-kept (as-it-was z e f) not = (e, f)
+
+module _ {r r′ : Record} {list list′ : Listing} {k : ℕ} {xs ys ys′ : List ℤ} {store store′ : List ℕ} {a : ListAnswer} where
+  -- a block that is not taken leaves record, listing and store
+  pub list-untaken-unchanged : HostListTook r list k xs ys store r′ list′ a ys′ store′ → (a .answer .number ≡ 0 → ⊥) → (r′ ≡ r) × (list′ ≡ list) × (store′ ≡ store)
+  list-untaken-unchanged (held h {l′} (record-out-of-range n same f o s) e d) not = let (r-same, list-same) = list-left-alone {Call = λ l l′. l′ ≡ l} {refused = ⊥} (λ l′ e. e) (held h same e d) in (r-same, list-same, s)
+  list-untaken-unchanged (held h (as-plain g p listed f) e d) not = let (list-same, s) = list-kept listed not in (untaken-unchanged (held-plain h p e) not, d ∙ list-same, s)
+  list-untaken-unchanged (unheld h u e d) not = (e, d, u .2)
+
+  -- a block that is refused leaves the output too
+  pub list-refused-untouched : HostListTook r list k xs ys store r′ list′ a ys′ store′ → 1 < a .answer .number → ys′ ≡ ys
+  list-refused-untouched (held h (record-out-of-range n same f o s) e d) z = o
+  list-refused-untouched (held h (as-plain g p listed f) e d) z = refused-untouched (held-plain h p e) z
+  list-refused-untouched (unheld h u e d) z = u .1
+
+  -- over a listing in its ranges, a block with a list is the plain block
+  pub plain-too : HostListTook r list k xs ys store r′ list′ a ys′ store′ → ListingIn (r .tuner .heard .count) list → HostTook r k xs ys r′ (a .answer) ys′
+  plain-too (held h (record-out-of-range n same f o s) e d) ranged =
+      let p = took-refused (tuner-out-of-range (λ good. n (good, ranged))) (omega arith) (ap (λ (x : ListAnswer). x .answer) f) in
+      held-plain h (subst (λ (zs : List ℤ). Took (r .tuner) k xs ys (r .tuner) (a .answer) zs) (sym o) p) (e ∙ ap (λ (x : ListTuner). recordOf (x .tuner)) same)
+  plain-too (held h (as-plain g p listed f) e d) ranged = held-plain h p e
+  plain-too (unheld h u e d) ranged = unheld-plain h (ap (λ (x : ListAnswer). x .answer) (u .0)) e (u .1)
