@@ -25,14 +25,19 @@ use Rattle.lists.proofs.Listing as I
 use Rattle.lists.proofs.Listing.Laws as I′
 use Rattle.listing.proofs.ListAnswer as Q
 use Rattle.listing.proofs.ListAnswer.Laws as Q′
+use Rattle.listnights.proofs.ListNightAnswer as Z
+use Rattle.listnights.proofs.ListNightAnswer.Laws as Z′
 use Rattle.host.specs.declared.Record.{Record}
 use Rattle.host.proofs.Record as T
 use Rattle.host.proofs.Record.Laws as T′
 use Rattle.host.proofs.Borrowed as B
 use Rattle.host.proofs.Lent.{mach, cell, owning, behind, opened, closed, within}
 use Rattle.hostlist.specs.declared.ListDone.{ListDone}
+use Rattle.hostlist.specs.declared.ListNightDone.{ListNightDone}
 use Rattle.hostlist.proofs.ListDone as K
 use Rattle.hostlist.proofs.ListDone.Laws as K′
+use Rattle.hostlist.proofs.ListNightDone as J
+use Rattle.hostlist.proofs.ListNightDone.Laws as J′
 
 -- the listing's machine value, its cell, what it owns, and what its borrow holds
 abbrev pub mach-list : Listing → Val
@@ -102,4 +107,19 @@ module _ {M : Type 1} {𝓤 : URA M} {H : Heap 𝓤} {A : Atoms 𝓤} (X : Type 
     left-read = λ Γ. of-opd t (load t (within t e (fld t {τ = T′.mir} {d = 0} refl (stop t))) (look-in t 0 (sub t 0 {d = 0} refl (whole t))));
     list-read = λ Γ. of-opd t (load t (within t e (fld t {τ = I′.mir} {d = 6976} refl (stop t))) (look-in t 0 (sub t 1 {d = 6976} refl (whole t))));
     answer-read = λ Γ. of-opd t (load t (within t e (fld t {τ = Q′.mir} {d = 6992} refl (stop t))) (look-in t 0 (sub t 2 {d = 6992} refl (whole t))));
+  }
+
+-- and what a night returns
+module _ {M : Type 1} {𝓤 : URA M} {H : Heap 𝓤} {A : Atoms 𝓤} (X : Type 0) (W : Given 𝓤 H A) (E : Env 𝓤 H) (r : ListNightDone) (w : Val) (is : Is J.the-row r (w ∷ [])) where
+  pub answer-of-night : Is Z.the-row (r .answer) (LL.vals Z.the-type Z′.the-laws (r .answer))
+  answer-of-night = LL.owed J.the-type J′.the-laws r (w ∷ []) is .1 .1 .0
+
+  pub parts-of-night : X → {d l : ℕ} → spotOf 𝓤 H E d ≡ (J′.mir, l, 0) → Parts J.the-type J′.the-laws Z.the-type Z′.the-laws X W E r d l (r .left) (r .list) (r .answer)
+  parts-of-night t e = record {
+    left-is = LL.owed J.the-type J′.the-laws r (w ∷ []) is .0;
+    list-is = LL.owed J.the-type J′.the-laws r (w ∷ []) is .1 .0;
+    answer-is = answer-of-night;
+    left-read = λ Γ. of-opd t (load t (within t e (fld t {τ = T′.mir} {d = 0} refl (stop t))) (look-in t 0 (sub t 0 {d = 0} refl (whole t))));
+    list-read = λ Γ. of-opd t (load t (within t e (fld t {τ = I′.mir} {d = 6976} refl (stop t))) (look-in t 0 (sub t 1 {d = 6976} refl (whole t))));
+    answer-read = λ Γ. of-opd t (load t (within t e (fld t {τ = Z′.mir} {d = 6992} refl (stop t))) (look-in t 0 (sub t 2 {d = 6992} refl (whole t))));
   }

@@ -9,6 +9,9 @@ use Rattle.lists.specs.declared.Listing.{Listing}
 use Rattle.listing.specs.declared.ListTuner.{ListTuner}
 use Rattle.listing.specs.declared.ListAnswer.{ListAnswer}
 use Rattle.listing.specs.Listings.{listTuner, listAnswer, ListStarted, ListReset, ListTook}
+use Rattle.nights.specs.Nights.{refusedNight}
+use Rattle.listnights.specs.declared.ListNightAnswer.{ListNightAnswer}
+use Rattle.listnights.specs.ListNights.{listNight, ListNighted}
 use Rattle.host.specs.declared.Record.{Record}
 use Rattle.host.specs.Hosts.{layoutNumber, recordOf}
 
@@ -30,3 +33,8 @@ HostListReset r list store r′ list′ a = ListLent (λ l l′. ListReset l sto
 abbrev pub HostListTook : Record → Listing → ℕ → List ℤ → List ℤ → List ℕ → Record → Listing → ListAnswer → List ℤ → List ℕ → Type 0
 HostListTook r list k xs ys store r′ list′ a ys′ store′ =
     ListLent (λ l l′. ListTook l k xs ys store l′ a ys′ store′) ((a ≡ listAnswer (plain 9) list) × (ys′ ≡ ys) × (store′ ≡ store)) r list r′ list′
+
+-- a night's blocks in one call
+abbrev pub HostListNighted : Record → Listing → (k size : ℕ) → List ℤ → List ℤ → List ℕ → Record → Listing → ListNightAnswer → List ℤ → List ℕ → Type 0
+HostListNighted r list k size xs ys store r′ list′ a ys′ store′ =
+    ListLent (λ l l′. ListNighted l k size xs ys store l′ a ys′ store′) ((a ≡ listNight (refusedNight 9) list) × (ys′ ≡ ys) × (store′ ≡ store)) r list r′ list′

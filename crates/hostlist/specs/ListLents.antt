@@ -20,10 +20,15 @@ use Rattle.listing.specs.declared.ListAnswer.{ListAnswer}
 use Rattle.listing.specs.Listings.{listTuner, listAnswer, ListGood, ListStarted, ListReset, record-out-of-range, no-room as no-room-for-a-row, begun-anew, ListedBy, goes-on, as-it-was, as-plain}
 use Rattle.listing.specs.Beginnings.{by-plain}
 use Rattle.listing.specs.Ones.{list-started-one, list-reset-one, list-took-one}
+use Rattle.nights.specs.declared.NightAnswer.{NightAnswer}
+use Rattle.nights.specs.Nights.{refusedNight}
+use Rattle.listnights.specs.declared.ListNightAnswer.{ListNightAnswer}
+use Rattle.listnights.specs.ListNights.{listNight}
+use Rattle.listnights.specs.Ones.{list-nighted-one}
 use Rattle.host.specs.declared.Record.{Record}
 use Rattle.host.specs.Hosts.{layoutNumber, recordOf, held as held-plain, unheld as unheld-plain, HostTook}
 use Rattle.host.specs.Lents.{recordWith, untaken-unchanged, refused-untouched}
-use Rattle.hostlist.specs.HostLists.{ListLent, held, unheld, HostListStarted, begun, no-room, HostListReset, HostListTook}
+use Rattle.hostlist.specs.HostLists.{ListLent, held, unheld, HostListStarted, begun, no-room, HostListReset, HostListTook, HostListNighted}
 
 -- of this layout and good
 abbrev pub HoldsGood : ℕ → ListTuner → Type 0
@@ -60,9 +65,18 @@ module _ {r r₁ r₂ : Record} {list list₁ list₂ : Listing} {store : List �
   host-list-started-one (no-room p n e d) (begun q m e′ d′) = absurd (m (ap (λ (a : ListAnswer). a .answer .number) (list-started-one q p .1) ∙ n))
   host-list-started-one (no-room p n e d) (no-room q m e′ d′) = (e ∙ sym e′, d ∙ sym d′, list-started-one p q .1)
 
+pub host-list-nighted-one : {r r₁ r₂ : Record} {list list₁ list₂ : Listing} {k size : ℕ} {xs ys zs₁ zs₂ : List ℤ} {store store₁ store₂ : List ℕ} {b₁ b₂ : ListNightAnswer} → HostListNighted r list k size xs ys store r₁ list₁ b₁ zs₁ store₁ → HostListNighted r list k size xs ys store r₂ list₂ b₂ zs₂ store₂
+    → (r₁ ≡ r₂) × (list₁ ≡ list₂) × (b₁ ≡ b₂) × (zs₁ ≡ zs₂) × (store₁ ≡ store₂)
+host-list-nighted-one {zs₁ = zs₁} {zs₂} {store₁ = store₁} {store₂} {b₁} {b₂} p q =
+    let (r, l, same) = list-lent-one {Same = (b₁ ≡ b₂) × (zs₁ ≡ zs₂) × (store₁ ≡ store₂)} (λ l₁ l₂ p q. let (l, a, o, s) = list-nighted-one p q in (l, (a, o, s))) (λ u v. (u .0 ∙ sym (v .0), u .1 ∙ sym (v .1), u .2 ∙ sym (v .2))) p q in
+    (r, l, same .0, same .1, same .2)
+
 -- ---- the promises, met by the calls by value
 
 -- the answer of a record of another layout
+pub night-nine-is : (list : Listing) {p : NightAnswer} {a : ListNightAnswer} → a ≡ listNight p list → p ≡ refusedNight 9 → a ≡ listNight (refusedNight 9) list
+night-nine-is list e f = e ∙ ap (λ (x : NightAnswer). listNight x list) f
+
 pub nine-is : (list : Listing) {p : Answer} {a : ListAnswer} → a ≡ listAnswer p list → p ≡ plain 9 → a ≡ listAnswer (plain 9) list
 nine-is list e f = e ∙ ap (λ (x : Answer). listAnswer x list) f
 

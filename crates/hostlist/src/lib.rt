@@ -6,6 +6,7 @@ use keyboard::Keyboard;
 use listing::ListAnswer;
 use listing::ListTaken;
 use listing::ListTuner;
+use listnights::ListNightAnswer;
 use lists::Listing;
 use pitch::Pitch;
 use record::Head;
@@ -26,7 +27,7 @@ ghost use Rattle.tuner.specs.Parted.{tunerOf, lastWith};
 ghost use Rattle.listing.specs.Listings.{listTuner};
 ghost use Rattle.host.specs.Hosts.{recordOf};
 ghost use Rattle.host.specs.Lents.{recordWith, lastOf};
-ghost use Rattle.hostlist.specs.HostLists.{HostListStarted, HostListReset, HostListTook};
+ghost use Rattle.hostlist.specs.HostLists.{HostListStarted, HostListReset, HostListTook, HostListNighted};
 ghost use Rattle.hostlist.specs.ListLents.{HoldsGood};
 
 // The record and the listing that a call leaves, and its answer.
@@ -41,6 +42,13 @@ pub struct ListedLeft {
     pub left: Left,
     pub list: Listing,
     pub answer: ListAnswer,
+}
+
+// The record and the listing that a night leaves, and its answer.
+pub struct ListNightDone {
+    pub left: Record,
+    pub list: Listing,
+    pub answer: ListNightAnswer,
 }
 
 // A call of a tuner with a list is done.
@@ -227,6 +235,45 @@ fn listed(
     }
 }
 
+fn nighted(
+    r: Record,
+    list: Listing,
+    number: u16,
+    size: usize,
+    samples: &[i16],
+    out: &mut [i16],
+    store: &mut [u32],
+) -> ListNightDone
+    ensures { λ d. ⌜ HostListNighted r list number size (now (samples .entry)) (now (out .entry)) (now (store .entry)) (d .left) (d .list) (d .answer) (now (out .exit)) (now (store .exit)) ⌝ }
+{
+    if !host::holds(r.layout) {
+        let refused = listnights::answer_of(nights::refused_night(9), list);
+        return ListNightDone {
+            left: r,
+            list: list,
+            answer: refused,
+        };
+    }
+    let held = r.tuner;
+    let l = ListTuner {
+        tuner: held,
+        list: list,
+    };
+    let d = listnights::night(l, number, size, samples, out, store);
+    let m = d.tuner;
+    let tuner = m.tuner;
+    let listed = m.list;
+    let answer = d.answer;
+    ListNightDone {
+        left: Record {
+            layout: LAYOUT,
+            tuner: tuner,
+        },
+        list: listed,
+        answer: answer,
+    }
+}
+
 // A start that lends a store for the list: a fresh tuner and an empty list, or the default tuner and an empty list beside the number of the first thing
 // that is bad; 17, where the store has no room for a row, leaves both as they were.
 #[no_mangle]
@@ -303,6 +350,26 @@ pub extern "C" fn daxfolin_list_block(
     lent.tuner.last.length = left.last.length;
     lent.tuner.last.repeated = left.last.repeated;
     lent.tuner.last.dropped = left.last.dropped;
+    *list = d.list;
+    d.answer
+}
+
+// A recording's blocks of so many samples, from a block number on, as by the single calls one by one; it stops at the first that is refused, and the list
+// goes on with the blocks that were taken.
+#[no_mangle]
+pub extern "C" fn daxfolin_list_night(
+    lent: &mut Record,
+    list: &mut Listing,
+    number: u16,
+    size: usize,
+    samples: &[i16],
+    out: &mut [i16],
+    store: &mut [u32],
+) -> ListNightAnswer
+    ensures { λ a. ⌜ HostListNighted (now (lent .entry)) (now (list .entry)) number size (now (samples .entry)) (now (out .entry)) (now (store .entry)) (now (lent .exit)) (now (list .exit)) a (now (out .exit)) (now (store .exit)) ⌝ }
+{
+    let d = nighted(*lent, *list, number, size, samples, out, store);
+    *lent = d.left;
     *list = d.list;
     d.answer
 }

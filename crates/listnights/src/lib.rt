@@ -42,7 +42,7 @@ pub struct ListReached {
     pub list: Listing,
 }
 
-fn answer_of(a: NightAnswer, l: Listing) -> ListNightAnswer
+pub fn answer_of(a: NightAnswer, l: Listing) -> ListNightAnswer
     ensures { λ r. ⌜ r ≡ listNight a l ⌝ }
 {
     ListNightAnswer {
