@@ -261,9 +261,9 @@ fn metered(r: Record) -> Shown
 // The version of these calls.
 #[no_mangle]
 pub extern "C" fn daxfolin_version() -> u32
-    ensures { λ r. ⌜ r ≡ 9 ⌝ }
+    ensures { λ r. ⌜ r ≡ 10 ⌝ }
 {
-    9
+    10
 }
 
 // Where the k-th stretch of 512 samples of a recording of so many lies: the last may be shorter, and past the end there is nothing.
