@@ -1,3 +1,2 @@
 pub mod Both
-pub mod Handing
 pub mod Leaving

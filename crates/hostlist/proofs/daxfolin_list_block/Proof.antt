@@ -51,13 +51,13 @@ use Rattle.listing.proofs.ListAnswer as Q
 use Rattle.listing.proofs.ListAnswer.Laws as Q′
 use Rattle.host.specs.declared.Record.{Record}
 use Rattle.host.proofs.Record as T
+use Rattle.host.proofs.Handing.{dying, arraysLeft, Homes, set, tokens, own-parts, meanwhile, hands, handed-back}
 use Rattle.host.proofs.Lent.{mach, behind, by-walk}
 use Rattle.host.proofs.Locals.{gather, scatter, rooms, filled, sets, freed}
 use Rattle.host.proofs.Parts.{Changes, changedBy, changed, Told, heard-is, last-is, energies-at, correlations-at, store-at, eighths-at, out-at, held, cells, Back, holding}
 use Rattle.hostlist.specs.HostLists.{HostListTook}
 use Rattle.hostlist.specs.declared.ListedLeft.{ListedLeft}
 use Rattle.hostlist.proofs.ListedLeft as K
-use Rattle.hostlist.proofs.Handing.{dying, arraysLeft, Homes, set, tokens, own-parts, meanwhile, hands, handed-back}
 use Rattle.hostlist.proofs.Both.{mach-list, behind-list, both-opened}
 use Rattle.hostlist.proofs.Leaving.{answer-is, listed-stored}
 use Rattle.hostlist.proofs.listed as listed

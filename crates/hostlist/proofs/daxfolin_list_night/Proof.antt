@@ -45,13 +45,13 @@ use Rattle.listnights.proofs.ListNightAnswer.Laws as Z′
 use Rattle.host.specs.declared.Record.{Record}
 use Rattle.host.proofs.Record as T
 use Rattle.host.proofs.Record.Laws as T′
+use Rattle.host.proofs.Handing.{dying}
 use Rattle.host.proofs.Lent.{mach, behind, by-walk}
 use Rattle.host.proofs.Locals.{gather, scatter, freed}
 use Rattle.hostlist.specs.HostLists.{HostListNighted}
 use Rattle.hostlist.specs.declared.ListNightDone.{ListNightDone}
 use Rattle.hostlist.proofs.ListNightDone as K
 use Rattle.hostlist.proofs.ListNightDone.Laws as K′
-use Rattle.hostlist.proofs.Handing.{dying}
 use Rattle.hostlist.proofs.Both.{mach-list, behind-list, both-opened, both-stored, answer-of-night, parts-of-night}
 use Rattle.hostlist.proofs.nighted as nighted
 use Rattle.hostlist.proofs.nighted.Symbol as nighted-def
