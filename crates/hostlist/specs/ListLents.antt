@@ -6,24 +6,26 @@ use native.Mathlib.Omega.{arith}
 use borrow.Author.Tests.{eqb-true, eqb-false}
 use lib.Dec.{eqb}
 use lib.IntN.{ℤ}
+use lib.ListN.{take, drop}
 use Rattle.whole.specs.Tests.{by}
 use Rattle.rules.specs.declared.Settings.{Settings}
+use Rattle.rules.specs.Rules.{gives}
 use Rattle.answers.specs.declared.Answer.{Answer}
 use Rattle.answers.specs.Numbering.{plain}
 use Rattle.lists.specs.declared.Listing.{Listing}
-use Rattle.lists.specs.Lists.{ListingIn}
+use Rattle.lists.specs.Lists.{sungNote, Sheet, sheet, afterNotes, ListingIn}
 use Rattle.tuner.specs.declared.Tuner.{Tuner}
 use Rattle.tuner.specs.Tuners.{Took, record-out-of-range as tuner-out-of-range}
 use Rattle.tuner.specs.Verdicts.{took-refused}
 use Rattle.listing.specs.declared.ListTuner.{ListTuner}
 use Rattle.listing.specs.declared.ListAnswer.{ListAnswer}
-use Rattle.listing.specs.Listings.{listTuner, listAnswer, ListGood, ListStarted, ListReset, record-out-of-range, no-room as no-room-for-a-row, begun-anew, ListedBy, goes-on, as-it-was, as-plain}
+use Rattle.listing.specs.Listings.{listTuner, listAnswer, ListGood, blockNotes, ListStarted, ListReset, record-out-of-range, no-room as no-room-for-a-row, begun-anew, ListedBy, goes-on, as-it-was, as-plain}
 use Rattle.listing.specs.Beginnings.{by-plain}
 use Rattle.listing.specs.Ones.{list-started-one, list-reset-one, list-took-one}
 use Rattle.nights.specs.declared.NightAnswer.{NightAnswer}
 use Rattle.nights.specs.Nights.{refusedNight}
 use Rattle.listnights.specs.declared.ListNightAnswer.{ListNightAnswer}
-use Rattle.listnights.specs.ListNights.{listNight}
+use Rattle.listnights.specs.ListNights.{listNight, tookFrom, record-out-of-range as night-out-of-range, as-plain as as-plain-night}
 use Rattle.listnights.specs.Ones.{list-nighted-one}
 use Rattle.host.specs.declared.Record.{Record}
 use Rattle.host.specs.Hosts.{layoutNumber, recordOf, held as held-plain, unheld as unheld-plain, HostTook}
@@ -146,3 +148,12 @@ module _ {r r′ : Record} {list list′ : Listing} {k : ℕ} {xs ys ys′ : Lis
       held-plain h (subst (λ (zs : List ℤ). Took (r .tuner) k xs ys (r .tuner) (a .answer) zs) (sym o) p) (e ∙ ap (λ (x : ListTuner). recordOf (x .tuner)) same)
   plain-too (held h (as-plain g p listed f) e d) ranged = held-plain h p e
   plain-too (unheld h u e d) ranged = unheld-plain h (ap (λ (x : ListAnswer). x .answer) (u .0)) e (u .1)
+
+-- a night that takes no sample, be it refused at once or a block given again, leaves listing and store
+pub night-without-samples : {r r′ : Record} {list list′ : Listing} {k size : ℕ} {xs ys ys′ : List ℤ} {store store′ : List ℕ} {a : ListNightAnswer} → HostListNighted r list k size xs ys store r′ list′ a ys′ store′ → a .night .written ≡ 0 → (list′ ≡ list) × (store′ ≡ store)
+unfolding afterNotes gives
+night-without-samples (held h (night-out-of-range n same f o s) e d) z = (d ∙ ap (λ (x : ListTuner). x .list) same, s)
+night-without-samples {r = r} {list = list} {size = size} {xs = xs} {store = store} {a = a} (held h (as-plain-night g p went f) e d) z =
+    let same = went ∙ ap (λ (n : ℕ). afterNotes (sungNote (r .tuner .pitch .tone)) (r .tuner .heard .count) (sheet list store) (blockNotes (r .tuner) (take n (drop (tookFrom (a .night) size) xs)))) z in
+    (d ∙ ap (λ (x : Sheet). x .listing) same, ap (λ (x : Sheet). x .store) same)
+night-without-samples (unheld h u e d) z = (d, u .2)
