@@ -103,6 +103,7 @@ pub fn list_choices() -> Vec<(Record, Call)> {
         }
     }
     let middle = Listing::of([2, 1, 1, 2_000]);
+    let (next, last) = (going_on.next_number(), going_on.last_samples());
     for numbers in SHORT {
         for listing in &listings {
             let call = listed(*listing, numbers, Call::Reset);
@@ -114,13 +115,14 @@ pub fn list_choices() -> Vec<(Record, Call)> {
                 calls.push((going_on.clone(), call));
             }
         }
-        let last = going_on.last_samples();
         for call in [
             block(going_on.number, last),
             block(going_on.number, &last[1..]),
-            block(going_on.next_number(), &[0; 300]),
+            block(next, &[0; 300]),
             block(going_on.number - 1, last),
-            night(going_on.number, 480, &[last, &square(700)].concat(), 1_180),
+            // Given again, then lost; and lost, then found again.
+            night(going_on.number, 480, &[last, &[0; 700]].concat(), 1_180),
+            night(next, 64, &[vec![0; 400], square(1_500)].concat(), 1_900),
             night(going_on.number, 0, last, 480),
         ] {
             calls.push((going_on.clone(), listed(middle, numbers, call)));
