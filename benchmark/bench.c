@@ -3,7 +3,7 @@
      bench run WHO SOUND BLOCK WARM COUNT   takes WARM samples of a sound in blocks of 512, then COUNT samples in blocks of BLOCK; prints a sum
                                             over the whole output, the cycles repeated and dropped, and the user time of the COUNT samples in
                                             microseconds. WHO: library, plain; night: the library, the WARM samples by one call and the
-                                            COUNT samples by another
+                                            COUNT samples by another; list, listnight: the same with a list of the notes sung
      bench compare SOUND BLOCK WARM COUNT [HERTZ]
                                             takes the same by both programs and holds every answer and sample of the one to the other's; each
                                             eleventh block is given again, and a refused one is sent before it. HERTZ: the sample rate, 44100
@@ -43,33 +43,62 @@ typedef struct {
 } program;
 
 /* The settings that are measured: the default ones, but corrected at once, as the figures have always been taken and as the other tuners do. */
-static uint32_t library_start(uint32_t hertz)
+static daxfolin_settings at_once(void)
 {
     daxfolin_settings settings = DAXFOLIN_DEFAULTS;
     settings.decay = 0;
-    return daxfolin_start(&tuner, hertz, settings);
+    return settings;
 }
 
-static answer library_block(uint16_t number, const int16_t *samples, size_t n, int16_t *to, size_t room)
-{
-    daxfolin_answer a = daxfolin_block(&tuner, number, samples, n, to, room);
-    return (answer){a.number, a.written, a.repeated, a.dropped};
-}
+static answer answer_of(daxfolin_answer a) { return (answer){a.number, a.written, a.repeated, a.dropped}; }
+static answer answer_of_night(daxfolin_night_answer a) { return (answer){a.number, (uint16_t)a.written, (uint16_t)a.repeated, (uint16_t)a.dropped}; }
 
-static void library_night(size_t from, size_t to, size_t block)
+static void add_night(daxfolin_night_answer a, size_t samples)
 {
-    daxfolin_night_answer a = daxfolin_night(&tuner, number, block, in + from, to - from, out + from, to - from);
-    failures += a.number != 0 || a.written != to - from;
+    failures += a.number != 0 || a.written != samples;
     repeated += a.repeated;
     dropped += a.dropped;
     number += (uint16_t)a.taken;
 }
 
+static uint32_t library_start(uint32_t hertz) { return daxfolin_start(&tuner, hertz, at_once()); }
+
+static answer library_block(uint16_t number, const int16_t *samples, size_t n, int16_t *to, size_t room)
+{
+    return answer_of(daxfolin_block(&tuner, number, samples, n, to, room));
+}
+
+static void library_night(size_t from, size_t to, size_t block)
+{
+    add_night(daxfolin_night(&tuner, number, block, in + from, to - from, out + from, to - from), to - from);
+}
+
 /* A night of one block. */
 static answer library_night_block(uint16_t number, const int16_t *samples, size_t n, int16_t *to, size_t room)
 {
-    daxfolin_night_answer a = daxfolin_night(&tuner, number, n, samples, n, to, room);
-    return (answer){a.number, (uint16_t)a.written, (uint16_t)a.repeated, (uint16_t)a.dropped};
+    return answer_of_night(daxfolin_night(&tuner, number, n, samples, n, to, room));
+}
+
+/* With a list of the notes sung, in a store as long as can be. */
+static daxfolin_listing listing;
+static uint32_t rows[3 * DAXFOLIN_MOST_ROWS];
+enum { ROWS = sizeof rows / sizeof rows[0] };
+
+static uint32_t list_start(uint32_t hertz) { return daxfolin_list_start(&tuner, &listing, hertz, at_once(), rows, ROWS).answer.number; }
+
+static answer list_block(uint16_t number, const int16_t *samples, size_t n, int16_t *to, size_t room)
+{
+    return answer_of(daxfolin_list_block(&tuner, &listing, number, samples, n, to, room, rows, ROWS).answer);
+}
+
+static void list_night(size_t from, size_t to, size_t block)
+{
+    add_night(daxfolin_list_night(&tuner, &listing, number, block, in + from, to - from, out + from, to - from, rows, ROWS).night, to - from);
+}
+
+static answer list_night_block(uint16_t number, const int16_t *samples, size_t n, int16_t *to, size_t room)
+{
+    return answer_of_night(daxfolin_list_night(&tuner, &listing, number, n, samples, n, to, room, rows, ROWS).night);
 }
 
 static uint32_t plain_begin(uint32_t hertz) { return plain_start(&plain, hertz); }
@@ -79,11 +108,13 @@ static answer plain_take(uint16_t number, const int16_t *samples, size_t n, int1
     return plain_block(&plain, number, samples, n, to, room);
 }
 
-enum { PROGRAMS = 3 };
+enum { PROGRAMS = 5 };
 static const program programs[PROGRAMS] = {
     {"library", sizeof(daxfolin_record), library_start, library_block, 0},
     {"plain", sizeof(plain_tuner), plain_begin, plain_take, 0},
     {"night", sizeof(daxfolin_record), library_start, library_night_block, library_night},
+    {"list", sizeof(daxfolin_record) + sizeof(daxfolin_listing), list_start, list_block, 0},
+    {"listnight", sizeof(daxfolin_record) + sizeof(daxfolin_listing), list_start, list_night_block, list_night},
 };
 
 static void start(const program *p, uint32_t hertz) { failures += p->start(hertz) != DAXFOLIN_TAKEN; }

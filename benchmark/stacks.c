@@ -10,6 +10,9 @@ int printf(const char *, ...);
 enum { SUNG = 60 * 44100 };
 static int16_t in[SUNG], out[512];
 static daxfolin_record tuner;
+static daxfolin_listing listing;
+static uint32_t rows[3 * DAXFOLIN_MOST_ROWS];
+enum { ROWS = sizeof rows / sizeof rows[0] };
 static uint16_t number;
 static int failures;
 
@@ -33,6 +36,28 @@ NOTHING(daxfolin_night_answer, night, daxfolin_record *r, uint16_t n, size_t siz
     return (daxfolin_night_answer){n, 0, 0, 0, 0, 0, {0, 0, 0, 0}};
 }
 
+#define ANSWER(n) ((daxfolin_list_answer){{n, 0, 0, 0}, 0, 0})
+NOTHING(daxfolin_list_answer, list_start, daxfolin_record *r, daxfolin_listing *l, uint32_t hertz, daxfolin_settings s, const uint32_t *store, size_t n)
+{
+    __asm__ volatile("" ::"r"(r), "r"(l), "r"(store), "r"(n) : "memory");
+    return ANSWER(hertz + s.scale);
+}
+NOTHING(daxfolin_list_answer, list_reset, daxfolin_record *r, daxfolin_listing *l, const uint32_t *store, size_t n)
+{
+    __asm__ volatile("" ::"r"(r), "r"(l), "r"(store), "r"(n) : "memory");
+    return ANSWER(0);
+}
+NOTHING(daxfolin_list_answer, list_block, daxfolin_record *r, daxfolin_listing *l, uint16_t n, const int16_t *samples, size_t length, int16_t *to, size_t room, uint32_t *store, size_t numbers)
+{
+    __asm__ volatile("" ::"r"(r), "r"(l), "r"(samples), "r"(to), "r"(length), "r"(room), "r"(store), "r"(numbers) : "memory");
+    return ANSWER(n);
+}
+NOTHING(daxfolin_list_night_answer, list_night, daxfolin_record *r, daxfolin_listing *l, uint16_t n, size_t size, const int16_t *samples, size_t length, int16_t *to, size_t room, uint32_t *store, size_t numbers)
+{
+    __asm__ volatile("" ::"r"(r), "r"(l), "r"(size), "r"(samples), "r"(to), "r"(length), "r"(room), "r"(store), "r"(numbers) : "memory");
+    return (daxfolin_list_night_answer){{n, 0, 0, 0, 0, 0, {0, 0, 0, 0}}, 0, 0};
+}
+
 /* A call as it is measured, made by the function itself or by the one that does nothing; it gives the number answered. */
 typedef uint32_t way(bool nothing);
 #define WAY(name) static __attribute__((noinline)) uint32_t way_##name(bool nothing)
@@ -47,6 +72,11 @@ WAY(night) { return (nothing ? nothing_night : daxfolin_night)(&tuner, number, 5
 WAY(midi) { return (nothing ? nothing_midi : daxfolin_midi)(&tuner, key, 3); }
 WAY(reset) { return (nothing ? nothing_reset : daxfolin_reset)(&tuner); }
 WAY(meter) { return (nothing ? nothing_meter : daxfolin_meter)(&tuner).state; }
+
+WAY(list_start) { return (nothing ? nothing_list_start : daxfolin_list_start)(&tuner, &listing, DAXFOLIN_CD, defaults, rows, ROWS).answer.number; }
+WAY(list_reset) { return (nothing ? nothing_list_reset : daxfolin_list_reset)(&tuner, &listing, rows, ROWS).answer.number; }
+WAY(list_block) { return (nothing ? nothing_list_block : daxfolin_list_block)(&tuner, &listing, number, in + sent, length, out, 512, rows, ROWS).answer.number; }
+WAY(list_night) { return (nothing ? nothing_list_night : daxfolin_list_night)(&tuner, &listing, number, 512, in + sent, length, out, 512, rows, ROWS).night.number; }
 
 static __attribute__((noinline)) uintptr_t below(way *w, bool nothing, uint32_t *answered)
 {
@@ -99,5 +129,13 @@ int main(void)
     printf("block refused, 9 by the layout %lu\n", depth(way_block, DAXFOLIN_RECORD_OUT_OF_RANGE));
     tuner.layout++;
     printf("reset %lu\n", depth(way_reset, DAXFOLIN_TAKEN));
+    printf("start with a list %lu\n", depth(way_list_start, DAXFOLIN_TAKEN));
+    printf("night taken with a list %lu\n", depth_taken(way_list_night));
+    printf("reset with a list %lu\n", depth(way_list_reset, DAXFOLIN_TAKEN));
+    printf("block taken with a list %lu\n", depth_taken(way_list_block));
+    number--, sent -= 512;
+    printf("block given again with a list %lu\n", depth(way_list_block, DAXFOLIN_GIVEN_AGAIN));
+    listing.place = DAXFOLIN_MOST_ROWS + 1;
+    printf("block refused with a list, 9 by the listing %lu\n", depth(way_list_block, DAXFOLIN_RECORD_OUT_OF_RANGE));
     return failures != 0;
 }

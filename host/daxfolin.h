@@ -1,20 +1,20 @@
 /* Daxfolin for C: a proved tuner for one sung voice, mono, 16-bit samples, 44,100 or 48,000 a second.
  *
- * Each function below is proved (crates/host): for any bytes in the record, any settings, any block and any lengths it comes to an end,
+ * Each function below is proved (crates/host, and crates/hostlist for those with a list): for any bytes in the record, any settings, any block and any lengths it comes to an end,
  * does nothing undefined, and answers as said here. It takes no memory of its own but under 12 KB of stack (a night under 32 KB), has no
  * state outside the record, and calls nothing but memcpy and memset. The archive is for x86-64 Linux:
  *
- *     tools/library                                 proves it and writes target/staticlib/libhost.a
- *     cc -std=c11 -Ihost program.c target/staticlib/libhost.a
+ *     tools/library                                 proves it and writes target/staticlib/libhost.a and libhostlist.a
+ *     cc -std=c11 -Ihost program.c target/staticlib/libhost.a target/staticlib/libhostlist.a
  *
  * or host/build program.c OUT for both, also where the processor is another one (docs/HOST.md).
  *
  * What the proof takes for granted of the caller, as C cannot say it:
  * - a record is lent at an address that is a multiple of 8, all its 6976 bytes readable and, but for daxfolin_meter, writable;
  *   daxfolin_start and daxfolin_start_default write them all and read none, so there it may be fresh memory;
- * - `samples` and `out` stand at even addresses, with as many samples behind them as the length beside them says, and `bytes` anywhere,
- *   likewise; of a length of 0 nothing is read or written;
- * - record, samples, out and bytes do not overlap, and during a call nobody else touches them. Calls on different records may run at once. */
+ * - `samples` and `out` stand at even addresses, with as many samples behind them as the length beside them says, `store` and a listing at
+ *   addresses that are multiples of 4, and `bytes` anywhere, likewise; of a length of 0 nothing is read or written;
+ * - record, listing, samples, out, store and bytes do not overlap, and during a call nobody else touches them. Calls on different records may run at once. */
 #ifndef DAXFOLIN_H
 #define DAXFOLIN_H
 
@@ -25,10 +25,11 @@
 extern "C" {
 #endif
 
-#define DAXFOLIN_VERSION 9u                /* of these calls: what daxfolin_version() answers */
+#define DAXFOLIN_VERSION 10u               /* of these calls: what daxfolin_version() answers */
 #define DAXFOLIN_LAYOUT 20006u             /* of the record: what stands first in it */
 #define DAXFOLIN_LONGEST_BLOCK 512u        /* samples of a block */
 #define DAXFOLIN_LONGEST_TAKE 1000000000u  /* samples of a take */
+#define DAXFOLIN_MOST_ROWS 4096u           /* rows of a list, three numbers each */
 #define DAXFOLIN_CD 44100u                 /* the sample rates, in samples a second */
 #define DAXFOLIN_FILM 48000u
 
@@ -52,7 +53,8 @@ enum {
     DAXFOLIN_FLOOR_OUT_OF_RANGE = 13,   /* 0, or over 1,000,000 */
     DAXFOLIN_CHANNEL_OUT_OF_RANGE = 14, /* over 15 */
     DAXFOLIN_MODE_UNKNOWN = 15,         /* over 1 */
-    DAXFOLIN_RATE_UNKNOWN = 16          /* neither 44,100 nor 48,000: a start's alone, before the settings; it leaves the default tuner */
+    DAXFOLIN_RATE_UNKNOWN = 16,         /* neither 44,100 nor 48,000: a start's alone, before the settings; it leaves the default tuner */
+    DAXFOLIN_STORE_WITHOUT_ROOM = 17    /* under three numbers: a start's or a reset's that lends a store, after all others; nothing is changed */
 };
 
 /* The modes: whose note is wanted. */
@@ -154,6 +156,31 @@ typedef struct daxfolin_night_answer {
     daxfolin_answer again; /* of a first block that was given again, 1 and its own counts, which are not in the sums; else all 0 */
 } daxfolin_night_answer;
 
+/* What a host keeps of the list of the notes sung, beside its record: any numbers are a listing, and one that is out of its ranges is
+ * answered 9 by the calls that take it. A host has no need to look into it. */
+typedef struct daxfolin_listing {
+    uint32_t rows;  /* rows so far, up to 4096 */
+    uint32_t left;  /* rows left out; both together are no more than the take has samples */
+    uint32_t place; /* of the run that began last the place of its row, counted from 0; 4096: it has none */
+    uint32_t first; /* and its first sample, up to the take's count */
+} daxfolin_listing;
+
+/* Where a list begins: `daxfolin_listing list = DAXFOLIN_NO_ROWS;`. */
+#define DAXFOLIN_NO_ROWS {0, 0, 4096, 0}
+
+/* The answer to a call with a list: the plain call's, and the rows and those left out of the listing then held. */
+typedef struct daxfolin_list_answer {
+    daxfolin_answer answer;
+    uint32_t rows;
+    uint32_t left;
+} daxfolin_list_answer;
+
+typedef struct daxfolin_list_night_answer {
+    daxfolin_night_answer night;
+    uint32_t rows;
+    uint32_t left;
+} daxfolin_list_night_answer;
+
 /* What the meter shows; a figure that is not of the state is 0. */
 enum { DAXFOLIN_SEARCHING = 0, DAXFOLIN_LOCKING = 1, DAXFOLIN_PITCHED = 2, DAXFOLIN_REFUSED = 9 };
 
@@ -201,6 +228,11 @@ DAXFOLIN_SAME(offsetof(daxfolin_night_answer, repeated), 24);
 DAXFOLIN_SAME(offsetof(daxfolin_night_answer, dropped), 32);
 DAXFOLIN_SAME(offsetof(daxfolin_night_answer, again), 40);
 DAXFOLIN_SAME(sizeof(daxfolin_night_answer), 56);
+DAXFOLIN_SAME(sizeof(daxfolin_listing), 4 * 4);
+DAXFOLIN_SAME(offsetof(daxfolin_list_answer, rows), 12);
+DAXFOLIN_SAME(sizeof(daxfolin_list_answer), 20);
+DAXFOLIN_SAME(offsetof(daxfolin_list_night_answer, rows), 56);
+DAXFOLIN_SAME(sizeof(daxfolin_list_night_answer), 64);
 DAXFOLIN_SAME(sizeof(daxfolin_shown), 20);
 DAXFOLIN_SAME(sizeof(size_t), 8);
 #undef DAXFOLIN_SAME
@@ -239,6 +271,32 @@ daxfolin_night_answer daxfolin_night(daxfolin_record *record, uint16_t number, s
 /* Sample rate and settings kept, everything else fresh, the key, the running status and any half message forgotten. 0; or 9, and the
  * record is as it was. */
 uint32_t daxfolin_reset(daxfolin_record *record);
+
+/* ---- With a list of the notes sung. The four calls below are the plain ones, over the record and a listing that the host keeps beside it,
+ * and lend a store of `store_length` numbers for rows of three: note (0 to 127), first sample of the take (from 0) and length, one for each
+ * longest run of samples with the same wanted note; samples without a period or a wanted note are in no row. The row of a run that goes
+ * on has its length so far. There is room for store_length / 3 rows, at most 4096; a run that begins where the store then lent has no
+ * place for its row is left out, and counted. The store is written, never read, and past the rows nothing of it is touched: lent each time
+ * as it was left, it holds the list of the whole take. Changes, keyboard bytes and the meter are the plain calls over the record; a plain
+ * block or night goes on without the list, which then no longer says what was sung. */
+
+/* daxfolin_start, and the list begins; 17 after its own refusals where there is no room for a row, and then record and listing are as they
+ * were. After any other refusal the listing is empty, as the record is the default tuner. */
+daxfolin_list_answer daxfolin_list_start(daxfolin_record *record, daxfolin_listing *listing, uint32_t hertz, daxfolin_settings settings,
+                                         const uint32_t *store, size_t store_length);
+
+/* daxfolin_reset, and the list begins anew: 9, also where the listing is out of its ranges; then 17, and nothing is changed. */
+daxfolin_list_answer daxfolin_list_reset(daxfolin_record *record, daxfolin_listing *listing, const uint32_t *store, size_t store_length);
+
+/* daxfolin_block; of a block that is taken the list goes on with its samples. 9 also where the listing is out of its ranges. One that is
+ * given again or refused leaves listing and store. */
+daxfolin_list_answer daxfolin_list_block(daxfolin_record *record, daxfolin_listing *listing, uint16_t number, const int16_t *samples,
+                                         size_t samples_length, int16_t *out, size_t out_length, uint32_t *store, size_t store_length);
+
+/* daxfolin_night, likewise: the list goes on with the samples of the blocks that are taken. */
+daxfolin_list_night_answer daxfolin_list_night(daxfolin_record *record, daxfolin_listing *listing, uint16_t number, size_t size,
+                                               const int16_t *samples, size_t samples_length, int16_t *out, size_t out_length,
+                                               uint32_t *store, size_t store_length);
 
 /* What the meter shows: searching; or locking; or pitched; or refused, of a record that the other calls answer 9. */
 daxfolin_shown daxfolin_meter(const daxfolin_record *record);

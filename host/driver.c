@@ -1,23 +1,26 @@
 /* Makes the calls that standard input asks for, one after the other, and writes what each left: for a program that compares, and
  * cannot link the library itself. Every buffer stands between guards; a touched guard or sample in is an answer of its own.
  *
- * Asked:    call, number, two lengths, settings, two numbers for a cut (`asked`), then the record, the samples and the output as they
- *           are; bytes of the keyboard stand in the place of samples, the first length being theirs, a start's sample rate in that of
- *           a block's number, and the length of a night's blocks in that of the cut's recording.
- * Answered: number and counts, the meter, whether something else was touched, a stretch, a night's answer (`said`), then the record and
- *           the output. */
+ * Asked:    call, number, two lengths, settings, two numbers for a cut, a listing, a store's length (`asked`), then the record, the
+ *           samples, the output and the store as they are; bytes of the keyboard stand in the place of samples, the first length being
+ *           theirs, a start's sample rate in that of a block's number, and the length of a night's blocks in that of the cut's recording.
+ * Answered: number and counts, the meter, whether something else was touched, a stretch, a night's answer, a list's two counts, the
+ *           listing (`said`), then the record, the output and the store. */
 #include "daxfolin.h"
 #include <stdio.h>
 #include <stdlib.h>
 #include <string.h>
 
 enum { START, START_DEFAULT, CHANGE, BLOCK, RESET, METER, CUT, VERSION, MIDI, NIGHT };
-enum { GUARD = 64, MOST = 4096 };
+enum { LISTED = 16 }; /* more than the plain call, for one with a list */
+enum { GUARD = 64, MOST = 4096, MOST_NUMBERS = 3 * 4096 + 64 };
 
 struct asked {
     uint32_t call, number, samples_length, out_length;
     daxfolin_settings settings;
     uint64_t length, k;
+    daxfolin_listing listing;
+    uint64_t store_length;
 };
 
 struct said {
@@ -26,14 +29,22 @@ struct said {
     uint32_t touched;
     uint64_t from, count;
     daxfolin_night_answer night;
+    uint32_t rows, left;
+    daxfolin_listing listing;
 };
 
-/* The record and the two slices, each with guards before and behind. */
+/* The record, the listing and the slices, each with guards before and behind. */
 static struct {
     unsigned char before[GUARD];
     daxfolin_record record;
     unsigned char behind[GUARD];
 } lent;
+static struct {
+    unsigned char before[GUARD];
+    daxfolin_listing listing;
+    unsigned char behind[GUARD];
+} list;
+static uint32_t store[GUARD + MOST_NUMBERS + GUARD];
 static int16_t in[GUARD + MOST + GUARD], in_was[GUARD + MOST + GUARD], out[GUARD + MOST + GUARD];
 
 static const unsigned char FILL = 0xA5;
@@ -55,6 +66,13 @@ static int differs(const void *at, size_t size) {
 
 static void answer(struct said *said, daxfolin_answer a) {
     said->number = a.number, said->written = a.written, said->repeated = a.repeated, said->dropped = a.dropped;
+}
+
+static void night(struct said *said, daxfolin_night_answer a) { said->night = a, said->number = a.number; }
+
+static void list_answer(struct said *said, daxfolin_list_answer a) {
+    answer(said, a.answer);
+    said->rows = a.rows, said->left = a.left;
 }
 
 /* The header's names stand where the library writes: a tuner after a key and its first block. What is 0 there is put out of its range,
@@ -79,12 +97,15 @@ static int misnamed(void) {
     return daxfolin_meter(&t).state != DAXFOLIN_REFUSED;
 }
 
-/* The header's default settings are those of the start with the defaults. */
+/* The header's default settings are those of the start with the defaults, and its listing is that of a list that begins. */
 static int misdefaulted(void) {
-    static daxfolin_record by_default, by_hand;
+    static daxfolin_record by_default, by_hand, with_list;
     daxfolin_settings settings = DAXFOLIN_DEFAULTS;
+    daxfolin_listing empty = DAXFOLIN_NO_ROWS, listing;
+    uint32_t room[3];
     if (daxfolin_start_default(&by_default) || daxfolin_start(&by_hand, DAXFOLIN_CD, settings)) return 1;
-    return memcmp(&by_default, &by_hand, sizeof by_hand);
+    if (daxfolin_list_start(&with_list, &listing, DAXFOLIN_CD, settings, room, 3).answer.number) return 1;
+    return memcmp(&by_default, &by_hand, sizeof by_hand) || memcmp(&with_list, &by_hand, sizeof by_hand) || memcmp(&listing, &empty, sizeof empty);
 }
 
 int main(void) {
@@ -92,14 +113,18 @@ int main(void) {
     struct asked asked;
     while (fread(&asked, sizeof asked, 1, stdin) == 1) {
         struct said said = {0};
-        size_t samples_length = asked.samples_length, out_length = asked.out_length;
-        if (samples_length > MOST || out_length > MOST) return 2;
+        size_t samples_length = asked.samples_length, out_length = asked.out_length, store_length = asked.store_length;
+        if (samples_length > MOST || out_length > MOST || store_length > MOST_NUMBERS) return 2;
         memset(&lent, FILL, sizeof lent);
         memset(in, FILL, sizeof in);
         memset(out, FILL, sizeof out);
+        if (asked.call >= LISTED) memset(store, FILL, sizeof store);
+        memset(&list, FILL, sizeof list);
+        list.listing = asked.listing;
         get(&lent.record, sizeof lent.record);
         get(in + GUARD, asked.call == MIDI ? samples_length : 2 * samples_length);
         get(out + GUARD, 2 * out_length);
+        get(store + GUARD, 4 * store_length);
         memcpy(in_was, in, sizeof in);
         switch (asked.call) {
         case START: said.number = daxfolin_start(&lent.record, asked.number, asked.settings); break;
@@ -107,9 +132,21 @@ int main(void) {
         case CHANGE: said.number = daxfolin_change(&lent.record, asked.settings); break;
         case BLOCK: answer(&said, daxfolin_block(&lent.record, (uint16_t)asked.number, in + GUARD, samples_length, out + GUARD, out_length)); break;
         case NIGHT:
-            said.night = daxfolin_night(&lent.record, (uint16_t)asked.number, asked.length, in + GUARD, samples_length, out + GUARD, out_length);
-            said.number = said.night.number;
+            night(&said, daxfolin_night(&lent.record, (uint16_t)asked.number, asked.length, in + GUARD, samples_length, out + GUARD, out_length));
             break;
+        case LISTED + START:
+            list_answer(&said, daxfolin_list_start(&lent.record, &list.listing, asked.number, asked.settings, store + GUARD, store_length));
+            break;
+        case LISTED + RESET: list_answer(&said, daxfolin_list_reset(&lent.record, &list.listing, store + GUARD, store_length)); break;
+        case LISTED + BLOCK:
+            list_answer(&said, daxfolin_list_block(&lent.record, &list.listing, (uint16_t)asked.number, in + GUARD, samples_length, out + GUARD, out_length, store + GUARD, store_length));
+            break;
+        case LISTED + NIGHT: {
+            daxfolin_list_night_answer a = daxfolin_list_night(&lent.record, &list.listing, (uint16_t)asked.number, asked.length, in + GUARD, samples_length, out + GUARD, out_length, store + GUARD, store_length);
+            night(&said, a.night);
+            said.rows = a.rows, said.left = a.left;
+            break;
+        }
         case RESET: said.number = daxfolin_reset(&lent.record); break;
         case METER: said.shown = daxfolin_meter(&lent.record); break;
         case CUT: {
@@ -122,9 +159,15 @@ int main(void) {
         default: return 2;
         }
         said.touched = differs(lent.before, GUARD) || differs(lent.behind, GUARD) || memcmp(in, in_was, sizeof in) || differs(out, 2 * GUARD) || differs(out + GUARD + out_length, 2 * (MOST + GUARD - out_length));
+        said.touched |= differs(list.before, GUARD) || differs(list.behind, GUARD);
+        if (asked.call >= LISTED) {
+            said.touched |= differs(store, 4 * GUARD) || differs(store + GUARD + store_length, 4 * (MOST_NUMBERS + GUARD - store_length));
+            said.listing = list.listing;
+        }
         put(&said, sizeof said);
         put(&lent.record, sizeof lent.record);
         put(out + GUARD, 2 * out_length);
+        put(store + GUARD, 4 * store_length);
         fflush(stdout);
     }
     return 0;

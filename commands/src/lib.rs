@@ -2,18 +2,20 @@
 //! read. They only move bytes; every number of a file, and every refusal, is a
 //! proved call's.
 
+pub mod lines;
 pub mod options;
 
 use daxfolin::wave::{
-    Seek, FILE_TOO_LONG, FMT_WRONG, NOT_RIFF_WAVE, NO_DATA, NO_DATA_REACHED, NO_FMT, NO_GOOD_FMT,
-    RUNS_PAST,
+    self, Seek, Take, FILE_TOO_LONG, FMT_WRONG, NOT_RIFF_WAVE, NO_DATA, NO_DATA_REACHED, NO_FMT,
+    NO_GOOD_FMT, RUNS_PAST,
 };
 use daxfolin::{
-    DECAY_OUT_OF_RANGE, EPS_OUT_OF_RANGE, FLOOR_OUT_OF_RANGE, SCALE_OUT_OF_RANGE, TAKE_FULL,
+    DECAY_OUT_OF_RANGE, EPS_OUT_OF_RANGE, FLOOR_OUT_OF_RANGE, LONGEST_BLOCK, SCALE_OUT_OF_RANGE,
+    TAKEN, TAKE_FULL,
 };
 use std::ffi::{c_int, OsString};
 use std::fs::{self, File, Metadata};
-use std::io::{self, BufReader, ErrorKind, Read, Write};
+use std::io::{self, BufReader, ErrorKind, IsTerminal, Read, Write};
 use std::path::Path;
 use std::process::ExitCode;
 
@@ -58,8 +60,7 @@ pub fn finish(
     help: &str,
     run: impl FnOnce(Vec<OsString>) -> Result<(), End>,
 ) -> ExitCode {
-    // nothing is left to do where standard error takes nothing
-    let say = |what: &str| drop(writeln!(io::stderr(), "{program}: {what}"));
+    let say = |what: &str| say(program, what);
     let (status, said) = match run(std::env::args_os().skip(1).collect()) {
         Ok(()) => return ExitCode::SUCCESS,
         Err(End::Signal(number)) => end_by(number),
@@ -77,6 +78,11 @@ pub fn finish(
     };
     say(&said);
     ExitCode::from(status)
+}
+
+/// A line on standard error; nothing is left to do where that takes nothing.
+pub fn say(program: &str, what: &str) {
+    let _ = writeln!(io::stderr(), "{program}: {what}");
 }
 
 /// Text on standard output.
@@ -102,6 +108,21 @@ pub fn reason(error: &io::Error) -> String {
         .next()
         .unwrap_or_default()
         .to_string()
+}
+
+/// The seconds of so many samples, to thousandths.
+pub fn seconds(samples: u64, hertz: u32) -> String {
+    let hertz = u64::from(hertz);
+    let thousandths = (1000 * samples + hertz / 2) / hertz;
+    format!("{}.{:03}", thousandths / 1000, thousandths % 1000)
+}
+
+/// What a start said to the settings.
+pub fn started(number: u32) -> Result<(), End> {
+    match number {
+        TAKEN => Ok(()),
+        _ => Err(End::Refused("the settings".to_string(), number)),
+    }
 }
 
 /// A file and what failed with it.
@@ -162,6 +183,48 @@ impl<'a> Source<'a> {
         Ok(seek)
     }
 
+    /// The take in it, and the header of one as long; no take is too long to be tuned.
+    pub fn take(&self) -> Result<(Take, [u8; 44]), End> {
+        let refused = |number| self.refused(number);
+        let seek = self.walk(Seek::take(self.was.len()))?;
+        let take = seek.found().map_err(refused)?;
+        let header = wave::header(take.hertz, take.count).map_err(refused)?;
+        Ok((take, header))
+    }
+
+    /// A proved call refused it.
+    pub fn refused(&self, number: u32) -> End {
+        End::Refused(self.name.display().to_string(), number)
+    }
+
+    /// Gives every block of the take to a call, one after the other, each with its number, in the same few kilobytes.
+    pub fn blocks(
+        &self,
+        program: &'static str,
+        take: &Take,
+        mut call: impl FnMut(u16, &[i16]) -> Result<(), End>,
+    ) -> Result<(), End> {
+        let mut from = BufReader::with_capacity(WINDOW, &self.file);
+        io::Seek::seek(&mut from, io::SeekFrom::Start(take.at))
+            .map_err(|error| self.unread(&error))?;
+        let mut progress = Progress::of(program, take);
+        let (mut sung, mut bytes) = ([0; LONGEST_BLOCK], [0; 2 * LONGEST_BLOCK]);
+        let (mut number, mut left) = (0u16, take.count);
+        while left > 0 {
+            let count = left.min(LONGEST_BLOCK as u64) as usize;
+            let bytes = &mut bytes[..2 * count];
+            from.read_exact(bytes)
+                .map_err(|error| self.unread(&error))?;
+            wave::samples(bytes, &mut sung);
+            call(number, &sung[..count])?;
+            // numbers of blocks begin again after 65535
+            number = number.wrapping_add(1);
+            left -= count as u64;
+            progress.show(take.count - left);
+        }
+        Ok(())
+    }
+
     /// Why it was not read. Nothing past the length that it had is asked for, so where it ends early it became shorter.
     pub fn unread(&self, error: &io::Error) -> End {
         match error.kind() {
@@ -179,6 +242,43 @@ impl<'a> Source<'a> {
         match (is.len(), is.modified().ok()) == (self.was.len(), self.was.modified().ok()) {
             true => Ok(()),
             false => Err(no(self.name, "it was changed while it was read")),
+        }
+    }
+}
+
+/// How far a long take is, on a terminal.
+struct Progress {
+    program: &'static str,
+    samples: u64,
+    hundredths: u64,
+    shown: bool,
+}
+
+impl Progress {
+    fn of(program: &'static str, take: &Take) -> Progress {
+        let long = take.count > 60 * u64::from(take.hertz);
+        Progress {
+            program,
+            samples: take.count,
+            hundredths: 0,
+            shown: long && io::stderr().is_terminal(),
+        }
+    }
+
+    fn show(&mut self, done: u64) {
+        let hundredths = 100 * done / self.samples;
+        if self.shown && hundredths > self.hundredths {
+            self.hundredths = hundredths;
+            let _ = write!(io::stderr(), "\r{}: {hundredths} %", self.program);
+        }
+    }
+}
+
+/// What is said next has the line for itself.
+impl Drop for Progress {
+    fn drop(&mut self) {
+        if self.shown {
+            let _ = write!(io::stderr(), "\r\x1b[K");
         }
     }
 }

@@ -1,6 +1,7 @@
 //! The words of a command: options before, between or behind its files; and scales in musicians' words.
 
 use crate::End;
+use daxfolin::Settings;
 use std::ffi::OsString;
 
 /// The words of a command, in their order.
@@ -99,6 +100,28 @@ impl Words {
     }
 }
 
+/// The options for the settings, each with a value behind it.
+pub const SETTINGS: [&str; 4] = ["--scale", "--eps", "--decay", "--floor"];
+
+/// The settings that the options say, for a start to judge; the default where one is not given.
+pub fn settings(words: &Words) -> Result<Settings, End> {
+    let unless = Settings::default();
+    let scale = match words.value("--scale") {
+        None => unless.scale,
+        Some(text) => scale(text).ok_or_else(|| {
+            let notes = "notes like C,D,E, a scale like A-minor, chromatic, or a number";
+            End::Usage(format!("--scale is {notes}, not '{text}'"))
+        })?,
+    };
+    Ok(Settings {
+        scale,
+        eps: words.number("--eps", unless.eps)?,
+        decay: words.number("--decay", unless.decay)?,
+        floor: words.number("--floor", unless.floor)?,
+        ..unless
+    })
+}
+
 fn usage<T>(why: String) -> Result<T, End> {
     Err(End::Usage(why))
 }
@@ -149,7 +172,7 @@ const SCALES: [(&str, &[u32]); 5] = [
 ];
 
 /// A scale as the mask that a start takes: bit 0 is C. A number is handed on as it is, for the start to judge.
-pub fn scale(text: &str) -> Option<u32> {
+fn scale(text: &str) -> Option<u32> {
     if let Some(number) = whole(text) {
         return Some(number);
     }
@@ -169,6 +192,15 @@ pub fn scale(text: &str) -> Option<u32> {
     lower
         .split(',')
         .try_fold(0, |mask, name| Some(mask | 1 << note(name.trim())?))
+}
+
+/// The name of a note, 0 to 127, with its octave: 60 is C4. Sharps, no flats.
+pub fn name(note: u32) -> String {
+    const NAMES: [&str; 12] = [
+        "C", "C#", "D", "D#", "E", "F", "F#", "G", "G#", "A", "A#", "B",
+    ];
+    let octave = i64::from(note / 12) - 1;
+    format!("{}{octave}", NAMES[(note % 12) as usize])
 }
 
 /// A note's number in its octave, C 0 to B 11, by its name in small letters: a letter, and a sharp or a flat behind it.
@@ -379,6 +411,29 @@ mod tests {
             ("12a", None),
         ] {
             assert_eq!(scale(text), mask, "{text}");
+        }
+    }
+
+    #[test]
+    fn names_of_notes() {
+        for (note, right) in [
+            (60, "C4"),
+            (61, "C#4"),
+            (69, "A4"),
+            (59, "B3"),
+            (32, "G#1"),
+            (102, "F#7"),
+            (12, "C0"),
+            (11, "B-1"),
+            (0, "C-1"),
+            (127, "G9"),
+        ] {
+            assert_eq!(name(note), right);
+        }
+        // What is named so is wanted by a scale of that name.
+        for at in 60..72 {
+            let name = name(at).to_lowercase();
+            assert_eq!(note(name.trim_end_matches('4')), Some(at % 12));
         }
     }
 

@@ -1,12 +1,14 @@
 //! `./tune IN.wav OUT.wav`: a take through the tuner, block after block.
 
-use commands::options::{scale, Words};
-use commands::{failed, finish, limits_are_errors, no, on, print, End, Source, WINDOW};
-use daxfolin::wave::{self, Seek, Take};
-use daxfolin::{Meter, Record, Settings, LONGEST_BLOCK, TAKEN};
+use commands::options::{settings, Words, SETTINGS};
+use commands::{
+    failed, finish, limits_are_errors, no, on, print, seconds, started, End, Source, WINDOW,
+};
+use daxfolin::wave::{self, Take};
+use daxfolin::{Meter, Record, LONGEST_BLOCK, TAKEN};
 use std::ffi::{c_int, OsString};
 use std::fs::{self, File};
-use std::io::{self, BufReader, BufWriter, ErrorKind, IsTerminal, Read, Write};
+use std::io::{self, BufWriter, ErrorKind, Write};
 use std::os::unix::ffi::OsStrExt;
 use std::os::unix::fs::MetadataExt;
 use std::path::{Path, PathBuf};
@@ -20,8 +22,7 @@ fn main() -> ExitCode {
 }
 
 fn run(words: Vec<OsString>) -> Result<(), End> {
-    let valued = ["--scale", "--eps", "--decay", "--floor"];
-    let words = Words::part(words, &valued, &["-f", "--help", "--version"], HELP)?;
+    let words = Words::part(words, &SETTINGS, &["-f", "--help", "--version"], HELP)?;
     if words.has("--help") {
         return print(HELP);
     }
@@ -32,14 +33,9 @@ fn run(words: Vec<OsString>) -> Result<(), End> {
     let [name, out] = words.files(["IN.wav", "OUT.wav"])?.map(Path::new);
 
     let source = Source::open(name, |name| File::open(name))?;
-    let refused = |number| End::Refused(name.display().to_string(), number);
-    let seek = source.walk(Seek::take(source.was.len()))?;
-    let take = seek.found().map_err(refused)?;
-    let header = wave::header(take.hertz, take.count).map_err(refused)?;
+    let (take, header) = source.take()?;
     let (number, tuner) = Record::start(take.hertz, settings);
-    if number != TAKEN {
-        return Err(End::Refused("the settings".to_string(), number));
-    }
+    started(number)?;
 
     let place = place(out, &source, words.has("-f"))?;
     for number in ENDS {
@@ -57,24 +53,6 @@ fn run(words: Vec<OsString>) -> Result<(), End> {
     print(&tuned.line(&take))
 }
 
-fn settings(words: &Words) -> Result<Settings, End> {
-    let unless = Settings::default();
-    let scale = match words.value("--scale") {
-        None => unless.scale,
-        Some(text) => scale(text).ok_or_else(|| {
-            let notes = "notes like C,D,E, a scale like A-minor, chromatic, or a number";
-            End::Usage(format!("--scale is {notes}, not '{text}'"))
-        })?,
-    };
-    Ok(Settings {
-        scale,
-        eps: words.number("--eps", unless.eps)?,
-        decay: words.number("--decay", unless.decay)?,
-        floor: words.number("--floor", unless.floor)?,
-        ..unless
-    })
-}
-
 // ---- the take
 
 /// What was done to a take.
@@ -89,8 +67,6 @@ struct Tuned {
 
 impl Tuned {
     fn line(&self, take: &Take) -> String {
-        let hertz = u64::from(take.hertz);
-        let thousandths = (1000 * take.count + hertz / 2) / hertz;
         let share = match self.blocks {
             0 => String::new(),
             blocks => {
@@ -99,10 +75,9 @@ impl Tuned {
             }
         };
         format!(
-            "{} samples, {}.{:03} s, {} cycles repeated, {} dropped, pitched after {} of {} blocks{share}\n",
+            "{} samples, {} s, {} cycles repeated, {} dropped, pitched after {} of {} blocks{share}\n",
             take.count,
-            thousandths / 1000,
-            thousandths % 1000,
+            seconds(take.count, take.hertz),
             self.repeated,
             self.dropped,
             self.pitched,
@@ -111,7 +86,7 @@ impl Tuned {
     }
 }
 
-/// Every block of the take through the tuner, one after the other, in the same few kilobytes.
+/// Every block of the take through the tuner, one after the other.
 fn tune(
     source: &Source,
     take: &Take,
@@ -119,74 +94,24 @@ fn tune(
     out: &Path,
     part: &mut Part,
 ) -> Result<Tuned, End> {
-    let mut from = BufReader::with_capacity(WINDOW, &source.file);
-    io::Seek::seek(&mut from, io::SeekFrom::Start(take.at))
-        .map_err(|error| source.unread(&error))?;
-    let mut progress = Progress::of(take);
-    let (mut sung, mut tuned) = ([0; LONGEST_BLOCK], [0; LONGEST_BLOCK]);
-    let mut bytes = [0; 2 * LONGEST_BLOCK];
+    let (mut tuned, mut bytes) = ([0; LONGEST_BLOCK], [0; 2 * LONGEST_BLOCK]);
     let mut sums = Tuned::default();
-    let mut left = take.count;
-    while left > 0 {
+    source.blocks("tune", take, |number, sung| {
         ended()?;
-        let count = left.min(LONGEST_BLOCK as u64) as usize;
-        let bytes = &mut bytes[..2 * count];
-        from.read_exact(bytes)
-            .map_err(|error| source.unread(&error))?;
-        wave::samples(bytes, &mut sung);
-        // numbers of blocks begin again after 65535
-        let answer = tuner.block(sums.blocks as u16, &sung[..count], &mut tuned);
+        let answer = tuner.block(number, sung, &mut tuned);
         if answer.number != TAKEN {
-            return Err(End::Refused(
-                source.name.display().to_string(),
-                answer.number,
-            ));
+            return Err(source.refused(answer.number));
         }
-        wave::bytes(&tuned[..count], bytes);
+        let bytes = &mut bytes[..2 * sung.len()];
+        wave::bytes(&tuned[..sung.len()], bytes);
         part.write(bytes).map_err(|error| failed(out, &error))?;
         sums.blocks += 1;
         sums.repeated += u64::from(answer.repeated);
         sums.dropped += u64::from(answer.dropped);
         sums.pitched += u64::from(matches!(tuner.meter(), Meter::Pitched { .. }));
-        left -= count as u64;
-        progress.show(take.count - left);
-    }
+        Ok(())
+    })?;
     Ok(sums)
-}
-
-/// How far a long take is, on a terminal.
-struct Progress {
-    samples: u64,
-    hundredths: u64,
-    shown: bool,
-}
-
-impl Progress {
-    fn of(take: &Take) -> Progress {
-        let long = take.count > 60 * u64::from(take.hertz);
-        Progress {
-            samples: take.count,
-            hundredths: 0,
-            shown: long && io::stderr().is_terminal(),
-        }
-    }
-
-    fn show(&mut self, done: u64) {
-        let hundredths = 100 * done / self.samples;
-        if self.shown && hundredths > self.hundredths {
-            self.hundredths = hundredths;
-            let _ = write!(io::stderr(), "\rtune: {hundredths} %");
-        }
-    }
-}
-
-/// What is said next has the line for itself.
-impl Drop for Progress {
-    fn drop(&mut self) {
-        if self.shown {
-            let _ = write!(io::stderr(), "\r\x1b[K");
-        }
-    }
 }
 
 // ---- OUT

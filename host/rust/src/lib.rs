@@ -25,13 +25,18 @@ use std::mem::offset_of;
 pub mod wave;
 
 /// The version of the calls.
-pub const VERSION: u32 = 9;
+pub const VERSION: u32 = 10;
 /// The number of the record's layout, which stands first in it.
 pub const LAYOUT: u64 = 20_006;
 /// The most samples of a block.
 pub const LONGEST_BLOCK: usize = 512;
 /// The most samples of a take.
 pub const LONGEST_TAKE: u32 = 1_000_000_000;
+
+/// The most rows of a list.
+pub const MOST_ROWS: usize = 4096;
+/// The numbers of a row: note, first sample, length.
+pub const ROW: usize = 3;
 
 /// A sample rate, in samples a second: the one that the default start has.
 pub const CD: u32 = 44_100;
@@ -72,6 +77,9 @@ pub const CHANNEL_OUT_OF_RANGE: u32 = 14;
 pub const MODE_UNKNOWN: u32 = 15;
 /// The sample rate is neither [`CD`] nor [`FILM`]. A start alone is answered this, before its settings are looked at.
 pub const RATE_UNKNOWN: u32 = 16;
+/// The store has under three numbers, and so no room for one row. A start and a reset that lend a store are answered this, after all
+/// others, and nothing is changed.
+pub const STORE_WITHOUT_ROOM: u32 = 17;
 
 /// A mode: the nearest note of the scale is wanted.
 pub const SCALE_MODE: u32 = 0;
@@ -142,6 +150,56 @@ pub struct NightAnswer {
     pub again: Answer,
 }
 
+/// What a host keeps of the list of the notes sung, beside its record: any numbers are a listing, and one that is out of its ranges is
+/// answered 9 by the calls that take it. The default one is where a list begins.
+#[repr(C)]
+#[derive(Clone, Copy, Debug, PartialEq, Eq)]
+pub struct Listing {
+    /// Rows so far, up to 4096.
+    pub rows: u32,
+    /// Rows left out; both together are no more than the take has samples.
+    pub left: u32,
+    /// Of the run that began last the place of its row, counted from 0; 4096: it has none.
+    pub place: u32,
+    /// And its first sample, up to the take's count.
+    pub first: u32,
+}
+
+impl Default for Listing {
+    fn default() -> Listing {
+        Listing {
+            rows: 0,
+            left: 0,
+            place: MOST_ROWS as u32,
+            first: 0,
+        }
+    }
+}
+
+/// The answer to a start, a reset or a block with a list.
+#[repr(C)]
+#[derive(Clone, Copy, Debug, PartialEq, Eq)]
+pub struct ListAnswer {
+    /// The plain call's.
+    pub answer: Answer,
+    /// Rows of the listing then held.
+    pub rows: u32,
+    /// Rows left out.
+    pub left: u32,
+}
+
+/// The answer to a night with a list.
+#[repr(C)]
+#[derive(Clone, Copy, Debug, PartialEq, Eq)]
+pub struct ListNightAnswer {
+    /// The plain call's.
+    pub night: NightAnswer,
+    /// Rows of the listing then held.
+    pub rows: u32,
+    /// Rows left out.
+    pub left: u32,
+}
+
 /// What the meter shows, in samples; the rate is a ratio.
 #[derive(Clone, Copy, Debug, PartialEq)]
 pub enum Meter {
@@ -168,7 +226,7 @@ pub struct Record {
 
 /// The calls of the archive. A record is `struct daxfolin_record` of `host/daxfolin.h`.
 mod archive {
-    use super::{Answer, NightAnswer, Record, Settings};
+    use super::{Answer, ListAnswer, ListNightAnswer, Listing, NightAnswer, Record, Settings};
 
     #[repr(C)]
     pub struct Shown {
@@ -208,6 +266,43 @@ mod archive {
             out: *mut i16,
             out_length: usize,
         ) -> NightAnswer;
+        pub fn daxfolin_list_start(
+            record: *mut Record,
+            listing: *mut Listing,
+            hertz: u32,
+            settings: Settings,
+            store: *const u32,
+            store_length: usize,
+        ) -> ListAnswer;
+        pub fn daxfolin_list_reset(
+            record: *mut Record,
+            listing: *mut Listing,
+            store: *const u32,
+            store_length: usize,
+        ) -> ListAnswer;
+        pub fn daxfolin_list_block(
+            record: *mut Record,
+            listing: *mut Listing,
+            number: u16,
+            samples: *const i16,
+            samples_length: usize,
+            out: *mut i16,
+            out_length: usize,
+            store: *mut u32,
+            store_length: usize,
+        ) -> ListAnswer;
+        pub fn daxfolin_list_night(
+            record: *mut Record,
+            listing: *mut Listing,
+            number: u16,
+            size: usize,
+            samples: *const i16,
+            samples_length: usize,
+            out: *mut i16,
+            out_length: usize,
+            store: *mut u32,
+            store_length: usize,
+        ) -> ListNightAnswer;
         pub fn daxfolin_reset(record: *mut Record) -> u32;
         pub fn daxfolin_meter(record: *const Record) -> Shown;
         pub fn daxfolin_cut(length: usize, k: usize) -> Stretch;
@@ -218,6 +313,8 @@ const _: () = {
     assert!(size_of::<Record>() == 6976 && align_of::<Record>() == 8);
     assert!(size_of::<Settings>() == 24 && size_of::<Answer>() == 12);
     assert!(size_of::<NightAnswer>() == 56 && offset_of!(NightAnswer, again) == 40);
+    assert!(size_of::<Listing>() == 16 && size_of::<ListAnswer>() == 20);
+    assert!(size_of::<ListNightAnswer>() == 64 && offset_of!(ListNightAnswer, rows) == 56);
     assert!(size_of::<archive::Shown>() == 20 && size_of::<archive::Stretch>() == 16);
 };
 
@@ -335,6 +432,99 @@ impl Record {
     pub fn reset(&mut self) -> u32 {
         // SAFETY: the record is a reference's, and may hold any bytes.
         unsafe { archive::daxfolin_reset(self) }
+    }
+
+    /// [`Record::start`] over this record, whatever it holds, and the list of the notes sung begins. 17 after the start's own refusals
+    /// where the store has no room for a row, and then record and listing are as they were; after any other refusal the record is the
+    /// default tuner and the listing empty.
+    ///
+    /// The calls with a list lend a store for rows of three numbers: note (0 to 127), first sample of the take (from 0) and length, one
+    /// for each longest run of samples with the same wanted note. A run that begins where the store then lent has no place for its row
+    /// is left out, and counted. The store is written, never read, and past the rows nothing of it is touched: lent each time as it was
+    /// left, it holds the list of the whole take.
+    ///
+    /// ```no_run
+    /// use daxfolin::{Listing, Record, Settings, CD, MOST_ROWS, ROW, TAKEN};
+    /// let (mut tuner, mut list) = (Record::default(), Listing::default());
+    /// let mut store = [0u32; ROW * MOST_ROWS];
+    /// let answer = tuner.list_start(&mut list, CD, Settings::default(), &store);
+    /// assert_eq!(answer.answer.number, TAKEN);
+    /// let (sung, mut tuned) = ([0i16; 1000], [0i16; 1000]);
+    /// let answer = tuner.list_night(&mut list, 0, 512, &sung, &mut tuned, &mut store);
+    /// for row in store.chunks_exact(ROW).take(answer.rows as usize) {
+    ///     println!("note {} from sample {} on, {} samples", row[0], row[1], row[2]);
+    /// }
+    /// ```
+    pub fn list_start(
+        &mut self,
+        list: &mut Listing,
+        hertz: u32,
+        settings: Settings,
+        store: &[u32],
+    ) -> ListAnswer {
+        // SAFETY: record, listing and store are references', so that they don't overlap, and the length is the store's own.
+        unsafe {
+            archive::daxfolin_list_start(self, list, hertz, settings, store.as_ptr(), store.len())
+        }
+    }
+
+    /// [`Record::reset`], and the list begins anew: 9, also where the listing is out of its ranges; then 17, and nothing is changed.
+    pub fn list_reset(&mut self, list: &mut Listing, store: &[u32]) -> ListAnswer {
+        // SAFETY: record, listing and store are references', so that they don't overlap, and the length is the store's own.
+        unsafe { archive::daxfolin_list_reset(self, list, store.as_ptr(), store.len()) }
+    }
+
+    /// [`Record::block`]; of a block that is taken the list goes on with its samples. 9 also where the listing is out of its ranges. One
+    /// that is given again or refused leaves listing and store.
+    pub fn list_block(
+        &mut self,
+        list: &mut Listing,
+        number: u16,
+        samples: &[i16],
+        out: &mut [i16],
+        store: &mut [u32],
+    ) -> ListAnswer {
+        // SAFETY: record, listing and slices are references', so that they don't overlap, and the lengths are the slices' own.
+        unsafe {
+            archive::daxfolin_list_block(
+                self,
+                list,
+                number,
+                samples.as_ptr(),
+                samples.len(),
+                out.as_mut_ptr(),
+                out.len(),
+                store.as_mut_ptr(),
+                store.len(),
+            )
+        }
+    }
+
+    /// [`Record::night`], likewise: the list goes on with the samples of the blocks that are taken.
+    pub fn list_night(
+        &mut self,
+        list: &mut Listing,
+        first: u16,
+        size: usize,
+        samples: &[i16],
+        out: &mut [i16],
+        store: &mut [u32],
+    ) -> ListNightAnswer {
+        // SAFETY: record, listing and slices are references', so that they don't overlap, and the lengths are the slices' own.
+        unsafe {
+            archive::daxfolin_list_night(
+                self,
+                list,
+                first,
+                size,
+                samples.as_ptr(),
+                samples.len(),
+                out.as_mut_ptr(),
+                out.len(),
+                store.as_mut_ptr(),
+                store.len(),
+            )
+        }
     }
 
     pub fn meter(&self) -> Meter {

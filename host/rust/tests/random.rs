@@ -5,20 +5,46 @@
 #![cfg(target_arch = "x86_64")]
 
 use daxfolin::{
-    cut, Answer, Meter, NightAnswer, Record, Settings, CD, CHANNEL_OUT_OF_RANGE,
+    cut, Answer, Listing, Meter, NightAnswer, Record, Settings, CD, CHANNEL_OUT_OF_RANGE,
     DECAY_OUT_OF_RANGE, EPS_OUT_OF_RANGE, FILM, FLOOR_OUT_OF_RANGE, KEYBOARD_MODE, LAYOUT,
     MODE_UNKNOWN, RATE_UNKNOWN, RECORD_OUT_OF_RANGE, SCALE_OUT_OF_RANGE, TAKEN,
 };
 use independent::generator::cases::Cases;
 use independent::generator::edges::fresh_of_version_2;
 use independent::record::{made, Call, Left};
+use std::fmt::Debug;
 
 const GUARD: usize = 64;
 const FILL: i16 = -23_131;
+const NUMBER: u32 = 0xA5A5_A5A5;
 
-/// The samples between guards.
-fn guarded(samples: &[i16]) -> Vec<i16> {
-    [&[FILL; GUARD], samples, &[FILL; GUARD]].concat()
+/// What is lent, between guards.
+fn guarded<T: Copy>(lent: &[T], fill: T) -> Vec<T> {
+    [&[fill; GUARD], lent, &[fill; GUARD]].concat()
+}
+
+/// What a call says over what is lent to it between guards; and that as it was left.
+fn over<T, R>(lent: &[T], fill: T, call: impl FnOnce(&mut [T]) -> R) -> (R, Vec<T>)
+where
+    T: Copy + Debug + PartialEq,
+{
+    let mut room = guarded(lent, fill);
+    let part = &mut room[GUARD..GUARD + lent.len()];
+    let said = call(part);
+    let left = part.to_vec();
+    assert_eq!(room, guarded(&left, fill), "the guards were touched");
+    (said, left)
+}
+
+/// The same over samples, which are as they were, and an output.
+fn played<R>(
+    samples: &[i16],
+    out: &[i16],
+    call: impl FnOnce(&[i16], &mut [i16]) -> R,
+) -> (R, Vec<i16>) {
+    let (said, sent) = over(samples, FILL, |sung| over(out, FILL, |out| call(sung, out)));
+    assert_eq!(sent, samples, "the samples in were touched");
+    said
 }
 
 fn settings(of: &independent::settings::Settings) -> Settings {
@@ -30,6 +56,17 @@ fn settings(of: &independent::settings::Settings) -> Settings {
         mode: of.mode,
         channel: of.channel,
     }
+}
+
+fn answer(left: &mut Left, of: Answer) {
+    (left.number, left.counts) = (of.number, [of.written, of.repeated, of.dropped]);
+}
+
+fn night(left: &mut Left, of: NightAnswer) {
+    let again = of.again;
+    (left.number, left.refused) = (of.number, of.refused);
+    left.sums = [of.taken, of.written, of.repeated, of.dropped];
+    left.again = (again.number, [again.written, again.repeated, again.dropped]);
 }
 
 fn left_by(record: &mut Record, call: &Call) -> Left {
@@ -45,22 +82,9 @@ fn left_by(record: &mut Record, call: &Call) -> Left {
             samples,
             out,
         } => {
-            let (sent, mut room) = (guarded(samples), guarded(out));
-            let part = &mut room[GUARD..GUARD + out.len()];
-            let Answer {
-                number,
-                written,
-                repeated,
-                dropped,
-            } = record.block(*number, &sent[GUARD..GUARD + samples.len()], part);
-            left.out = part.to_vec();
-            (left.number, left.counts) = (number, [written, repeated, dropped]);
-            assert_eq!(sent, guarded(samples), "the samples in were touched");
-            assert_eq!(
-                room,
-                guarded(&left.out),
-                "past the output something was touched"
-            );
+            let said;
+            (said, left.out) = played(samples, out, |sung, out| record.block(*number, sung, out));
+            answer(&mut left, said);
         }
         Call::Night {
             first,
@@ -68,28 +92,11 @@ fn left_by(record: &mut Record, call: &Call) -> Left {
             samples,
             out,
         } => {
-            let (sent, mut room) = (guarded(samples), guarded(out));
-            let part = &mut room[GUARD..GUARD + out.len()];
-            let sung = &sent[GUARD..GUARD + samples.len()];
-            let NightAnswer {
-                number,
-                refused,
-                taken,
-                written,
-                repeated,
-                dropped,
-                again,
-            } = record.night(*first, *size as usize, sung, part);
-            left.out = part.to_vec();
-            (left.number, left.refused) = (number, refused);
-            left.sums = [taken, written, repeated, dropped];
-            left.again = (again.number, [again.written, again.repeated, again.dropped]);
-            assert_eq!(sent, guarded(samples), "the samples in were touched");
-            assert_eq!(
-                room,
-                guarded(&left.out),
-                "past the output something was touched"
-            );
+            let said;
+            (said, left.out) = played(samples, out, |sung, out| {
+                record.night(*first, *size as usize, sung, out)
+            });
+            night(&mut left, said);
         }
         Call::Meter => match record.meter() {
             Meter::Searching => {}
@@ -102,9 +109,68 @@ fn left_by(record: &mut Record, call: &Call) -> Left {
             Meter::Refused => left.state = 9,
         },
         Call::Cut(..) => unreachable!("a recording has no such length"),
+        Call::Listed {
+            listing,
+            store,
+            call,
+        } => {
+            let [rows, missing, place, first] = listing.words();
+            let mut list = Listing {
+                rows,
+                left: missing,
+                place,
+                first,
+            };
+            (_, left.store) = over(store, NUMBER, |store| {
+                listed(record, &mut list, store, call, &mut left)
+            });
+            left.listing = [list.rows, list.left, list.place, list.first];
+        }
     }
     left.record = record.to_bytes().to_vec();
     left
+}
+
+/// A call with a list, what it answers and the output that it leaves.
+fn listed(
+    record: &mut Record,
+    list: &mut Listing,
+    store: &mut [u32],
+    call: &Call,
+    left: &mut Left,
+) {
+    let said = match call {
+        Call::Start(hertz, with) => record.list_start(list, *hertz, settings(with), store),
+        Call::Reset => record.list_reset(list, store),
+        Call::Block {
+            number,
+            samples,
+            out,
+        } => {
+            let said;
+            (said, left.out) = played(samples, out, |sung, out| {
+                record.list_block(list, *number, sung, out, store)
+            });
+            said
+        }
+        Call::Night {
+            first,
+            size,
+            samples,
+            out,
+        } => {
+            let said;
+            (said, left.out) = played(samples, out, |sung, out| {
+                record.list_night(list, *first, *size as usize, sung, out, store)
+            });
+            night(left, said.night);
+            left.list = [said.rows, said.left];
+            return;
+        }
+        _ => unreachable!("a list has none of the other calls"),
+    };
+    answer(left, said.answer);
+    left.list = [said.rows, said.left];
 }
 
 #[test]
@@ -153,6 +219,13 @@ fn is_of_another_layout(bytes: &[u8; Record::SIZE]) {
     assert_eq!(record.midi(&[]), RECORD_OUT_OF_RANGE);
     assert_eq!(record.midi(&[144, 60, 100]), RECORD_OUT_OF_RANGE);
     assert_eq!(record.reset(), RECORD_OUT_OF_RANGE);
+    let (mut list, mut store) = (Listing::default(), [7; 3]);
+    let with_list = record.list_block(&mut list, 0, &[1, 2, 3], &mut out, &mut store);
+    assert_eq!((with_list.answer, out), (refused, [FILL; 8]));
+    assert_eq!(record.list_reset(&mut list, &store).answer, refused);
+    let night = record.list_night(&mut list, 0, 0, &[1, 2, 3], &mut out, &mut store);
+    assert_eq!((night.night.number, out), (RECORD_OUT_OF_RANGE, [FILL; 8]));
+    assert_eq!((list, store), (Listing::default(), [7; 3]));
     assert_eq!(record.meter(), Meter::Refused);
     assert!(&record.to_bytes() == bytes, "the record was touched");
     assert_eq!(Record::start_default(), (TAKEN, Record::default()));

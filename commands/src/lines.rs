@@ -1,0 +1,301 @@
+//! The line program's input, for the list of the notes sung: lines are read here, by the rules of documents 01 and 02, and what they ask
+//! for are proved calls. Lines that cannot be read and calls that are refused change nothing.
+
+use daxfolin::{Listing, Record, Settings, CD, LONGEST_BLOCK, MOST_ROWS, ROW, SCALE_MODE, TAKEN};
+use std::io::{self, BufRead};
+
+/// The most bytes of a line before its end.
+const LONGEST: usize = 8192;
+
+/// Gives every line of an input to a call, without its end, which the last one may lack. Of a line that is too long no more is kept than
+/// shows that.
+pub fn each<E>(
+    mut input: impl BufRead,
+    failed: impl Fn(io::Error) -> E,
+    mut call: impl FnMut(&[u8]) -> Result<(), E>,
+) -> Result<(), E> {
+    let mut line = Vec::new();
+    loop {
+        let come = match input.fill_buf() {
+            Err(error) if error.kind() == io::ErrorKind::Interrupted => continue,
+            come => come.map_err(&failed)?,
+        };
+        if come.is_empty() {
+            break;
+        }
+        let end = come.iter().position(|&byte| byte == b'\n');
+        let part = &come[..end.unwrap_or(come.len())];
+        let room = LONGEST + 1 - line.len();
+        line.extend_from_slice(&part[..part.len().min(room)]);
+        let used = part.len() + usize::from(end.is_some());
+        input.consume(used);
+        if end.is_some() {
+            call(&line)?;
+            line.clear();
+        }
+    }
+    match line.is_empty() {
+        true => Ok(()),
+        false => call(&line),
+    }
+}
+
+/// What a line asks for.
+#[derive(Debug, PartialEq)]
+enum Asked {
+    /// Scale, eps, decay and floor, and the sample rate.
+    Start([u32; 4], u32),
+    Change([u32; 4]),
+    Mode(u32),
+    Channel(u32),
+    Midi(Vec<u8>),
+    Block(u16, Vec<i16>),
+    Reset,
+}
+
+/// None of a line that cannot be read.
+fn asked(line: &[u8]) -> Option<Asked> {
+    if line.len() > LONGEST {
+        return None;
+    }
+    let mut fields = line.split(|&byte| byte == b'\t');
+    let word = fields.next()?;
+    let fields: Vec<&[u8]> = fields.collect();
+    let numbers = || fields.iter().map(|field| number(field));
+    match (word, fields.len()) {
+        (b"start" | b"change", 4) | (b"start", 5) => {
+            let numbers = numbers().collect::<Option<Vec<u32>>>()?;
+            let settings = [numbers[0], numbers[1], numbers[2], numbers[3]];
+            Some(match word {
+                b"start" => Asked::Start(settings, *numbers.get(4).unwrap_or(&CD)),
+                _ => Asked::Change(settings),
+            })
+        }
+        (b"mode", 1) => Some(Asked::Mode(number(fields[0])?)),
+        (b"channel", 1) => Some(Asked::Channel(number(fields[0])?)),
+        (b"midi", 1..) => {
+            let bytes = numbers().map(|number| u8::try_from(number?).ok());
+            Some(Asked::Midi(bytes.collect::<Option<_>>()?))
+        }
+        (b"block", 1..) => {
+            let place = u16::try_from(number(fields[0])?).ok()?;
+            let samples = fields[1..].iter().map(|field| sample(field));
+            Some(Asked::Block(place, samples.collect::<Option<_>>()?))
+        }
+        (b"reset", 0) => Some(Asked::Reset),
+        _ => None,
+    }
+}
+
+/// Digits, at least one, with zeros before them or without.
+fn number(field: &[u8]) -> Option<u32> {
+    let text = std::str::from_utf8(field).ok()?;
+    let digits = text.bytes().all(|byte| byte.is_ascii_digit());
+    match digits && !text.is_empty() {
+        true => format!("0{}", text.trim_start_matches('0')).parse().ok(),
+        false => None,
+    }
+}
+
+/// A minus may stand before the digits of a sample.
+fn sample(field: &[u8]) -> Option<i16> {
+    let (sign, digits) = match field {
+        [b'-', digits @ ..] => (-1, digits),
+        digits => (1, digits),
+    };
+    i16::try_from(sign * i64::from(number(digits)?)).ok()
+}
+
+/// A tuner that takes lines, and the list of its take.
+pub struct Takes {
+    tuner: Record,
+    settings: Settings,
+    listing: Listing,
+    store: Vec<u32>,
+}
+
+/// The program opens with the default settings.
+impl Default for Takes {
+    fn default() -> Takes {
+        Takes {
+            tuner: Record::default(),
+            settings: Settings::default(),
+            listing: Listing::default(),
+            store: vec![0; ROW * MOST_ROWS],
+        }
+    }
+}
+
+impl Takes {
+    /// Takes a line. Where it begins another take, the rows of the one that ended.
+    pub fn line(&mut self, line: &[u8]) -> Option<String> {
+        match asked(line)? {
+            Asked::Start(settings, hertz) => self.start(settings, hertz),
+            Asked::Reset => {
+                let rows = self.rows();
+                let answer = self.tuner.list_reset(&mut self.listing, &self.store);
+                (answer.answer.number == TAKEN).then_some(rows)
+            }
+            Asked::Block(number, samples) => {
+                let (out, store) = (&mut [0; LONGEST_BLOCK], &mut self.store);
+                self.tuner
+                    .list_block(&mut self.listing, number, &samples, out, store);
+                None
+            }
+            Asked::Midi(bytes) => {
+                self.tuner.midi(&bytes);
+                None
+            }
+            Asked::Change([scale, eps, decay, floor]) => self.change(Settings {
+                scale,
+                eps,
+                decay,
+                floor,
+                ..self.settings
+            }),
+            Asked::Mode(mode) => self.change(Settings {
+                mode,
+                ..self.settings
+            }),
+            Asked::Channel(channel) => self.change(Settings {
+                channel,
+                ..self.settings
+            }),
+        }
+    }
+
+    /// A start that is refused leaves the old tuner, as the line program does.
+    fn start(&mut self, [scale, eps, decay, floor]: [u32; 4], hertz: u32) -> Option<String> {
+        let settings = Settings {
+            scale,
+            eps,
+            decay,
+            floor,
+            mode: SCALE_MODE,
+            channel: 0,
+        };
+        let (mut tuner, mut listing) = (Record::default(), Listing::default());
+        let answer = tuner.list_start(&mut listing, hertz, settings, &self.store);
+        if answer.answer.number != TAKEN {
+            return None;
+        }
+        let rows = self.rows();
+        (self.tuner, self.settings, self.listing) = (tuner, settings, listing);
+        Some(rows)
+    }
+
+    fn change(&mut self, settings: Settings) -> Option<String> {
+        if self.tuner.change(settings) == TAKEN {
+            self.settings = settings;
+        }
+        None
+    }
+
+    /// The rows of the take so far, a line each, and a line that counts them.
+    pub fn rows(&self) -> String {
+        let Listing { rows, left, .. } = self.listing;
+        let mut text = String::new();
+        for row in self.store.chunks_exact(ROW).take(rows as usize) {
+            text += &format!("{}\t{}\t{}\n", row[0], row[1], row[2]);
+        }
+        text + &format!("end\t{rows}\t{left}\n")
+    }
+}
+
+#[cfg(test)]
+mod tests {
+    use super::*;
+
+    #[test]
+    fn lines_that_can_be_read() {
+        for (line, right) in [
+            ("start\t1\t2\t3\t4", Asked::Start([1, 2, 3, 4], CD)),
+            (
+                "start\t1\t2\t3\t4\t48000",
+                Asked::Start([1, 2, 3, 4], 48_000),
+            ),
+            (
+                "change\t0\t4294967295\t0003\t4",
+                Asked::Change([0, u32::MAX, 3, 4]),
+            ),
+            ("mode\t1", Asked::Mode(1)),
+            ("channel\t16", Asked::Channel(16)),
+            ("midi\t0\t255\t0144", Asked::Midi(vec![0, 255, 144])),
+            ("block\t65535", Asked::Block(65_535, vec![])),
+            (
+                "block\t0\t-0\t-007\t-32768\t32767",
+                Asked::Block(0, vec![0, -7, i16::MIN, i16::MAX]),
+            ),
+            ("reset", Asked::Reset),
+        ] {
+            assert_eq!(asked(line.as_bytes()), Some(right), "{line}");
+        }
+        let zeros = format!("mode\t{}", "0".repeat(LONGEST - 5));
+        assert_eq!(asked(zeros.as_bytes()), Some(Asked::Mode(0)));
+    }
+
+    #[test]
+    fn lines_that_cannot() {
+        for line in [
+            "",
+            "start",
+            "start\t1\t2\t3",
+            "start\t1\t2\t3\t",
+            "start\t1\t2\t3\t4\t",
+            "start\t1\t2\t3\t4\t5\t6",
+            "change\t1\t2\t3\t4\t48000",
+            "mode",
+            "mode\t",
+            "mode\t-1",
+            "mode\t4294967296",
+            "mode\t99999999999999999999999",
+            "channel\t1\t2",
+            "midi",
+            "midi\t",
+            "midi\t256",
+            "midi\t-1",
+            "block",
+            "block\t",
+            "block\t65536",
+            "block\t0\t",
+            "block\t0\t32768",
+            "block\t0\t-32769",
+            "block\t0\t-",
+            "block\t0\t--1",
+            "block\t0\t+1",
+            "block\t0\t1\r",
+            "block\t0\t1\t\t2",
+            "block\t-0",
+            "reset\t",
+            " reset",
+            "RESET",
+            "block\t0\t\u{663}",
+        ] {
+            assert_eq!(asked(line.as_bytes()), None, "{line}");
+        }
+        assert_eq!(asked(b"block\t0\t\xff"), None);
+        let zeros = format!("mode\t{}", "0".repeat(LONGEST - 4));
+        assert_eq!(asked(zeros.as_bytes()), None);
+    }
+
+    #[test]
+    fn lines_as_they_come() {
+        let input = [&b"a\n\nbc\n"[..], &vec![b'x'; 20_000], b"\nlast"].concat();
+        for size in [1, 7, 8_192, 1 << 16] {
+            let mut lines: Vec<Vec<u8>> = Vec::new();
+            let input = io::BufReader::with_capacity(size, &input[..]);
+            let each = each(
+                input,
+                |error| error,
+                |line| {
+                    lines.push(line.to_vec());
+                    Ok(())
+                },
+            );
+            assert!(each.is_ok());
+            let long = vec![b'x'; LONGEST + 1];
+            assert_eq!(lines, [&b"a"[..], b"", b"bc", &long, b"last"]);
+        }
+        assert!(each(&b""[..], |error| error, |_| panic!("no line")).is_ok());
+    }
+}
