@@ -249,23 +249,13 @@ pub fn block_to_good(
     let verdict = tuner::judge_parts(count, last, heard, number, samples, out.len());
     if verdict != 0 {
         return ListLeft {
-            left: tuner::block_to_good(
-                settings,
-                hertz,
-                keys,
-                count,
-                energies,
-                correlations,
-                heard,
-                eighths,
-                v,
-                head,
-                last,
-                kept,
-                number,
-                samples,
-                out,
-            ),
+            left: Left {
+                answer: tuner::not_taken(verdict, last, kept, samples, out),
+                count: count,
+                pitch: v,
+                head: head,
+                last: last,
+            },
             list: list,
         };
     }

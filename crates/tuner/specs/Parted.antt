@@ -1,13 +1,14 @@
 -- A tuner by its parts, whose arrays may be lent, and the answer to a block that is taken or given again.
 use mathlib.Core.Path.{_≡_, refl}
-use mathlib.Core.List.{List}
-use Prim.Native.Nat.{ℕ}
+use mathlib.Core.List.{List, _++_}
+use Prim.Native.Nat.{ℕ, _<_}
 use lib.IntN.{ℤ}
-use lib.ListN.{length}
+use lib.ListN.{length, take, drop}
 use Rattle.rules.specs.declared.Settings.{Settings}
 use Rattle.keyboard.specs.declared.Keyboard.{Keyboard}
 use Rattle.pitch.specs.declared.Pitch.{Pitch as KeptPitch}
 use Rattle.answers.specs.declared.Answer.{Answer}
+use Rattle.answers.specs.Numbering.{plain}
 use Rattle.record.specs.declared.Heard.{Heard}
 use Rattle.record.specs.declared.Head.{Head}
 use Rattle.record.specs.declared.Last.{Last}
@@ -29,6 +30,11 @@ tunerOf settings hertz keyboard heard pitch head last = record { settings = sett
 -- the answer to the samples xs, with the counts of a last block
 abbrev pub given : ℕ → List ℤ → LastNumbers → Answer
 given number xs n = record { number = number; written = length xs; repeated = n .repeated; dropped = n .dropped }
+
+-- what a block of the samples xs that is not taken answers and writes, by its number: 1 gives the last block l again, any other refuses
+pub record NotTaken (v : ℕ) (xs : List ℤ) (l : Last) (ys : List ℤ) (a : Answer) (ys′ : List ℤ) : Type 0 where
+  pub again : v ≡ 1 → (a ≡ record { number = 1; written = length xs; repeated = l .repeated; dropped = l .dropped }) × (ys′ ≡ take (length xs) (l .out) ++ drop (length xs) ys)
+  pub refused : 1 < v → (a ≡ plain v) × (ys′ ≡ ys)
 
 -- the number of the answer to a block, whatever the other parts of a good tuner are
 abbrev pub Judged : ℕ → LastNumbers → (store : List ℤ) → (number : ℕ) (xs : List ℤ) (room : ℕ) → ℕ → Type 0

@@ -1,5 +1,5 @@
 -- Laws of the numbers that answer a block, a change and a reset: no second number, and what follows from one.
-use mathlib.Core.Path.{_≡_, refl, sym, ap, _∙_}
+use mathlib.Core.Path.{_≡_, refl, sym, ap, subst, _∙_}
 use mathlib.Core.Bool.{true, cond}
 use mathlib.Core.List.{List, _++_}
 use Prim.Native.Nat.{ℕ, zero, suc, _+_, _-_, _%_, _≤_, _<_}
@@ -16,6 +16,7 @@ use Rattle.tuner.specs.declared.Tuner.{Tuner}
 use Rattle.answers.specs.declared.Answer.{Answer}
 use Rattle.answers.specs.Numbering.{plain, HasNumber, following, Numbered, neither, other, again, full, new}
 use Rattle.tuner.specs.Tuners.{Good, freshTuner, afterBlock, IsLast, lastSamples, nextNumber, Fits, Verdict, record-out-of-range, block-empty, block-over-512, output-short, number-neither, other-samples, given-again, take-full, taken, tunerBy, answerBy, outBy, Took, ChangeVerdict, withSettings, by-settings, Changed, NineOnly, record-good, Reset, withBytes, Keyed}
+use Rattle.tuner.specs.Parted.{NotTaken}
 
 module _ {t : Tuner} {k : ℕ} {xs : List ℤ} {room : ℕ} where
   pub by-number : {v : ℕ} → Fits t xs room → Numbered (t .heard .count) (t .last .number) (t .last .length) (t .heard .store) k xs v → Verdict t k xs room v
@@ -132,6 +133,12 @@ module _ {t : Tuner} {k : ℕ} {xs ys : List ℤ} where
         answer = c ∙ ap (λ (u : Tuner). counted v u xs) e ∙ sym (by .0);
         out = o ∙ ap (λ (u : Tuner). overlaid u xs ys) e ∙ sym (by .1);
       }
+
+  -- what is not taken leaves the tuner
+  pub took-not : (v : ℕ) {a : Answer} {ys′ : List ℤ} → Verdict t k xs (length ys) v → 0 < v → NotTaken v xs (t .last) ys a ys′ → Took t k xs ys t a ys′
+  took-not zero p h n = absurd (omega arith)
+  took-not (suc zero) p h n = took-given p (omega arith) (sym (tuner-kept t k xs (λ z. omega arith))) (n .again refl .0) (n .again refl .1)
+  took-not (suc (suc v)) {a} p h n = let r = n .refused (omega arith) in subst (Took t k xs ys t a) (sym (r .1)) (took-refused p (omega arith) (r .0))
 
   -- no second answer
   pub took-one : {t₁ t₂ : Tuner} {a₁ a₂ : Answer} {zs₁ zs₂ : List ℤ} → Took t k xs ys t₁ a₁ zs₁ → Took t k xs ys t₂ a₂ zs₂ → (t₁ ≡ t₂) × (a₁ ≡ a₂) × (zs₁ ≡ zs₂)

@@ -30,7 +30,7 @@ ghost use Rattle.record.specs.Records.{AllRight};
 ghost use Rattle.record.specs.Parts.{heardOf, Stores};
 ghost use Rattle.record.specs.Records.{noLast};
 ghost use Rattle.steps.specs.Running.{tones, Long512};
-ghost use Rattle.tuner.specs.Parted.{tunerOf, lastWith, given, Judged, Told};
+ghost use Rattle.tuner.specs.Parted.{tunerOf, lastWith, given, NotTaken, Judged, Told};
 ghost use Rattle.tuner.specs.Tuners.{Good, freshTuner, afterBlock, Took, Started, Changed, Reset, Keyed, Metered};
 
 // The record, in its parts.
@@ -287,6 +287,31 @@ fn take_parts(
     )
 }
 
+// A block that is not taken, by its number: 1 gives the last output again, any other refuses. The record stays as it is.
+pub fn not_taken(
+    verdict: u32,
+    last: LastNumbers,
+    kept: &[i16; LONGEST_BLOCK],
+    samples: &[i16],
+    out: &mut [i16],
+) -> Answer
+    requires { ⌜ (0 < verdict) × (length (now kept) ≡ longestBlock) × (verdict ≤ 1 → (length (now samples) ≤ longestBlock) × (length (now samples) ≤ length (now out))) ⌝ }
+    ensures { λ r. ⌜ NotTaken verdict (now (samples .entry)) (lastWith last (now (kept .entry))) (now (out .entry)) r (now (out .exit)) ⌝ }
+{
+    if verdict > 1 {
+        return answers::plain(verdict);
+    }
+    let n = samples.len();
+    copying::give(kept, out, n);
+    let length = n as u16;
+    Answer {
+        number: 1,
+        written: length,
+        repeated: last.repeated,
+        dropped: last.dropped,
+    }
+}
+
 // A block over the parts of a record that is known to be good: taken, given again or refused.
 pub fn block_to_good(
     settings: Settings,
@@ -309,26 +334,9 @@ pub fn block_to_good(
     ensures { λ r. ⌜ Took (tunerOf settings hertz keys (heardOf count (now (energies .entry)) (now (correlations .entry)) (now (store .entry)) (now (eighths .entry))) v head (lastWith last (now (kept .entry)))) number (now (samples .entry)) (now (out .entry)) (tunerOf settings hertz keys (heardOf (r .count) (now (energies .exit)) (now (correlations .exit)) (now (store .exit)) (now (eighths .exit))) (r .pitch) (r .head) (lastWith (r .last) (now (kept .exit)))) (r .answer) (now (out .exit)) × Stores (heardOf (r .count) (now (energies .exit)) (now (correlations .exit)) (now (store .exit)) (now (eighths .exit))) ⌝ }
 {
     let verdict = judge_parts(count, last, store, number, samples, out.len());
-    if verdict > 1 {
+    if verdict != 0 {
         return Left {
-            answer: answers::plain(verdict),
-            count: count,
-            pitch: v,
-            head: head,
-            last: last,
-        };
-    }
-    let n = samples.len();
-    if verdict == 1 {
-        copying::give(kept, out, n);
-        let length = n as u16;
-        return Left {
-            answer: Answer {
-                number: 1,
-                written: length,
-                repeated: last.repeated,
-                dropped: last.dropped,
-            },
+            answer: not_taken(verdict, last, kept, samples, out),
             count: count,
             pitch: v,
             head: head,
@@ -369,7 +377,7 @@ pub fn block_to_good(
             samples,
         )
     };
-    copying::give(kept, out, n);
+    copying::give(kept, out, samples.len());
     left
 }
 

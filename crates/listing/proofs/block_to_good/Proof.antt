@@ -1,4 +1,4 @@
--- `listing::block_to_good` meets its contract: a block that is taken goes to the list too; any other is the plain call's.
+-- `listing::block_to_good` meets its contract: a block that is taken goes to the list too; any other leaves tuner and list.
 -- Assumes nothing.
 use mathlib.Core.Path.{_≡_, refl, sym, ap, subst, _∙_}
 use Prim.Native.Nat.{ℕ}
@@ -11,7 +11,7 @@ use Rattle.record.specs.Parts.{heardOf}
 use Rattle.tuner.specs.declared.Tuner.{Tuner}
 use Rattle.tuner.specs.Tuners.{takeOf, Fits, Verdict, tunerBy}
 use Rattle.tuner.specs.Parted.{tunerOf, lastWith}
-use Rattle.tuner.specs.Verdicts.{verdict-one, verdict-fits, verdict-zero, tuner-taken, took-given, out-length}
+use Rattle.tuner.specs.Verdicts.{verdict-one, verdict-fits, verdict-zero, tuner-taken, took-given, took-not, out-length}
 use Rattle.staying.specs.Staying.{took-number}
 use Rattle.listing.specs.Listings.{blockNotes, ListedBy, goes-on, as-it-was}
 use Rattle.listing.proofs.block_to_good.Statement.{statement}
@@ -43,19 +43,21 @@ fits-here c = verdict-fits (zero-here c) (omega arith)
 judge-parts-requires : tie.Need-judge-parts-requires
 judge-parts-requires c κs = search needs
 
-block-to-good-requires : tie.Need-block-to-good-requires
-block-to-good-requires c κs = search needs
+not-taken-requires : tie.Need-not-taken-requires
+not-taken-requires c κs =
+    let t = c .before .before in
+    (omega (arith, t .if1 .taken), t .before .before .before .before .pre .2, λ h. let f = verdict-fits (verdict (t .before)) h in (f .most, f .written))
 
 same-length : tie.Need-same-length
 same-length c = search needs
 
 returns : tie.Need-returns
 returns c =
-    let b = c .before in
-    let j = b .before .before .before .before .before .before .before in
-    let p = b .block-to-good .ensures .0 in
-    let n = sym (took-number p) ∙ verdict-one (p .verdict) (verdict (j .before)) in
-    (p, b .block-to-good .ensures .1, as-it-was {v = b .block-to-good .result .answer .number} (omega (arith, n, j .if1 .taken)) refl refl)
+    let t = c .before .before .before .before in
+    let s = t .before .before .before .before in
+    let p = took-not _ (verdict (t .before)) (omega (arith, t .if1 .taken)) (c .before .not-taken .ensures) in
+    let n = sym (took-number p) ∙ verdict-one (p .verdict) (verdict (t .before)) in
+    (p, s .pre .1, as-it-was {v = c .before .not-taken .result .number} (omega (arith, n, t .if1 .taken)) refl refl)
 
 take-parts-requires : tie.Need-take-parts-requires
 take-parts-requires c κs =
@@ -110,4 +112,4 @@ returns-2 c =
 pub block-to-good-spec : {M : Type 1} → statement M
 block-to-good-spec =
     tie.close
-    (tie.spec judge-parts-requires block-to-good-requires same-length returns take-parts-requires give-requires same-length-2 same-length-3 returns-2)
+    (tie.spec judge-parts-requires not-taken-requires same-length returns take-parts-requires give-requires same-length-2 same-length-3 returns-2)
