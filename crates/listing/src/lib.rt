@@ -12,6 +12,7 @@ use rules::KEPT_SAMPLES;
 use rules::LONGEST_BLOCK;
 use rules::NO_NOTE;
 use rules::Settings;
+use rules::Tone;
 use tuner::LastNumbers;
 use tuner::Left;
 use tuner::Tuner;
@@ -155,6 +156,23 @@ fn hush(notes: &mut [u32; LONGEST_BLOCK], periods: &[u32; LONGEST_BLOCK], n: usi
     }
 }
 
+// The list goes on with the notes sung of a block's n samples, by what was told of them; this was the tone before the block.
+pub fn go_on(
+    list: Listing,
+    tone: Tone,
+    periods: &[u32; LONGEST_BLOCK],
+    notes: &mut [u32; LONGEST_BLOCK],
+    n: usize,
+    count: u64,
+    store: &mut [u32],
+) -> Listing
+    requires { ⌜ (n ≤ longestBlock) × (length (now notes) ≡ longestBlock) × (length (now periods) ≡ longestBlock) × (count + n ≤ takeLimit) × ListingIn count list ⌝ }
+    ensures { λ r. ⌜ sheet r (now (store .exit)) ≡ afterNotes (sungNote tone) count (sheet list (now (store .entry))) (take n (hushed n (now (periods .entry)) (now (notes .entry)))) ⌝ }
+{
+    hush(notes, periods, n);
+    lists::more(list, lists::sung(tone), notes, n, count, store)
+}
+
 // A reset that lends a store for the list, which begins anew: 9, then 17.
 pub fn reset(l: ListTuner, store: &[u32]) -> ListTaken
     ensures { λ r. ⌜ ListReset l (now (store .entry)) (r .tuner) (r .answer) ⌝ }
@@ -214,9 +232,7 @@ fn take_parts(
         &mut notes,
         &mut rates,
     );
-    hush(&mut notes, &periods, n);
-    let tone = v.tone;
-    let listed = lists::more(list, lists::sung(tone), &notes, n, count, store);
+    let listed = go_on(list, v.tone, &periods, &mut notes, n, count, store);
     ListLeft {
         left: left,
         list: listed,

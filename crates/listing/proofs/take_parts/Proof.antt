@@ -11,11 +11,11 @@ use Rattle.rules.specs.Rules.{Given, gives}
 use Rattle.record.specs.Parts.{heardOf}
 use Rattle.record.specs.Records.{noLast}
 use Rattle.steps.specs.Running.{Tones, tones, tonesGiven}
-use Rattle.lists.specs.Lists.{sheet, afterNotes}
+use Rattle.lists.specs.Lists.{sungNote, sheet, afterNotes}
 use Rattle.tuner.specs.declared.Tuner.{Tuner}
 use Rattle.tuner.specs.Tuners.{takeOf, forceOf}
 use Rattle.tuner.specs.Parted.{tunerOf}
-use Rattle.listing.specs.Hushes.{hushed-length, given-length, told-sung, gives-many}
+use Rattle.listing.specs.Hushes.{given-length, told-sung, gives-many}
 use Rattle.listing.proofs.take_parts.Statement.{statement}
 use Rattle.listing.proofs.take_parts.Tie as tie
 
@@ -56,39 +56,20 @@ told-notes c = ap (λ (ts : Tones). length (ts .notes)) (told c) ∙ given-lengt
 told-periods : (c : tie.After-take-told) → length (c .take-told .last .1 .1 .1 .1 .1 .1 .1 .1 .1 .1 .1 .1 .1 .0) ≡ 512
 told-periods c = ap (λ (ts : Tones). length (ts .periods)) (told c) ∙ given-length (λ (o : Tone). o .period) (given-by (start c)) zeros (omega (arith, given-here c, zeros-long, start c .pre .4)) ∙ zeros-long
 
-hush-requires : tie.Need-hush-requires
-hush-requires c κs = let d = c .before .before in (start d .pre .4, told-notes d, told-periods d)
-
-notes-long : (c : tie.After-hush) → length (c .hush .last .0) ≡ 512
-notes-long c =
-    let d = c .before .before .before in
-    ap (λ (ns : List ℕ). length ns) (c .hush .ensures) ∙ hushed-length (length (start d .args .samples .now)) _ _ ∙ told-notes d
-
-sung-requires : tie.Need-sung-requires
-sung-requires c κs = search needs
-
-slice-aggregate-more : tie.Need-slice-aggregate-more
-slice-aggregate-more c = sym (notes-long (c .before .before .before))
-
-more-requires : tie.Need-more-requires
-more-requires c κs =
-    let h = c .before .before .before .before in
-    let p = start (h .before .before .before) .pre in
-    (omega (arith, notes-long h, p .4), p .5, p .6)
+go-on-requires : tie.Need-go-on-requires
+go-on-requires c κs = let d = c .before .before .before in let p = start d .pre in (p .4, told-notes d, told-periods d, p .5, p .6)
 
 same-length : tie.Need-same-length
 same-length c = search needs
 
 returns : tie.Need-returns
 returns c =
-    let m = c .before .before in
-    let h = m .before .before .before .before .before in
-    let d = h .before .before .before in
+    let d = c .before .before .before .before .before .before in
     let s = start d in
     let a = s .args in
     let e = d .take-told .ensures in
-    let notes = ap (take (length (a .samples .now))) (h .hush .ensures) ∙ told-sung (length (a .samples .now)) (given-by s) (tones zeros zeros zeros) (sym (given-here d)) (told d) in
-    (e .0, e .1, e .2, m .more .ensures ∙ (λ i. afterNotes (m .before .before .before .sung .ensures i) (a .count) (sheet (a .list) (a .store .now)) (notes i)))
+    let notes = told-sung (length (a .samples .now)) (given-by s) (tones zeros zeros zeros) (sym (given-here d)) (told d) in
+    (e .0, e .1, e .2, c .before .before .go-on .ensures ∙ ap (afterNotes (sungNote (a .v .tone)) (a .count) (sheet (a .list) (a .store .now))) notes)
 
 pub take-parts-spec : {M : Type 1} → statement M
-take-parts-spec = tie.close (tie.spec take-told-requires hush-requires sung-requires slice-aggregate-more more-requires same-length returns)
+take-parts-spec = tie.close (tie.spec take-told-requires go-on-requires same-length returns)
