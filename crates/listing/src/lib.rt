@@ -156,6 +156,17 @@ fn hush(notes: &mut [u32; LONGEST_BLOCK], periods: &[u32; LONGEST_BLOCK], n: usi
     }
 }
 
+// Where all of them have a period there is nothing to hush, and counting runs in vectors.
+fn hush_if(notes: &mut [u32; LONGEST_BLOCK], periods: &[u32; LONGEST_BLOCK], n: usize)
+    requires { ⌜ (n ≤ longestBlock) × (length (now notes) ≡ longestBlock) × (length (now periods) ≡ longestBlock) ⌝ }
+    ensures { λ r. ⌜ now (notes .exit) ≡ hushed n (now (periods .entry)) (now (notes .entry)) ⌝ }
+{
+    if lists::count_of(periods, n, 0) == 0 {
+        return;
+    }
+    hush(notes, periods, n);
+}
+
 // The list goes on with the notes sung of a block's n samples, by what was told of them; this was the tone before the block.
 pub fn go_on(
     list: Listing,
@@ -169,7 +180,7 @@ pub fn go_on(
     requires { ⌜ (n ≤ longestBlock) × (length (now notes) ≡ longestBlock) × (length (now periods) ≡ longestBlock) × (count + n ≤ takeLimit) × ListingIn count list ⌝ }
     ensures { λ r. ⌜ sheet r (now (store .exit)) ≡ afterNotes (sungNote tone) count (sheet list (now (store .entry))) (take n (hushed n (now (periods .entry)) (now (notes .entry)))) ⌝ }
 {
-    hush(notes, periods, n);
+    hush_if(notes, periods, n);
     lists::more(list, lists::sung(tone), notes, n, count, store)
 }
 

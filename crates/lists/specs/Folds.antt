@@ -132,6 +132,14 @@ module _ {notes : List ℕ} {n from to : ℕ} (v : Level notes n from to) (h : n
       ∙ stretch-is (lastNote last before) (count + from) (to - from - 1) level-note (afterNotes last count k before)
       ∙ ap (λ (m : ℕ). afterStretch (lastNote last before) (count + from) m level-note (afterNotes last count k before)) e)
 
+-- all of them at once
+pub level-whole : {notes : List ℕ} {n : ℕ} → Level notes n 0 n → n ≤ length notes → (last count : ℕ) (k : Sheet)
+    → afterStretch last count (count + n) (getD notes 0 0) k ≡ afterNotes last count k (take n notes)
+unfolding afterNotes lastNote
+level-whole {notes} {n} v h last count k =
+    let e : count ≡ count + 0 = omega arith in
+    ap (λ (m : ℕ). afterStretch last m (count + n) (getD notes 0 0) k) e ∙ level-next v h last count k
+
 -- ---- the store stays as long as it was
 pub afterNotes-length : (last at : ℕ) (k : Sheet) (notes : List ℕ) → length (afterNotes last at k notes .store) ≡ length (k .store)
 unfolding afterNotes afterNote

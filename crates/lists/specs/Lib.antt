@@ -6,3 +6,4 @@ pub mod Afresh
 pub mod Worked
 pub mod Sung
 pub mod Longest
+pub mod Counting

@@ -7,6 +7,7 @@ ghost use Rattle.whole.specs.Tests.{Decides};
 ghost use Rattle.rules.specs.Rules.{takeLimit};
 ghost use Rattle.lists.specs.Lists.{sungNote, row, room, put, emptyListing, sheet, begun, listingAfter, storeAfter, afterNotes, PlaceIn, ListingIn};
 ghost use Rattle.lists.specs.Folds.{afterStretch, Level, Four};
+ghost use Rattle.lists.specs.Counting.{oneIf, counted};
 
 // The most rows of a list.
 pub const MOST_ROWS: u32 = 4096;
@@ -162,6 +163,41 @@ fn stretch(l: Listing, last: u32, at: u32, to: u32, note: u32, store: &mut [u32]
     with
 }
 
+// 1 where two numbers are equal, else 0.
+fn one_if(a: u32, b: u32) -> u32
+    ensures { λ r. ⌜ r ≡ oneIf a b ⌝ }
+{
+    if a == b {
+        return 1;
+    }
+    0
+}
+
+// How many of the first n numbers are this one: no way out of the loop, so that it runs in vectors.
+pub fn count_of(values: &[u32], n: usize, value: u32) -> u32
+    requires { ⌜ (n ≤ length (now values)) × (n ≤ takeLimit) ⌝ }
+    ensures { λ r. ⌜ r ≡ counted value (now (values .entry)) n ⌝ }
+{
+    let mut count: u32 = 0;
+    let mut i: usize = 0;
+    while i < n {
+        count += one_if(values[i], value);
+        i += 1;
+    }
+    count
+}
+
+// The first n samples have one note.
+fn one_note(notes: &[u32], n: usize) -> bool
+    requires { ⌜ (n ≤ length (now notes)) × (n ≤ takeLimit) ⌝ }
+    ensures { λ r. ⌜ (r ≡ true → Level (now (notes .entry)) n 0 n) ⌝ }
+{
+    if n == 0 {
+        return false;
+    }
+    count_of(notes, n, notes[0]) == n as u32
+}
+
 // Four samples have this note.
 fn four(notes: &[u32], at: usize, note: u32) -> bool
     requires { ⌜ at + 4 ≤ length (now notes) ⌝ }
@@ -224,6 +260,9 @@ pub fn more(
     ensures { λ r. ⌜ sheet r (now (store .exit)) ≡ afterNotes last count (sheet l (now (store .entry))) (take n (now (notes .entry))) ⌝ }
 {
     let from = count as u32;
+    if one_note(notes, n) {
+        return stretch(l, last, from, from + n as u32, notes[0], store);
+    }
     let mut listing = l;
     let mut before = last;
     let mut i: usize = 0;

@@ -11,14 +11,14 @@ use Rattle.listing.specs.Hushes.{hushed-length}
 use Rattle.listing.proofs.go_on.Statement.{statement}
 use Rattle.listing.proofs.go_on.Tie as tie
 
-hush-requires : tie.Need-hush-requires
-hush-requires c κs = search needs
+hush-if-requires : tie.Need-hush-if-requires
+hush-if-requires c κs = search needs
 
 sung-requires : tie.Need-sung-requires
 sung-requires c κs = search needs
 
-notes-long : (c : tie.After-hush) → length (c .hush .last .0) ≡ 512
-notes-long c = let s = c .before .before .before in ap (λ (ns : List ℕ). length ns) (c .hush .ensures) ∙ hushed-length (s .args .n) _ _ ∙ s .pre .1
+notes-long : (c : tie.After-hush-if) → length (c .hush-if .last .0) ≡ 512
+notes-long c = let s = c .before .before .before in ap (λ (ns : List ℕ). length ns) (c .hush-if .ensures) ∙ hushed-length (s .args .n) _ _ ∙ s .pre .1
 
 more-requires : tie.Need-more-requires
 more-requires c κs =
@@ -34,7 +34,7 @@ returns c =
     let m = c .before .before in
     let h = m .before .before .before .before .before in
     let a = h .before .before .before .args in
-    m .more .ensures ∙ (λ i. afterNotes (m .before .before .before .before .sung .ensures i) (a .count) (sheet (a .list) (a .store .now)) (take (a .n) (h .hush .ensures i)))
+    m .more .ensures ∙ (λ i. afterNotes (m .before .before .before .before .sung .ensures i) (a .count) (sheet (a .list) (a .store .now)) (take (a .n) (h .hush-if .ensures i)))
 
 pub go-on-spec : {M : Type 1} → statement M
-go-on-spec = tie.close (tie.spec hush-requires sung-requires more-requires same-length returns)
+go-on-spec = tie.close (tie.spec hush-if-requires sung-requires more-requires same-length returns)
