@@ -59,6 +59,15 @@ places n = cond (ltb n 10) 1 (cond (ltb n 100) 2 (cond (ltb n 1000) 3 (cond (ltb
 unfoldable pub decimal : ℕ → List ℕ
 decimal n = digits (places n) n
 
+-- how many digits a number has that has at most k + 1
+unfoldable pub placesWithin : ℕ → ℕ → ℕ
+placesWithin zero n = 1
+placesWithin (suc k) n = cond (ltb n 10) 1 (suc (placesWithin k (n / 10)))
+
+-- a number of at most 20 digits in decimal
+unfoldable pub longDecimal : ℕ → List ℕ
+longDecimal n = digits (placesWithin 19 n) n
+
 -- a sample in decimal
 unfoldable pub signed : ℤ → List ℕ
 signed (pos n) = decimal n

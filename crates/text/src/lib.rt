@@ -6,7 +6,7 @@ ghost use lib.IntN.{pos, negℤ, natAbs};
 ghost use Prim.Native.Nat.{_+_, _*_, _%_, _≤_, _<_};
 ghost use lib.ListN.{length, take};
 ghost use Rattle.whole.specs.Tests.{Decides};
-ghost use Rattle.text.specs.Text.{oneMore, number, sample, places, digits, decimal, signed, sampleFields, put, Put};
+ghost use Rattle.text.specs.Text.{oneMore, number, sample, places, digits, decimal, placesWithin, longDecimal, signed, sampleFields, put, Put};
 ghost use Rattle.text.specs.Places.{First, optional};
 
 // A number, where ok.
@@ -172,14 +172,14 @@ fn places(n: u32) -> usize
     5
 }
 
-fn digit(n: u32) -> u8
+fn digit(n: u64) -> u8
     ensures { λ r. ⌜ r ≡ 48 + n % 10 ⌝ }
 {
     48 + (n % 10) as u8
 }
 
 // Writes the last k digits of n from a place on.
-fn spell(out: &mut [u8], at: usize, n: u32, k: usize)
+fn spell(out: &mut [u8], at: usize, n: u64, k: usize)
     requires { ⌜ at + k ≤ length (now out) ⌝ }
     ensures { λ r. ⌜ now (out .exit) ≡ put (now (out .entry)) at (digits k n) ⌝ }
 {
@@ -198,7 +198,7 @@ pub fn put_number(out: &mut [u8], at: usize, n: u32) -> usize
     ensures { λ r. ⌜ Put (now (out .entry)) at (decimal n) (now (out .exit)) r ⌝ }
 {
     let k = places(n);
-    spell(out, at, n, k);
+    spell(out, at, n as u64, k);
     at + k
 }
 
@@ -209,6 +209,38 @@ pub fn put_field(out: &mut [u8], at: usize, n: u32) -> usize
 {
     out[at] = 9;
     put_number(out, at + 1, n)
+}
+
+// How many digits a number has.
+fn long_places(n: u64) -> usize
+    ensures { λ r. ⌜ (r ≡ placesWithin 19 n) × (r ≤ 20) ⌝ }
+{
+    let mut rest = n;
+    let mut k: usize = 1;
+    while rest > 9 {
+        rest /= 10;
+        k += 1;
+    }
+    k
+}
+
+// Writes any number, and answers the place after it.
+pub fn put_long(out: &mut [u8], at: usize, n: u64) -> usize
+    requires { ⌜ at + 20 ≤ length (now out) ⌝ }
+    ensures { λ r. ⌜ Put (now (out .entry)) at (longDecimal n) (now (out .exit)) r ⌝ }
+{
+    let k = long_places(n);
+    spell(out, at, n, k);
+    at + k
+}
+
+// Writes a tab and any number.
+pub fn put_long_field(out: &mut [u8], at: usize, n: u64) -> usize
+    requires { ⌜ at + 21 ≤ length (now out) ⌝ }
+    ensures { λ r. ⌜ Put (now (out .entry)) at (9 ∷ longDecimal n) (now (out .exit)) r ⌝ }
+{
+    out[at] = 9;
+    put_long(out, at + 1, n)
 }
 
 // A sample without its sign.
