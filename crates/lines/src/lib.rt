@@ -31,10 +31,10 @@ pub struct Replies {
 }
 
 // A number read from a field, where ok, and the place after the field.
-struct NumberField {
-    ok: bool,
-    value: u32,
-    to: usize,
+pub struct NumberField {
+    pub ok: bool,
+    pub value: u32,
+    pub to: usize,
 }
 
 // A sample read from a field, where ok, and the place after the field.
@@ -52,13 +52,13 @@ struct FourSettings {
 }
 
 // How many values were read, where ok.
-struct Count {
-    ok: bool,
-    value: usize,
+pub struct Count {
+    pub ok: bool,
+    pub value: usize,
 }
 
 // The number in the field after the tab at a place.
-fn number_field(line: &[u8], at: usize, most: u32) -> NumberField
+pub fn number_field(line: &[u8], at: usize, most: u32) -> NumberField
     requires { ⌜ at ≤ length (now line) ⌝ }
     ensures { λ r. ⌜ NumberRead most (now (line .entry)) at r ⌝ }
 {
@@ -180,7 +180,7 @@ fn rate_setting(line: &[u8], at: usize) -> Number
 }
 
 // The samples in the fields from a place on.
-fn samples_from(line: &[u8], at: usize, xs: &mut [i16; 4096]) -> Count
+pub fn samples_from(line: &[u8], at: usize, xs: &mut [i16; 4096]) -> Count
     requires { ⌜ (at ≤ length (now line)) × (length (now line) ≤ 8192) × (length (now xs) ≡ 4096) ⌝ }
     ensures { λ r. ⌜ FieldsRead sample (now (line .entry)) at r (now (xs .exit)) ⌝ }
 {
@@ -429,7 +429,7 @@ fn keyboard_word(f: &[u8]) -> u32
 }
 
 // The first word: 1 start, 2 change, 3 block, 4 reset, or one of the keyboard's.
-fn word(f: &[u8]) -> u32
+pub fn word(f: &[u8]) -> u32
     ensures { λ r. ⌜ r ≡ wordOf (now (f .entry)) ⌝ }
 {
     if text::same(f, b"start") {
