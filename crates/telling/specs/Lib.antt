@@ -1,0 +1,3 @@
+pub mod Doings
+pub mod Tellings
+pub mod Ways
