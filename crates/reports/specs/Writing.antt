@@ -7,6 +7,8 @@ use lib.ListN.{length, length-append}
 use Rattle.text.specs.Text.{longDecimal, Put}
 use Rattle.text.specs.Places.{put-then, put-length}
 use Rattle.text.specs.Long.{long-short}
+use Rattle.reports.specs.declared.Figures.{Figures}
+use Rattle.reports.specs.Reports.{meanOf, remainderOf, figuresLine}
 
 -- the text so far stands from a place on, where there is room for a line, and takes at most so much of it
 pub record Written (most : ℕ) (s : List ℕ) (at : ℕ) (t s′ : List ℕ) (r : ℕ) : Type 0 where
@@ -31,3 +33,19 @@ number-written n h p = record { put = p; short = long-short n; room = h }
 
 pub field-short : (n : ℕ) → length (9 ∷ longDecimal n) ≤ 21
 field-short n = omega (arith, long-short n)
+
+-- a line has room where it is written
+pub line-short : (f : Figures) → length (figuresLine f) ≤ 147
+unfolding figuresLine
+line-short f =
+    simp length-append
+    (omega (
+      arith,
+      long-short (f .samples),
+      long-short (f .pitched),
+      long-short (f .repeated),
+      long-short (f .dropped),
+      long-short (f .sum),
+      long-short (meanOf f),
+      long-short (remainderOf f),
+    ))

@@ -1,0 +1,4 @@
+pub mod Going
+pub mod Keeping
+pub mod Reporting
+pub mod Steps
