@@ -6,8 +6,6 @@ ghost use mathlib.Core.Path.{_≡_};
 ghost use mathlib.Core.Bool.{true};
 ghost use Rattle.daxfolin.specs.Turns.{Kept, Serves, Answers, OneTurn, Working, Finishes};
 use libc::STDIN_FILENO;
-use libc::STDOUT_FILENO;
-use libc::types::timespec;
 use tuner::Tuner;
 
 // The tuner, how many bytes of a line without its end are held, whether to read on, and whether the input came to its end: neither where
@@ -26,52 +24,9 @@ struct Served {
     written: bool,
 }
 
-// Waits for a thousandth of a second.
-fn pause() {
-    let asked = timespec {
-        tv_sec: 0,
-        tv_nsec: 1000000,
-    };
-    let mut left = timespec {
-        tv_sec: 0,
-        tv_nsec: 0,
-    };
-    libc::nanosleep(&asked, &mut left);
-}
-
-// Whether the call that just failed is to be tried again: a signal came, or nothing is ready yet, and then after a pause.
-fn try_again() -> bool {
-    let error = os::errno();
-    if error == libc::EINTR {
-        return true;
-    }
-    if error == libc::EAGAIN {
-        pause();
-        return true;
-    }
-    false
-}
-
-// Writes all bytes, each once, and says whether it did. A proved loop ends: no run uses up the tries.
+// Writes all bytes, and says whether it did.
 fn write_out(bytes: &[u8]) -> bool {
-    let mut done: usize = 0;
-    let mut tries = u64::MAX;
-    while tries > 0 {
-        if done == bytes.len() {
-            return true;
-        }
-        let rest = &bytes[done..];
-        let put = libc::write(STDOUT_FILENO, rest);
-        if put < 0 {
-            if !try_again() {
-                os::fail(b"daxfolin: standard output");
-                return false;
-            }
-        }
-        done += io::count(put, rest);
-        tries -= 1;
-    }
-    false
+    streams::write_out(bytes, b"daxfolin: standard output")
 }
 
 // Answers all lines that end within the input, and writes the answers.
@@ -151,7 +106,7 @@ fn one_turn(t: Tuner, buf: &mut [u8], held: usize, out: &mut [u8]) -> Turn
 {
     let got = libc::read(STDIN_FILENO, &mut buf[held..]);
     if got < 0 {
-        let again = try_again();
+        let again = streams::try_again();
         if !again {
             os::fail(b"daxfolin: standard input");
         }
@@ -191,11 +146,7 @@ fn finish(t: Tuner, held: &[u8], out: &mut [u8])
     requires { ⌜ Working t (now held) × (4096 ≤ length (now out)) ⌝ }
 {
     let n = last_line(t, held, out);
-    if write_out(&out[..n]) {
-        if libc::close(STDOUT_FILENO) < 0 {
-            os::fail(b"daxfolin: standard output");
-        }
-    }
+    streams::write_last(&out[..n], b"daxfolin: standard output");
 }
 
 // A proved loop ends: no run uses up the turns.

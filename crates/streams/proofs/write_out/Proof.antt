@@ -1,16 +1,16 @@
--- `daxfolin::write_out` meets its contract: no more is written than there is, and the tries fall.
+-- `streams::write_out` meets its contract: no more is written than there is, and the tries fall.
 -- Assumes nothing.
 use borrow.Author.Needs.{needs}
 use Prim.Native.Nat.{_≤_}
 use lib.ListN.{length}
-use Rattle.daxfolin.proofs.write_out.Statement.{statement}
-use Rattle.daxfolin.proofs.write_out.Tie as tie
+use Rattle.streams.proofs.write_out.Statement.{statement}
+use Rattle.streams.proofs.write_out.Tie as tie
 
 abbrev Inv-loop : tie.InvT-loop
-Inv-loop bytes done₀ tries₀ what done tries = done ≤ length bytes
+Inv-loop bytes name done₀ tries₀ done tries = done ≤ length bytes
 
 abbrev μ-loop : tie.MeasureT-loop
-μ-loop bytes done₀ tries₀ what done tries = tries
+μ-loop bytes name done₀ tries₀ done tries = tries
 
 loop-holds : tie.Need-loop-holds Inv-loop μ-loop
 loop-holds c = search needs
@@ -32,9 +32,6 @@ write-requires c κs = search needs
 
 try-again-requires : tie.Need-try-again-requires Inv-loop μ-loop
 try-again-requires c κs = search needs
-
-slice-aggregate-fail : tie.Need-slice-aggregate-fail Inv-loop μ-loop
-slice-aggregate-fail c = search needs
 
 fail-requires : tie.Need-fail-requires Inv-loop μ-loop
 fail-requires c κs = search needs
@@ -73,7 +70,6 @@ write-out-spec =
     part-rest-end
     write-requires
     try-again-requires
-    slice-aggregate-fail
     fail-requires
     returns-2
     count-requires

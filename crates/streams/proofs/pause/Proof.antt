@@ -1,4 +1,4 @@
--- `daxfolin::pause` meets its contract: a walk of its MIR, by hand. Each of the two times is lent for a lifetime of its own, `nanosleep` is called, and both come back once the lifetimes are ended, so that their room can be given up.
+-- `streams::pause` meets its contract: a walk of its MIR, by hand. Each of the two times is lent for a lifetime of its own, `nanosleep` is called, and both come back once the lifetimes are ended, so that their room can be given up.
 -- All that the proof knows of `nanosleep` is its contract, and of a `timespec` that it is plain data.
 -- Assumes nothing.
 use mathlib.Core.Path.{refl}
@@ -48,10 +48,10 @@ use Rattle.libc.proofs.nanosleep as sleep
 use Rattle.libc.proofs.nanosleep.Symbol as sleep-def
 use Rattle.libc.proofs.nanosleep.Symbol.{name as #nanosleep}
 use Rattle.libc.proofs.nanosleep.Met as sleep-thm
-use Rattle.daxfolin.proofs.pause.Key.{name as #daxfolin·pause}
-use Rattle.daxfolin.proofs.pause as self
-use Rattle.daxfolin.proofs.pause.Statement as stated
-use Rattle.daxfolin.proofs.pause.Code as code
+use Rattle.streams.proofs.pause.Key.{name as #streams·pause}
+use Rattle.streams.proofs.pause as self
+use Rattle.streams.proofs.pause.Statement as stated
+use Rattle.streams.proofs.pause.Code as code
 
 abbrev R : RattleType
 R = T.the-row
@@ -163,6 +163,6 @@ pub pause-spec : {M : Type 1} → stated.statement M
 unfolding code.routine tablesOf
 pause-spec 𝓤 H 𝓜 𝓖 𝓡 =
     entered 𝓤 H (tripleOf 𝓤 H (𝓖 .A) self.signature (self.spec 𝓤 H (𝓖 .A) (𝓜 .mem) (𝓡 .run)))
-    (tables 𝓤 H 𝓜 𝓡 code.env .C) (tables 𝓤 H 𝓜 𝓡 code.env .Λ) #daxfolin·pause code.function (code.unfolded 𝓤 H 𝓜 𝓡)
+    (tables 𝓤 H 𝓜 𝓡 code.env .C) (tables 𝓤 H 𝓜 𝓡 code.env .Λ) #streams·pause code.function (code.unfolded 𝓤 H 𝓜 𝓡)
     (self-meets 𝓤 H (𝓖 .A) (givenOf 𝓤 H 𝓜 𝓖) (𝓜 .mem) (𝓡 .run) (tablesOf 𝓤 H 𝓜 (tables 𝓤 H 𝓜 𝓡 code.env))
     (cited 𝓤 H (Sleep 𝓤 H (𝓖 .A) (𝓜 .mem) (𝓡 .run)) 𝓜 𝓡 code.env #nanosleep sleep-def.routine code.calls-libc·nanosleep (sleep-thm.met 𝓤 H 𝓜 𝓖 𝓡)))
