@@ -21,25 +21,25 @@ use Rattle.reports.specs.Reports.{noFigures, takesLines, totalOf, reportOf}
 use Rattle.reports.specs.Counting.{within-none, figures-none}
 use Rattle.telling.specs.Tellings.{doingOf, takesAfter}
 use Rattle.reporting.specs.declared.Reporting.{Reporting}
-use Rattle.reporting.specs.Reporting.{Takes, afterLine, Reported, no-more, last-line, one-byte, line-ends, Report}
+use Rattle.reporting.specs.Reporting.{Takes, afterLine, Through, Reported, no-more, last-line, one-byte, line-ends, Report}
 use Rattle.reporting.specs.Keeping.{reporting, Few, Keeps, few, LineReported, SoFar}
 use Rattle.reporting.specs.Steps.{heldAfter}
 
 -- ---- no second report
 
-reported-one : {t : Tuner} {takes : Takes} {line input : List ℕ} {a b : Takes} → Reported t takes line input a → Reported t takes line input b → a ≡ b
-reported-one no-more no-more = refl
-reported-one {t} {takes} (last-line {b = b} {line = line} s) (last-line s′) = ap (λ (x : List ℕ). afterLine t (b ∷ line) x takes) (said-one s s′ .1)
-reported-one (one-byte n p) (one-byte m q) = reported-one p q
-reported-one (one-byte n p) (line-ends s q) = absurd (n refl)
-reported-one (line-ends s p) (one-byte n q) = absurd (n refl)
-reported-one {t} {takes} {b = final} (line-ends {line = line} {input = input} {text = text} s p) (line-ends {t′ = t′} s′ q) =
+pub through-one : {A : Type 0} {more : Tuner → (line text : List ℕ) → A → A} {t : Tuner} {a : A} {line input : List ℕ} {b c : A} → Through more t a line input b → Through more t a line input c → b ≡ c
+through-one no-more no-more = refl
+through-one {more = more} {t} {a} (last-line {b = b} {line = line} s) (last-line s′) = ap (λ (x : List ℕ). more t (b ∷ line) x a) (said-one s s′ .1)
+through-one (one-byte n p) (one-byte m q) = through-one p q
+through-one (one-byte n p) (line-ends s q) = absurd (n refl)
+through-one (line-ends s p) (one-byte n q) = absurd (n refl)
+through-one {more = more} {t} {a} {c = final} (line-ends {line = line} {input = input} {text = text} s p) (line-ends {t′ = t′} s′ q) =
     let o = said-one s′ s in
-    reported-one p (subst (λ (u : Tuner). Reported u (afterLine t line text takes) [] input final) (o .0) (subst (λ (x : List ℕ). Reported t′ (afterLine t line x takes) [] input final) (o .1) q))
+    through-one p (subst (λ (u : Tuner). Through more u (more t line text a) [] input final) (o .0) (subst (λ (x : List ℕ). Through more t′ (more t line x a) [] input final) (o .1) q))
 
 -- every byte of a report is determined by the input
 pub report-one : {input a b : List ℕ} → Report input a → Report input b → a ≡ b
-report-one p q = p .text ∙ ap reportOf (reported-one (p .reported) (q .reported)) ∙ sym (q .text)
+report-one p q = p .text ∙ ap reportOf (through-one (p .reported) (q .reported)) ∙ sym (q .text)
 
 -- ---- lines that are too long are alike
 

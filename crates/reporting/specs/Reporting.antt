@@ -17,12 +17,16 @@ Takes = List (List Given)
 abbrev pub afterLine : Tuner → List ℕ → (text : List ℕ) → Takes → Takes
 afterLine t line text takes = takesAfter (doingOf t (read line) text) takes
 
--- with the tuner t, the takes so far and the bytes of a line that has not ended: the takes after the rest of the input. A last line may lack its end
-pub data Reported : Tuner → Takes → (line input : List ℕ) → Takes → Type 0 where
-  no-more : {t : Tuner} {takes : Takes} → Reported t takes [] [] takes
-  last-line : {t : Tuner} {takes : Takes} {b : ℕ} {line : List ℕ} {t′ : Tuner} {text : List ℕ} → Said t (read (b ∷ line)) t′ text → Reported t takes (b ∷ line) [] (afterLine t (b ∷ line) text takes)
-  one-byte : {t : Tuner} {takes : Takes} {line : List ℕ} {b : ℕ} {input : List ℕ} {takes′ : Takes} → (b ≡ 10 → ⊥) → Reported t takes (line ++ (b ∷ [])) input takes′ → Reported t takes line (b ∷ input) takes′
-  line-ends : {t : Tuner} {takes : Takes} {line input : List ℕ} {t′ : Tuner} {text : List ℕ} {takes′ : Takes} → Said t (read line) t′ text → Reported t′ (afterLine t line text takes) [] input takes′ → Reported t takes line (10 ∷ input) takes′
+-- an input byte by byte, with the tuner t, what its lines made so far, and the bytes of a line that has not ended: each line makes more of it, by what the line program would answer it. A last line may lack its end
+pub data Through {A : Type 0} (more : Tuner → (line text : List ℕ) → A → A) : Tuner → A → (line input : List ℕ) → A → Type 0 where
+  no-more : {t : Tuner} {a : A} → Through more t a [] [] a
+  last-line : {t : Tuner} {a : A} {b : ℕ} {line : List ℕ} {t′ : Tuner} {text : List ℕ} → Said t (read (b ∷ line)) t′ text → Through more t a (b ∷ line) [] (more t (b ∷ line) text a)
+  one-byte : {t : Tuner} {a : A} {line : List ℕ} {b : ℕ} {input : List ℕ} {a′ : A} → (b ≡ 10 → ⊥) → Through more t a (line ++ (b ∷ [])) input a′ → Through more t a line (b ∷ input) a′
+  line-ends : {t : Tuner} {a : A} {line input : List ℕ} {t′ : Tuner} {text : List ℕ} {a′ : A} → Said t (read line) t′ text → Through more t′ (more t line text a) [] input a′ → Through more t a line (10 ∷ input) a′
+
+-- the takes of an input
+abbrev pub Reported : Tuner → Takes → (line input : List ℕ) → Takes → Type 0
+Reported = Through afterLine
 
 -- the report of an input: the opening is a take of the default tuner
 pub record Report (input printed : List ℕ) : Type 0 where

@@ -86,14 +86,13 @@ verdict-small (verdict-taken f l n c) = omega arith
 pub took-small : {t t′ : Tuner} {k : ℕ} {xs ys ys′ : List ℤ} {a : Answer} → Took t k xs ys t′ a ys′ → a .number < 100
 took-small p = omega (arith, took-number p, verdict-small (p .verdict))
 
-abbrev Small : ℕ → Type 0
+abbrev pub Small : ℕ → Type 0
 Small n = n < 100
 
-start-small : (hertz : ℕ) (s : Settings) → Small (startNumber hertz s)
-unfolding startNumber settingsNumber
-start-small hertz s =
-    cond-case (isRate hertz) _ 16 Small
-    (λ e. cond-case (within 1 4095 (s .scale)) _ 8 Small
+pub settings-small : (s : Settings) → Small (settingsNumber s)
+unfolding settingsNumber
+settings-small s =
+    cond-case (within 1 4095 (s .scale)) _ 8 Small
     (λ e. cond-case (within 0 409 (s .eps)) _ 11 Small
     (λ e. cond-case (within 0 255 (s .decay)) _ 12 Small
     (λ e. cond-case (within 1 1000000 (s .floor)) _ 13 Small
@@ -101,14 +100,17 @@ start-small hertz s =
     (λ e. omega arith))
     (λ e. omega arith))
     (λ e. omega arith))
-    (λ e. omega arith))
     (λ e. omega arith)
 
-nine-small : {t : Tuner} {v : ℕ} → NineOnly t v → v < 100
+pub start-small : (hertz : ℕ) (s : Settings) → Small (startNumber hertz s)
+unfolding startNumber
+start-small hertz s = cond-case (isRate hertz) (settingsNumber s) 16 Small (λ e. settings-small s) (λ e. omega arith)
+
+pub nine-small : {t : Tuner} {v : ℕ} → NineOnly t v → v < 100
 nine-small (record-out-of-range n) = omega arith
 nine-small (record-good g) = omega arith
 
-plain-number : {v : ℕ} {a : Answer} → a ≡ plain v → a .number ≡ v
+pub plain-number : {v : ℕ} {a : Answer} → a ≡ plain v → a .number ≡ v
 plain-number e = ap (λ (b : Answer). b .number) e
 
 -- ---- which lines begin a take: by the first word, which is not "block", and the first digit of the answer
