@@ -1,6 +1,6 @@
 //! Another program, held to this one: a script of lines or cases of WAVE files to
 //! both, and the first answer that differs; or the first row of a list of the
-//! notes sung.
+//! notes sung, or the first line of a report.
 //!
 //! Threads of their own write the other's input and read its output, so that
 //! it never stands still for this program, nor this one for it.
@@ -42,6 +42,7 @@ pub struct Equal {
     /// Rows of the lists of the notes sung, and how many takes they are of.
     pub rows: u64,
     pub lists: u64,
+    pub reports: u64,
 }
 
 impl Equal {
@@ -51,6 +52,7 @@ impl Equal {
         self.files += other.files;
         self.rows += other.rows;
         self.lists += other.lists;
+        self.reports += other.reports;
     }
 
     /// Written, repeated and dropped come before a block's samples.
@@ -66,6 +68,9 @@ impl fmt::Display for Equal {
         write!(to, "{} lines, {} samples out", self.lines, self.samples)?;
         if self.lists > 0 {
             write!(to, ", {} rows of notes in {} takes", self.rows, self.lists)?;
+        }
+        if self.reports > 0 {
+            write!(to, ", {} reports", self.reports)?;
         }
         match self.files {
             0 => Ok(()),
@@ -139,6 +144,8 @@ pub struct Held {
     pub answers: Vec<u8>,
     /// The list of each take, by this program.
     pub lists: Vec<List>,
+    /// The report, by this program.
+    pub report: String,
 }
 
 /// Gives a script to both programs, the other being this command, and counts
@@ -175,6 +182,26 @@ pub fn compare_lists(
             equal.lists += 1;
         }
         answers.hold(line, b"", b"").map(drop)
+    })
+}
+
+/// Gives a script to this command, which prints a report, and holds it to this
+/// one. Lines are then those of the report.
+pub fn compare_report(
+    script: &[u8],
+    report: &str,
+    command: &[String],
+    equal: &mut Equal,
+) -> Result<(), Unequal> {
+    with_program(command, script, Host::Streaming, |go, mut answers| {
+        // A program that has ended is told by its answers.
+        let _ = go.send(());
+        let lines = report.split_inclusive('\n');
+        for (line, figures) in (1..).zip(lines.chain([""])) {
+            answers.hold(line, b"", figures.as_bytes())?;
+        }
+        equal.reports += 1;
+        Ok(())
     })
 }
 
@@ -267,6 +294,7 @@ fn hold(
     Ok(Held {
         answers: got,
         lists: program.lists(),
+        report: program.report(),
     })
 }
 

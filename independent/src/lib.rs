@@ -15,6 +15,7 @@ pub mod mend;
 pub mod night;
 pub mod play;
 pub mod record;
+pub mod report;
 pub mod rules;
 pub mod settings;
 pub mod statistics;

@@ -1,6 +1,7 @@
 //! The line program: any bytes in, one answer line for each line.
 
 use crate::list::{List, MOST_ROWS};
+use crate::report::{report, Figures};
 use crate::rules::LONGEST_BLOCK;
 use crate::settings::Settings;
 use crate::statistics::{Between, Statistics};
@@ -118,6 +119,8 @@ pub struct Program {
     /// fell between the samples of the one that goes on.
     lists: Vec<List>,
     between: Between,
+    /// The figures of the takes that ended.
+    takes: Vec<Figures>,
 }
 
 impl Default for Program {
@@ -128,6 +131,7 @@ impl Default for Program {
             line: Vec::new(),
             lists: Vec::new(),
             between: Between::default(),
+            takes: Vec::new(),
         }
     }
 }
@@ -148,6 +152,7 @@ impl Program {
     pub fn end(&mut self, answers: &mut Vec<u8>) {
         self.end_line(answers);
         self.end_take();
+        self.statistics.input(self.takes.len());
     }
 
     /// Answers a last line that lacks its end.
@@ -164,6 +169,11 @@ impl Program {
         std::mem::take(&mut self.lists)
     }
 
+    /// The report of the takes that ended.
+    pub fn report(&self) -> String {
+        report(&self.takes)
+    }
+
     pub fn tuner(&self) -> &Tuner {
         &self.tuner
     }
@@ -174,8 +184,12 @@ impl Program {
         self.line.extend(piece.iter().take(room));
     }
 
-    /// The list of the take, afresh from the notes of all its samples.
+    /// The list of the take and its figures, afresh from all its samples.
     fn end_take(&mut self) {
+        let take = self.tuner.sounded();
+        let figures = Figures::of(take);
+        self.statistics.take(take, &figures);
+        self.takes.push(figures);
         let list = List::of(self.tuner.notes(), MOST_ROWS);
         self.statistics.list(&list, &self.between);
         self.between = Between::default();
@@ -277,6 +291,15 @@ pub fn lists_of(input: &[u8]) -> String {
     program.read(input, &mut answers);
     program.end(&mut answers);
     program.lists().iter().map(List::to_string).collect()
+}
+
+/// What `report` prints of an input.
+pub fn report_of(input: &[u8]) -> String {
+    let mut program = Program::default();
+    let mut answers = Vec::new();
+    program.read(input, &mut answers);
+    program.end(&mut answers);
+    program.report()
 }
 
 /// All answers to an input, and what was seen on the way.

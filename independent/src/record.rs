@@ -409,6 +409,7 @@ impl Record {
             take: history(&self.store, count),
             // Those of the samples that the call takes.
             notes: Vec::new(),
+            sounded: Vec::new(),
             eighths: history(&self.eighths, count / 8),
             mode: match self.tracking {
                 0 => Mode::Searching,

@@ -3,6 +3,7 @@
 
 use crate::keyboard::{Event, Keyboard, Message};
 use crate::list::{List, Row};
+use crate::report::{Figures, Sounded, MOST_TAKES};
 use crate::rules::*;
 use crate::settings::Settings;
 use crate::table::{notes_at, CD, FILM};
@@ -220,6 +221,19 @@ counters! {
     modes_changed_within_row,
     keys_changed_within_row,
     blocks_given_again_within_row,
+    /// Samples of the takes that ended, at another rate than 65536.
+    samples_at_higher_rate,
+    samples_at_lower_rate,
+    /// Takes that ended: without a sample; with a period at some samples and
+    /// none at others; whose mean has a remainder.
+    takes_without_samples,
+    takes_pitched_in_part,
+    takes_with_remainder,
+    /// Inputs that ended, with one take less than a report has, as many, and
+    /// one more.
+    inputs_of_999_takes,
+    inputs_of_1000_takes,
+    inputs_of_1001_takes,
 }
 
 /// After how many samples of a take something fell between two of them.
@@ -512,6 +526,27 @@ impl Statistics {
         self.modes_changed_within_row += within(rows, &between.modes);
         self.keys_changed_within_row += within(rows, &between.keys);
         self.blocks_given_again_within_row += within(rows, &between.repeats);
+    }
+
+    /// What a report counts of a take, and its figures.
+    pub fn take(&mut self, take: &[Sounded], figures: &Figures) {
+        for sample in take {
+            self.samples_at_higher_rate += u64::from(sample.rate > LEVEL_RATE);
+            self.samples_at_lower_rate += u64::from(sample.rate < LEVEL_RATE);
+        }
+        let Figures {
+            samples, pitched, ..
+        } = *figures;
+        self.takes_without_samples += u64::from(samples == 0);
+        self.takes_pitched_in_part += u64::from((1..samples).contains(&pitched));
+        self.takes_with_remainder += u64::from(figures.mean().1 > 0);
+    }
+
+    /// An input of so many takes.
+    pub fn input(&mut self, takes: usize) {
+        self.inputs_of_999_takes += u64::from(takes + 1 == MOST_TAKES);
+        self.inputs_of_1000_takes += u64::from(takes == MOST_TAKES);
+        self.inputs_of_1001_takes += u64::from(takes == MOST_TAKES + 1);
     }
 
     pub fn value(&mut self, value: i64) {

@@ -3,6 +3,7 @@
 use crate::history::History;
 use crate::keyboard::{Keyboard, HIGHEST_KEY};
 use crate::list::Note;
+use crate::report::Sounded;
 use crate::rules::*;
 use crate::settings::{Settings, KEYBOARD};
 use crate::statistics::Statistics;
@@ -120,6 +121,8 @@ pub struct Tuner {
     /// The wanted note of each sample, as it stood after its search or step;
     /// none without a period. The list of the notes sung is made of them.
     pub(crate) notes: Vec<Note>,
+    /// What a report counts of each sample.
+    pub(crate) sounded: Vec<Sounded>,
     pub(crate) eighths: History,
     pub(crate) mode: Mode,
     pub(crate) rate: i64,
@@ -167,6 +170,7 @@ impl Tuner {
             limit,
             take: History::fresh(),
             notes: Vec::new(),
+            sounded: Vec::new(),
             eighths: History::fresh(),
             mode: Mode::Searching,
             rate: LEVEL_RATE,
@@ -326,6 +330,11 @@ impl Tuner {
         let grown = self.position + self.rate;
         let period = self.period();
         let (position, cycle) = turn(grown, input, period);
+        self.sounded.push(Sounded {
+            pitched: period.is_some(),
+            rate: grown - self.position,
+            cycle,
+        });
         self.position = position;
         seen.reading(cycle, position, input, period);
         let value = read(&self.take, position);
@@ -432,6 +441,11 @@ impl Tuner {
     /// The wanted note of each sample of the take.
     pub fn notes(&self) -> &[Note] {
         &self.notes
+    }
+
+    /// What a report counts of each sample of the take.
+    pub fn sounded(&self) -> &[Sounded] {
+        &self.sounded
     }
 
     /// Samples of the take.

@@ -5,6 +5,7 @@ use std::process::{Command, Output};
 
 const LINES: &str = env!("CARGO_BIN_EXE_lines");
 const NOTES: &str = env!("CARGO_BIN_EXE_notes");
+const REPORT: &str = env!("CARGO_BIN_EXE_report");
 const WAVES: &str = env!("CARGO_BIN_EXE_waves");
 
 fn compare(arguments: &[&str]) -> Output {
@@ -40,7 +41,7 @@ fn the_program_is_equal_to_itself() {
     assert!(said[0].starts_with("seed 7: "));
     assert!(said[1].starts_with("seed 8: "));
     assert!(said[2].starts_with("equal: "));
-    assert!(said[2].contains("; 42 kinds, seeds 7 to 8, "));
+    assert!(said[2].contains("; 43 kinds, seeds 7 to 8, "));
     assert_eq!(said.len(), 3);
     let words: Vec<&str> = said[2].split(' ').collect();
     let (lines, samples): (u64, u64) = (words[1].parse().unwrap(), words[3].parse().unwrap());
@@ -121,7 +122,7 @@ fn files_are_compared_too() {
     };
     let (status, said) = with_files(WAVES);
     assert_eq!(status, Some(0), "{said}");
-    assert!(said.contains(", 6000 cases of files; 42 kinds, seeds 7 to 8, "));
+    assert!(said.contains(", 6000 cases of files; 43 kinds, seeds 7 to 8, "));
     let (status, said) = with_files(LINES);
     assert_eq!(status, Some(1));
     let parts = [
@@ -163,6 +164,30 @@ fn notes_are_compared_too() {
     }
 }
 
+/// And the report of every script.
+#[test]
+fn reports_are_compared_too() {
+    let with_report = |words: &str| {
+        let words = ["--report", words, "7", "1", "2000", "--", LINES];
+        let output = compare(&words);
+        let said = String::from_utf8(output.stdout).unwrap();
+        (output.status.code(), said)
+    };
+    let (status, said) = with_report(REPORT);
+    assert_eq!(status, Some(0), "{said}");
+    assert!(said.contains(", 43 reports; 43 kinds, "), "{said}");
+    let (status, said) = with_report(&format!("head -n 9 {}", env!("CARGO_MANIFEST_PATH")));
+    assert_eq!(status, Some(1));
+    let parts = [
+        "not equal: report of kind opening, seed 7, line 1, from byte 1 ",
+        "\n  got       [package]\\n\n",
+        "\n  script    generate opening 7 2000\n",
+    ];
+    for part in parts {
+        assert!(said.contains(part), "no {part:?} in\n{said}");
+    }
+}
+
 #[test]
 fn a_program_that_is_not_there_is_told() {
     let output = compare(&["1", "1", "100", "--", "there/is/no/such/program"]);
@@ -183,6 +208,8 @@ fn wrong_arguments_are_refused() {
         &["--hasty", "1", "1", "100", "--", LINES],
         &["--files", "1", "1", "100", "--", LINES],
         &["--notes", "1", "1", "100", "--", LINES],
+        &["--report", "1", "1", "100", "--", LINES],
+        &["--report", " ", "1", "1", "100", "--", LINES],
         &["--files", "many", WAVES, "1", "1", "100", "--", LINES],
     ];
     for arguments in refused {

@@ -2,7 +2,7 @@
 
 use std::process::{Command, Output, Stdio};
 
-const COMMANDS: [(&str, &str); 11] = [
+const COMMANDS: [(&str, &str); 12] = [
     ("compare", env!("CARGO_BIN_EXE_compare")),
     ("files", env!("CARGO_BIN_EXE_files")),
     ("generate", env!("CARGO_BIN_EXE_generate")),
@@ -12,6 +12,7 @@ const COMMANDS: [(&str, &str); 11] = [
     ("play", env!("CARGO_BIN_EXE_play")),
     ("raw", env!("CARGO_BIN_EXE_raw")),
     ("records", env!("CARGO_BIN_EXE_records")),
+    ("report", env!("CARGO_BIN_EXE_report")),
     ("smoothness", env!("CARGO_BIN_EXE_smoothness")),
     ("waves", env!("CARGO_BIN_EXE_waves")),
 ];

@@ -1,10 +1,14 @@
-//! `compare [--waiting] [--notes PROGRAM] [--files CASES PROGRAM] FIRST_SEED SEEDS
-//! SAMPLES -- COMMAND ARG..`: holds another line program to this one, by a script
-//! of each kind for each seed; and its answers to the cuttings of a take to one
-//! another. With `--notes` also PROGRAM to `notes`, by the same scripts. With
-//! `--files` then PROGRAM to `waves`, by so many cases of WAVE files for each seed.
+//! `compare [--waiting] [--notes PROGRAM] [--report WORDS] [--files CASES PROGRAM]
+//! FIRST_SEED SEEDS SAMPLES -- COMMAND ARG..`: holds another line program to this
+//! one, by a script of each kind for each seed; and its answers to the cuttings of
+//! a take to one another. With `--notes` also PROGRAM to `notes`, by the same
+//! scripts, and with `--report` the command of these words, parted by blanks, to
+//! `report`. With `--files` then PROGRAM to `waves`, by so many cases of WAVE files
+//! for each seed.
 
-use independent::comparison::{compare, compare_files, compare_lists, Equal, Host, Unequal};
+use independent::comparison::{
+    compare, compare_files, compare_lists, compare_report, Equal, Host, Unequal,
+};
 use independent::generator::cuts::CUTTINGS;
 use independent::generator::kinds::{Kind, KINDS};
 use independent::generator::script::script;
@@ -14,13 +18,15 @@ use std::ops::RangeInclusive;
 use std::process::ExitCode;
 use std::time::Instant;
 
-const USAGE: &str = "compare [--waiting] [--notes PROGRAM] [--files CASES PROGRAM] \
-                     FIRST_SEED SEEDS SAMPLES -- COMMAND ARG..";
+const USAGE: &str = "compare [--waiting] [--notes PROGRAM] [--report WORDS] \
+                     [--files CASES PROGRAM] FIRST_SEED SEEDS SAMPLES -- COMMAND ARG..";
 
 struct Task {
     host: Host,
     /// The program that is to print the list of the notes sung in each take.
     notes: Option<String>,
+    /// The command that is to print the report.
+    report: Option<Vec<String>>,
     /// So many cases of WAVE files, and the program that is to answer them.
     files: Option<(u64, String)>,
     seeds: RangeInclusive<u64>,
@@ -38,6 +44,13 @@ fn task(arguments: &[String]) -> Option<Task> {
         [switch, program, rest @ ..] if switch == "--notes" => (Some(program.clone()), rest),
         _ => (None, arguments),
     };
+    let (report, arguments) = match arguments {
+        [switch, words, rest @ ..] if switch == "--report" && !words.trim().is_empty() => {
+            let words = words.split_whitespace().map(str::to_string);
+            (Some(words.collect()), rest)
+        }
+        _ => (None, arguments),
+    };
     let (files, arguments) = match arguments {
         [switch, cases, program, rest @ ..] if switch == "--files" => {
             (Some((cases.parse().ok()?, program.clone())), rest)
@@ -51,6 +64,7 @@ fn task(arguments: &[String]) -> Option<Task> {
             Some(Task {
                 host,
                 notes,
+                report,
                 files,
                 seeds: first..=first.checked_add(more)?,
                 samples: samples.parse().ok()?,
@@ -120,9 +134,12 @@ fn compare_kind(
         hold_cuttings(&script, &held.answers, CUTTINGS.len())
             .map_err(|disagreement| ("", Unequal::Cutting(disagreement)))?;
     }
-    let Some(program) = &task.notes else {
+    if let Some(program) = &task.notes {
+        compare_lists(&script, &held.lists, std::slice::from_ref(program), equal)
+            .map_err(|unequal| ("notes of ", unequal))?;
+    }
+    let Some(command) = &task.report else {
         return Ok(());
     };
-    compare_lists(&script, &held.lists, std::slice::from_ref(program), equal)
-        .map_err(|unequal| ("notes of ", unequal))
+    compare_report(&script, &held.report, command, equal).map_err(|unequal| ("report of ", unequal))
 }

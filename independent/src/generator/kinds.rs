@@ -5,6 +5,7 @@ use super::cuts;
 use super::filming;
 use super::holding;
 use super::hostile::{endless_line, hostile_line};
+use super::many;
 use super::player;
 use super::random::Random;
 use super::runs;
@@ -277,6 +278,14 @@ pub const KINDS: &[Kind] = &[
         in_vain: 5,
         following: Some(runs::keys),
         ..played("rows", "a key before every step", runs::steady)
+    },
+    Kind {
+        settings: Some("4095\t409\t230\t1"),
+        lengths: (1, 60),
+        changes: 0,
+        in_vain: 20,
+        following: Some(many::takes),
+        ..kind("takes", "takes in great number", vibrato)
     },
     Kind {
         settings: Some("4095\t409\t0\t1"),

@@ -14,6 +14,7 @@ mod holding;
 mod hostile;
 pub mod kinds;
 pub mod lists;
+mod many;
 pub mod night;
 mod nights;
 mod player;

@@ -7,9 +7,9 @@ use std::io::{self, Write};
 
 const WHOLE_CASE: &[u8] = include_bytes!("../../../examples/whole_case.txt");
 
-/// Kinds that are not stored: of the list of the notes sung the line program
-/// says nothing, and the lines of `endless` are too long.
-pub const NOT_STORED: [&str; 4] = ["rests", "within", "rows", "endless"];
+/// Kinds that are not stored: of the list of the notes sung and of figures the
+/// line program says nothing, and the lines of `endless` are too long.
+pub const NOT_STORED: [&str; 5] = ["rests", "within", "rows", "takes", "endless"];
 
 /// Each other kind, a seed and so many samples with which it reaches what it is
 /// there for.

@@ -55,6 +55,9 @@ pub struct Moment {
     pub period: f64,
     /// The sample rate in force.
     pub hertz: u32,
+    /// The takes so far, the opening among them, and the seed.
+    pub takes: usize,
+    pub seed: u64,
 }
 
 /// The same in memory.
@@ -66,6 +69,7 @@ pub fn script(kind: &Kind, seed: u64, samples: usize) -> Vec<u8> {
 
 pub struct Script<'a, W> {
     kind: &'a Kind,
+    seed: u64,
     pub random: Random,
     rates: Random,
     pub to: W,
@@ -80,6 +84,8 @@ pub struct Script<'a, W> {
     followed: usize,
     /// The sample rate of the last start that was taken.
     hertz: u32,
+    /// The takes so far.
+    takes: usize,
     /// The last block that was taken.
     last: Option<(u16, Vec<i16>)>,
 }
@@ -90,6 +96,7 @@ impl<'a, W: Write> Script<'a, W> {
         let mut random = Random::seeded(seed);
         Script {
             kind,
+            seed,
             passages: random.whole(0, 99),
             random,
             rates: rates_of(kind, seed),
@@ -99,6 +106,7 @@ impl<'a, W: Write> Script<'a, W> {
             period: 0.0,
             followed: 0,
             hertz: CD,
+            takes: 1,
             last: None,
         }
     }
@@ -165,6 +173,8 @@ impl<'a, W: Write> Script<'a, W> {
                 next: self.next(),
                 period: self.period,
                 hertz: self.hertz,
+                takes: self.takes,
+                seed: self.seed,
             };
             self.followed += 1;
             if let Some(line) = following(&mut self.random, &moment) {
@@ -310,7 +320,12 @@ impl<'a, W: Write> Script<'a, W> {
         self.send(&block_line(number, samples))
     }
 
-    /// Sends lines and keeps account of the last block that was taken.
+    fn begin_take(&mut self) {
+        self.takes += 1;
+        self.last = None;
+    }
+
+    /// Sends lines and keeps account of the takes and the last block that was taken.
     pub fn send(&mut self, lines: &[u8]) -> io::Result<()> {
         for line in lines.split(|&byte| byte == b'\n') {
             match Record::on(line) {
@@ -323,10 +338,11 @@ impl<'a, W: Write> Script<'a, W> {
                 Some(Record::Start(hertz, settings)) => {
                     let hertz = hertz.unwrap_or(CD);
                     if Tuner::answer_to_start(hertz, &settings) == Answer::Taken {
-                        (self.hertz, self.last) = (hertz, None);
+                        self.hertz = hertz;
+                        self.begin_take();
                     }
                 }
-                Some(Record::Reset) => self.last = None,
+                Some(Record::Reset) => self.begin_take(),
                 _ => {}
             }
         }
