@@ -1,9 +1,9 @@
-//! `compare [--waiting] [--notes PROGRAM] [--report WORDS] [--files CASES PROGRAM]
+//! `compare [--waiting] [--report WORDS] [--notes PROGRAM] [--files CASES PROGRAM]
 //! FIRST_SEED SEEDS SAMPLES -- COMMAND ARG..`: holds another line program to this
 //! one, by a script of each kind for each seed; and its answers to the cuttings of
-//! a take to one another. With `--notes` also PROGRAM to `notes`, by the same
-//! scripts, and with `--report` the command of these words, parted by blanks, to
-//! `report`. With `--files` then PROGRAM to `waves`, by so many cases of WAVE files
+//! a take to one another. With `--report` also the command of these words, parted
+//! by blanks, to `report`, by the same scripts, and with `--notes` PROGRAM to
+//! `notes`. With `--files` then PROGRAM to `waves`, by so many cases of WAVE files
 //! for each seed.
 
 use independent::comparison::{
@@ -18,7 +18,7 @@ use std::ops::RangeInclusive;
 use std::process::ExitCode;
 use std::time::Instant;
 
-const USAGE: &str = "compare [--waiting] [--notes PROGRAM] [--report WORDS] \
+const USAGE: &str = "compare [--waiting] [--report WORDS] [--notes PROGRAM] \
                      [--files CASES PROGRAM] FIRST_SEED SEEDS SAMPLES -- COMMAND ARG..";
 
 struct Task {
@@ -40,15 +40,15 @@ fn task(arguments: &[String]) -> Option<Task> {
         [switch, rest @ ..] if switch == "--waiting" => (Host::Waiting, rest),
         _ => (Host::Streaming, arguments),
     };
-    let (notes, arguments) = match arguments {
-        [switch, program, rest @ ..] if switch == "--notes" => (Some(program.clone()), rest),
-        _ => (None, arguments),
-    };
     let (report, arguments) = match arguments {
         [switch, words, rest @ ..] if switch == "--report" && !words.trim().is_empty() => {
             let words = words.split_whitespace().map(str::to_string);
             (Some(words.collect()), rest)
         }
+        _ => (None, arguments),
+    };
+    let (notes, arguments) = match arguments {
+        [switch, program, rest @ ..] if switch == "--notes" => (Some(program.clone()), rest),
         _ => (None, arguments),
     };
     let (files, arguments) = match arguments {

@@ -1,6 +1,8 @@
 //! `unready late|broken LINE TEXT.. -- COMMAND ARG..`: runs COMMAND on an input
 //! that is not ready when it comes to it. LINE is sent and its answer awaited,
 //! then each TEXT after a pause; after the last one the input ends, or breaks.
+//! Where LINE is empty no answer is awaited: many empty lines are sent, and have
+//! come to their end when COMMAND reads.
 //! `unready slow -- COMMAND ARG..`: an output that is not ready, read slowly.
 //! Writes what COMMAND writes and ends with its status.
 
@@ -12,6 +14,8 @@ use std::thread::sleep;
 use std::time::Duration;
 
 const PAUSE: Duration = Duration::from_millis(100);
+/// More empty lines than fit between two programs.
+const EMPTY_LINES: usize = 1_000_000;
 
 fn main() -> ExitCode {
     let arguments: Vec<String> = std::env::args().skip(1).collect();
@@ -64,12 +68,12 @@ fn input(line: &str, texts: &[String], breaks: bool, command: &[String]) -> io::
     let mut other_side = theirs.try_clone()?;
     let mut child = started(command, OwnedFd::from(theirs).into(), Stdio::piped())?;
     let mut answers = child.stdout.take().ok_or(io::ErrorKind::BrokenPipe)?;
-    ours.write_all(line.as_bytes())?;
     let mut out = Vec::new();
-    while out.last() != Some(&b'\n') {
-        let mut byte = [0];
-        answers.read_exact(&mut byte)?;
-        out.push(byte[0]);
+    if line.is_empty() {
+        ours.write_all(&[b'\n'; EMPTY_LINES])?;
+    } else {
+        ours.write_all(line.as_bytes())?;
+        out = answer(&mut answers)?;
     }
     for text in texts {
         ours.write_all(text.as_bytes())?;
@@ -84,6 +88,17 @@ fn input(line: &str, texts: &[String], breaks: bool, command: &[String]) -> io::
     answers.read_to_end(&mut out)?;
     io::stdout().write_all(&out)?;
     ended(child)
+}
+
+/// The next line.
+fn answer(answers: &mut impl Read) -> io::Result<Vec<u8>> {
+    let mut line = Vec::new();
+    while line.last() != Some(&b'\n') {
+        let mut byte = [0];
+        answers.read_exact(&mut byte)?;
+        line.push(byte[0]);
+    }
+    Ok(line)
 }
 
 /// A write to a full socket that must not wait is cut short or finds no room.
