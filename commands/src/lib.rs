@@ -22,6 +22,10 @@ use std::process::ExitCode;
 /// How much of a file is read at once.
 pub const WINDOW: usize = 1 << 16;
 
+/// The most takes of a report, and what more are answered.
+pub const MOST_TAKES: usize = 1000;
+pub const TOO_MANY_TAKES: u32 = 28;
+
 /// How a command ends that does not do what it was asked for.
 pub enum End {
     /// The words are wrong, whatever the files are: status 1.
@@ -49,6 +53,7 @@ fn meaning(number: u32) -> &'static str {
         RUNS_PAST => "a chunk runs past the RIFF chunk, or that past the file",
         NO_GOOD_FMT => "there is no fmt chunk that says PCM, one channel, 16 bits, 44,100 or 48,000 a second before the data or the end",
         NO_DATA_REACHED => "no data chunk is reached",
+        TOO_MANY_TAKES => "a report has 1,000 takes at most",
         FILE_TOO_LONG => "the file has 2,147,483,648 bytes or more",
         _ => "the library refuses it",
     }
