@@ -334,7 +334,7 @@ fn nearest(hertz: u32, periods: &[u32], scale: u32, period: u32) -> u32
 }
 
 // period x 65536 / wanted, nearest, halves up.
-fn raw_rate(period: u32, wanted: u32) -> u32
+pub fn raw_rate(period: u32, wanted: u32) -> u32
     requires { ⌜ (0 < wanted) × (rawRate period wanted ≤ 4294967295) ⌝ }
     ensures { λ r. ⌜ r ≡ rawRate period wanted ⌝ }
 {

@@ -123,7 +123,7 @@ fn read(s: &[i16], m: usize, behind: u32) -> i16
 }
 
 // One sample, the newest of the first m, at this rate with this period: the output goes to place i.
-fn turn(
+pub fn turn(
     g: Growth,
     rate: u32,
     period: u32,

@@ -122,8 +122,8 @@ module _ {x x' : Sound} (same : SameNewest reach x x') (low : ℕ) (within : low
       let inside = best-first x' low .inside in
       rw (best-alike, lost-alike (f .settings) (best x' low) last inside, period-alike (best x' low) inside)
 
--- ---- reading
-reading-alike : {x x' : Sound} → SameNewest reach x x' → (n : ℕ) (at : ℤ) → InBounds n at → reading x n at ≡ reading x' n at
+-- ---- reading: it looks at ages up to 1,005
+pub reading-alike : {x x' : Sound} → SameNewest 1006 x x' → (n : ℕ) (at : ℤ) → InBounds n at → reading x n at ≡ reading x' n at
 reading-alike {x} {x'} same n at h =
     let b = natAbs (inputAt n -ℤ at) in
     let behind = in-bounds-behind h in
@@ -165,7 +165,7 @@ module _ (f : InForce) {t u : Take} (a : Agree t u) (new : ℤ)
       let x = heard-alike (a .sound) new in
       let y = eighths-alike x (a .eighths) n in
       let p = listened-alike x y n f (t .pitch) lags in
-      let out = reading-alike x n _ bounds in (
+      let out = reading-alike (λ k h. x k (omega arith)) n _ bounds in (
         record { count = refl; pitch = p; position = λ i. growth n (p i .tone .rate) (p i .tone .period) (t .position) .position; sound = x; eighths = y },
         (λ i. record {
           out = (out ∙ (λ j. reading (heard new (u .sound)) n (growth n (p j .tone .rate) (p j .tone .period) (t .position) .position))) i;

@@ -1,0 +1,3 @@
+pub mod Voices
+pub mod Singing
+pub mod Accompanying
