@@ -1,0 +1,1 @@
+// A tuner with backing voices. The laws stand in specs/.
