@@ -1,1 +1,3 @@
+pub mod Choirs
 pub mod Beside
+pub mod Parts

@@ -71,6 +71,7 @@ pub fn good(l: ListTuner) -> bool
     lists::right(list, t.heard.count)
 }
 
+// An answer with the rows of a list, and the runs left out of it.
 pub fn answer_of(a: Answer, l: Listing) -> ListAnswer
     ensures { λ r. ⌜ r ≡ listAnswer a l ⌝ }
 {

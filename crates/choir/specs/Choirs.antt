@@ -1,0 +1,119 @@
+-- A tuner with backing voices and a list of the notes sung, in the words of change request K13: when it is good, and what the calls promise. Definitions only.
+use mathlib.Core.Path.{_≡_}
+use mathlib.Core.Bool.{cond}
+use mathlib.Core.List.{List, _++_}
+use Prim.Native.Nat.{ℕ, _+_, _≤_, _<_, min}
+use lib.Dec.{leb, ltb, eqb}
+use lib.IntN.{ℤ, pos, natAbs, _-ℤ_}
+use lib.ListN.{length, take, drop, replicate}
+use Rattle.rules.specs.Rules.{inputAt, farthest, longestBlock}
+use Rattle.answers.specs.Numbering.{plain}
+use Rattle.voices.specs.Voices.{IntervalIn, Voiced, voiceAfter, voiceGives, voiceOuts}
+use Rattle.tuner.specs.declared.Tuner.{Tuner}
+use Rattle.tuner.specs.Tuners.{takeOf, forceOf, Verdict, tunerBy, answerBy, outBy}
+use Rattle.listing.specs.declared.ListAnswer.{ListAnswer}
+use Rattle.listing.specs.Listings.{listTuner, ListGood, listAnswer, ListedBy}
+use Rattle.choir.specs.declared.Voice.{Voice}
+use Rattle.choir.specs.declared.Voices.{Voices}
+use Rattle.choir.specs.declared.Choir.{Choir}
+
+-- ---- the record
+
+-- a voice in its ranges: the interval, and a position within the lead's bounds; its kept output is not tested
+pub record VoiceIn (v : Voice) : Type 0 where
+  pub interval : IntervalIn (v .interval)
+  pub behind : v .behind ≤ farthest
+
+-- at most three voices are chosen, each of them in its ranges
+pub record VoicesIn (vs : Voices) : Type 0 where
+  pub count : vs .count ≤ 3
+  pub first : 0 < vs .count → VoiceIn (vs .first)
+  pub second : 1 < vs .count → VoiceIn (vs .second)
+  pub third : 2 < vs .count → VoiceIn (vs .third)
+
+-- good: the tuner with its list is, and the voices are in their ranges
+abbrev pub ChoirGood : Choir → Type 0
+ChoirGood c = ListGood (listTuner (c .tuner) (c .list)) × VoicesIn (c .voices)
+
+-- ---- the outputs of the voices
+
+pub record Outs : Type 0 where
+  pub first : List ℤ
+  pub second : List ℤ
+  pub third : List ℤ
+
+abbrev pub outs : List ℤ → List ℤ → List ℤ → Outs
+outs first second third = record { first = first; second = second; third = third }
+
+-- voice j of those chosen has an output of n places: the lesser of that and the room of the others; an output beyond the chosen voices is not tested
+unfoldable pub roomWith : ℕ → ℕ → ℕ → ℕ → ℕ
+roomWith j chosen n room = cond (ltb j chosen) (min n room) room
+
+-- the least room of the lead's output and the chosen voices'
+abbrev pub leastRoom : ℕ → ℕ → ℕ → ℕ → ℕ → ℕ
+leastRoom chosen lead first second third = roomWith 2 chosen third (roomWith 1 chosen second (roomWith 0 chosen first lead))
+
+-- ---- a voice after a block that is taken
+
+-- where it stands in the take of a tuner
+abbrev pub standsAt : Tuner → Voice → ℤ
+standsAt t v = inputAt (t .heard .count) -ℤ pos (v .behind)
+
+-- beside the samples xs it goes on as the rules say, and what it gave is kept
+unfoldable pub voiceAfterBlock : Tuner → List ℤ → Voice → Voice
+voiceAfterBlock t xs v =
+    record {
+      interval = v .interval;
+      behind = natAbs (inputAt (t .heard .count + length xs) -ℤ voiceAfter (forceOf t) (v .interval) (takeOf t) (standsAt t v) xs);
+      out = voiceOuts (voiceGives (forceOf t) (v .interval) (takeOf t) (standsAt t v) xs) ++ drop (length xs) (replicate longestBlock (pos 0));
+    }
+
+-- voice j of those chosen; one beyond them stays as it is
+unfoldable pub sungBy : ℕ → ℕ → Tuner → List ℤ → Voice → Voice
+sungBy j chosen t xs v = cond (ltb j chosen) (voiceAfterBlock t xs v) v
+
+abbrev pub allSung : Tuner → List ℤ → Voices → Voices
+allSung t xs vs =
+    record {
+      count = vs .count;
+      first = sungBy 0 (vs .count) t xs (vs .first);
+      second = sungBy 1 (vs .count) t xs (vs .second);
+      third = sungBy 2 (vs .count) t xs (vs .third);
+    }
+
+-- the first n places of a chosen voice's output are what the voice keeps; nothing past them, and nothing beyond the chosen voices, is touched
+unfoldable pub writtenBy : ℕ → ℕ → ℕ → Voice → List ℤ → List ℤ
+writtenBy j chosen n v ys = cond (ltb j chosen) (take n (v .out) ++ drop n ys) ys
+
+abbrev pub allWritten : ℕ → Voices → Outs → Outs
+allWritten n vs o =
+    record {
+      first = writtenBy 0 (vs .count) n (vs .first) (o .first);
+      second = writtenBy 1 (vs .count) n (vs .second) (o .second);
+      third = writtenBy 2 (vs .count) n (vs .third) (o .third);
+    }
+
+-- ---- a block
+
+-- what it leaves of the voices, by its number, and what it writes of the voices that it leaves: 0 and 1 write what is then kept
+unfoldable pub voicesBy : ℕ → Tuner → List ℤ → Voices → Voices
+voicesBy v t xs vs = cond (eqb v 0) (allSung t xs vs) vs
+
+unfoldable pub outsBy : ℕ → ℕ → Voices → Outs → Outs
+outsBy v n vs o = cond (leb v 1) (allWritten n vs o) o
+
+-- a block to a good choir, by its number: the lead's verdict where a chosen voice's short output is the lead's own, and lead, list and voices by that number
+pub record Judged (c : Choir) (k : ℕ) (xs ys : List ℤ) (o : Outs) (store : List ℕ) (c′ : Choir) (a : ListAnswer) (ys′ : List ℤ) (o′ : Outs) (store′ : List ℕ) : Type 0 where
+  pub number : ℕ
+  pub verdict : Verdict (c .tuner) k xs (leastRoom (c .voices .count) (length ys) (length (o .first)) (length (o .second)) (length (o .third))) number
+  pub tuner : c′ .tuner ≡ tunerBy number (c .tuner) k xs
+  pub answer : a ≡ listAnswer (answerBy number (c .tuner) k xs) (c′ .list)
+  pub out : ys′ ≡ outBy number (c .tuner) k xs ys
+  pub list : ListedBy (c .tuner) xs (c .list) store (c′ .list) store′ number
+  pub voices : c′ .voices ≡ voicesBy number (c .tuner) xs (c .voices)
+  pub outs : o′ ≡ outsBy number (length xs) (c′ .voices) o
+
+-- the promise of a block: 9 where the record is out of range, and all as it was; else by its number
+pub data ChoirTook (c : Choir) (k : ℕ) (xs ys : List ℤ) (o : Outs) (store : List ℕ) (c′ : Choir) (a : ListAnswer) (ys′ : List ℤ) (o′ : Outs) (store′ : List ℕ) : Type 0 where
+  record-out-of-range : (ChoirGood c → ⊥) → c′ ≡ c → a ≡ listAnswer (plain 9) (c .list) → ys′ ≡ ys → o′ ≡ o → store′ ≡ store → ChoirTook c k xs ys o store c′ a ys′ o′ store′
+  by-number : ChoirGood c → Judged c k xs ys o store c′ a ys′ o′ store′ → ChoirTook c k xs ys o store c′ a ys′ o′ store′
