@@ -1,16 +1,19 @@
 -- A tuner with backing voices and a list of the notes sung, in the words of change request K13: when it is good, and what the calls promise. Definitions only.
 use mathlib.Core.Path.{_≡_}
-use mathlib.Core.Bool.{cond}
-use mathlib.Core.List.{List, _++_}
+use mathlib.Core.Bool.{Bool, true, false, cond, _&&_, _||_}
+use mathlib.Core.List.{List, [], _∷_, _++_}
 use Prim.Native.Nat.{ℕ, _+_, _≤_, _<_, min}
 use lib.Dec.{leb, ltb, eqb}
-use lib.IntN.{ℤ, pos, natAbs, _-ℤ_}
-use lib.ListN.{length, take, drop, replicate}
-use Rattle.rules.specs.Rules.{inputAt, farthest, longestBlock}
+use lib.IntN.{ℤ, pos, negℤ, natAbs, _+ℤ_, _-ℤ_}
+use lib.ListN.{length, take, drop, getD, replicate}
+use lib.Signed.{ltZ}
+use Rattle.rules.specs.declared.Settings.{Settings}
+use Rattle.rules.specs.Rules.{inputAt, farthest, longestBlock, refuse, startNumber}
 use Rattle.answers.specs.Numbering.{plain}
-use Rattle.voices.specs.Voices.{IntervalIn, Voiced, voiceAfter, voiceGives, voiceOuts}
+use Rattle.lists.specs.Lists.{room, emptyListing}
+use Rattle.voices.specs.Voices.{IntervalIn, voiceAfter, voiceGives, voiceOuts}
 use Rattle.tuner.specs.declared.Tuner.{Tuner}
-use Rattle.tuner.specs.Tuners.{takeOf, forceOf, Verdict, tunerBy, answerBy, outBy}
+use Rattle.tuner.specs.Tuners.{takeOf, forceOf, freshTuner, defaultTuner, Verdict, tunerBy, answerBy, outBy}
 use Rattle.listing.specs.declared.ListAnswer.{ListAnswer}
 use Rattle.listing.specs.Listings.{listTuner, ListGood, listAnswer, ListedBy}
 use Rattle.choir.specs.declared.Voice.{Voice}
@@ -117,3 +120,61 @@ pub record Judged (c : Choir) (k : ℕ) (xs ys : List ℤ) (o : Outs) (store : L
 pub data ChoirTook (c : Choir) (k : ℕ) (xs ys : List ℤ) (o : Outs) (store : List ℕ) (c′ : Choir) (a : ListAnswer) (ys′ : List ℤ) (o′ : Outs) (store′ : List ℕ) : Type 0 where
   record-out-of-range : (ChoirGood c → ⊥) → c′ ≡ c → a ≡ listAnswer (plain 9) (c .list) → ys′ ≡ ys → o′ ≡ o → store′ ≡ store → ChoirTook c k xs ys o store c′ a ys′ o′ store′
   by-number : ChoirGood c → Judged c k xs ys o store c′ a ys′ o′ store′ → ChoirTook c k xs ys o store c′ a ys′ o′ store′
+
+-- ---- where voices begin
+
+-- an interval of -12 to 12 semitones is kept as 0 to 24; any other as 25, which is none
+unfoldable pub keptInterval : ℤ → ℕ
+keptInterval z = cond (ltZ z (negℤ (pos 12)) || ltZ (pos 12) z) 25 (natAbs (pos 12 +ℤ z))
+
+-- all are in range
+unfoldable pub allInRange : List ℤ → Bool
+allInRange [] = true
+allInRange (z ∷ zs) = leb (keptInterval z) 24 && allInRange zs
+
+-- a voice level with the input, that kept no output
+unfoldable pub levelVoice : ℕ → Voice
+levelVoice interval = record { interval = interval; behind = 0; out = replicate longestBlock (pos 0) }
+
+-- the voices of these intervals; a voice beyond them is in unison, and not chosen
+unfoldable pub chosenVoices : List ℤ → Voices
+chosenVoices zs =
+    record {
+      count = length zs;
+      first = levelVoice (keptInterval (getD zs 0 (pos 0)));
+      second = levelVoice (keptInterval (getD zs 1 (pos 0)));
+      third = levelVoice (keptInterval (getD zs 2 (pos 0)));
+    }
+
+-- the same voices, each level
+unfoldable pub levelVoices : Voices → Voices
+levelVoices vs =
+    record {
+      count = vs .count;
+      first = levelVoice (vs .first .interval);
+      second = levelVoice (vs .second .interval);
+      third = levelVoice (vs .third .interval);
+    }
+
+-- a choir where its list begins
+abbrev pub beginning : Tuner → Voices → Choir
+beginning t vs = record { tuner = t; list = emptyListing; voices = vs }
+
+-- a store of n numbers has room for one row; an empty one is none lent
+abbrev pub roomy : ℕ → Bool
+roomy n = eqb n 0 || ltb 0 (room n)
+
+-- behind the tuner's own number: 17 where a store is lent without room for one row, 18 where an interval is out of range, 19 for more than three voices
+unfoldable pub choirNumber : ℕ → (n : ℕ) → List ℤ → ℕ
+choirNumber v n zs = cond (eqb v 0) (refuse 17 (roomy n) (refuse 18 (allInRange zs) (refuse 19 (leb (length zs) 3) 0))) v
+
+-- the promise of a start: the fresh tuner with the voices of these intervals, or the default tuner without voices beside the number; an empty list
+pub record ChoirStarted (hertz : ℕ) (s : Settings) (zs : List ℤ) (store : List ℕ) (c′ : Choir) (a : ListAnswer) : Type 0 where
+  pub choir : c′ ≡ cond (eqb (choirNumber (startNumber hertz s) (length store) zs) 0) (beginning (freshTuner hertz s) (chosenVoices zs)) (beginning defaultTuner (chosenVoices []))
+  pub answer : a ≡ listAnswer (plain (choirNumber (startNumber hertz s) (length store) zs)) emptyListing
+
+-- the promise of a reset: 9, then 17 where a store is lent without room for one row; else settings, sample rate and the voices chosen are kept, each level, everything else fresh, and an empty list
+pub data ChoirReset (c : Choir) (store : List ℕ) (c′ : Choir) (a : ListAnswer) : Type 0 where
+  record-out-of-range : (ChoirGood c → ⊥) → c′ ≡ c → a ≡ listAnswer (plain 9) (c .list) → ChoirReset c store c′ a
+  no-room : ChoirGood c → roomy (length store) ≡ false → c′ ≡ c → a ≡ listAnswer (plain 17) (c .list) → ChoirReset c store c′ a
+  begun-anew : ChoirGood c → roomy (length store) ≡ true → c′ ≡ beginning (freshTuner (c .tuner .hertz) (c .tuner .settings)) (levelVoices (c .voices)) → a ≡ listAnswer (plain 0) emptyListing → ChoirReset c store c′ a

@@ -1,3 +1,4 @@
 pub mod Choirs
 pub mod Beside
 pub mod Parts
+pub mod Beginnings

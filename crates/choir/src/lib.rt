@@ -20,12 +20,13 @@ use tuner::Tuner;
 ghost use mathlib.Core.Path.{_≡_};
 ghost use mathlib.Core.List.{_++_};
 ghost use Prim.Native.Nat.{ℕ, _+_, _≤_, _<_};
-ghost use lib.ListN.{length, take, drop};
+ghost use lib.IntN.{pos};
+ghost use lib.ListN.{length, take, drop, getD};
 ghost use Rattle.whole.specs.Tests.{Decides};
 ghost use Rattle.rules.specs.Rules.{longestBlock, keptSamples, takeLimit};
 ghost use Rattle.rules.specs.Facts.{SampleRate};
 ghost use Rattle.answers.specs.Numbering.{plain};
-ghost use Rattle.lists.specs.Lists.{ListingIn};
+ghost use Rattle.lists.specs.Lists.{emptyListing, ListingIn};
 ghost use Rattle.record.specs.declared.Last.{Last};
 ghost use Rattle.record.specs.Records.{AllRight};
 ghost use Rattle.record.specs.Parts.{heardOf, Stores};
@@ -34,11 +35,14 @@ ghost use Rattle.tuner.specs.Tuners.{Good, Verdict};
 ghost use Rattle.tuner.specs.Verdicts.{counted};
 ghost use Rattle.listing.specs.Listings.{listAnswer};
 ghost use Rattle.voices.specs.Singing.{TrackedAll};
-ghost use Rattle.choir.specs.Choirs.{VoiceIn, VoicesIn, ChoirGood, outs, roomWith, leastRoom, writtenBy, allWritten, Judged, ChoirTook};
+ghost use Rattle.choir.specs.Choirs.{VoiceIn, VoicesIn, ChoirGood, outs, roomWith, leastRoom, writtenBy, allWritten, Judged, ChoirTook, keptInterval, allInRange, levelVoice, chosenVoices, levelVoices, beginning, roomy, choirNumber, ChoirStarted, ChoirReset};
 ghost use Rattle.choir.specs.Parts.{SangBy, AllSang, LeftBy, Gave};
 
 // The widest interval, kept as 0 to 24 for -12 to 12.
 const WIDEST: u32 = 2 * voices::UNISON;
+
+// What an interval out of range is kept as.
+const NO_INTERVAL: u32 = WIDEST + 1;
 
 // So many voices may be chosen.
 const MOST_VOICES: u64 = 3;
@@ -466,4 +470,156 @@ pub fn block(
         return left_as(c, 9);
     }
     block_to_good(c, number, samples, out, first, second, third, store)
+}
+
+// An interval in semitones as it is kept.
+fn kept_interval(z: i32) -> u32
+    ensures { λ r. ⌜ r ≡ keptInterval z ⌝ }
+{
+    if z < -12 {
+        return NO_INTERVAL;
+    }
+    if 12 < z {
+        return NO_INTERVAL;
+    }
+    (12 + z) as u32
+}
+
+fn all_in_range(intervals: &[i32]) -> bool
+    ensures { λ r. ⌜ r ≡ allInRange (now (intervals .entry)) ⌝ }
+{
+    let mut i: usize = 0;
+    while i < intervals.len() {
+        if kept_interval(intervals[i]) > WIDEST {
+            return false;
+        }
+        i += 1;
+    }
+    true
+}
+
+// A voice level with the input, that kept no output.
+fn level_voice(interval: u32) -> Voice
+    ensures { λ r. ⌜ r ≡ levelVoice interval ⌝ }
+{
+    Voice {
+        interval: interval,
+        behind: 0,
+        out: [0i16; LONGEST_BLOCK],
+    }
+}
+
+// The voice of interval j; in unison where there is none.
+fn chosen_voice(intervals: &[i32], j: usize) -> Voice
+    ensures { λ r. ⌜ r ≡ levelVoice (keptInterval (getD (now (intervals .entry)) j (pos 0))) ⌝ }
+{
+    if j < intervals.len() {
+        return level_voice(kept_interval(intervals[j]));
+    }
+    level_voice(voices::UNISON)
+}
+
+fn chosen_voices(intervals: &[i32]) -> Voices
+    ensures { λ r. ⌜ r ≡ chosenVoices (now (intervals .entry)) ⌝ }
+{
+    let first = chosen_voice(intervals, 0);
+    let second = chosen_voice(intervals, 1);
+    let third = chosen_voice(intervals, 2);
+    Voices {
+        count: intervals.len() as u64,
+        first: first,
+        second: second,
+        third: third,
+    }
+}
+
+// The same voices, each level.
+fn level_voices(vs: Voices) -> Voices
+    ensures { λ r. ⌜ r ≡ levelVoices vs ⌝ }
+{
+    let first = level_voice(vs.first.interval);
+    let second = level_voice(vs.second.interval);
+    let third = level_voice(vs.third.interval);
+    Voices {
+        count: vs.count,
+        first: first,
+        second: second,
+        third: third,
+    }
+}
+
+// A store of so many numbers has room for one row; an empty one is none lent.
+fn roomy(numbers: usize) -> bool
+    ensures { λ r. ⌜ r ≡ roomy numbers ⌝ }
+{
+    if numbers == 0 {
+        return true;
+    }
+    lists::has_room(numbers)
+}
+
+// The number that follows a start's own.
+fn choir_number(number: u32, numbers: usize, intervals: &[i32]) -> u32
+    ensures { λ r. ⌜ r ≡ choirNumber number numbers (now (intervals .entry)) ⌝ }
+{
+    if number != 0 {
+        return number;
+    }
+    if !roomy(numbers) {
+        return 17;
+    }
+    if !all_in_range(intervals) {
+        return 18;
+    }
+    if intervals.len() > 3 {
+        return 19;
+    }
+    0
+}
+
+// A choir where its list begins, and a number.
+fn begin(t: Tuner, vs: Voices, number: u32) -> ChoirTaken
+    ensures { λ r. ⌜ (r .choir ≡ beginning t vs) × (r .answer ≡ listAnswer (plain number) emptyListing) ⌝ }
+{
+    let list = lists::begin();
+    ChoirTaken {
+        choir: Choir {
+            tuner: t,
+            list: list,
+            voices: vs,
+        },
+        answer: listing::answer_of(answers::plain(number), list),
+    }
+}
+
+// A start with the voices of these intervals, -12 to 12 semitones each, and a store for the list, an empty one where none is wanted: the fresh choir, or the default tuner without voices beside the number.
+pub fn start(hertz: u32, s: Settings, intervals: &[i32], store: &[u32]) -> ChoirTaken
+    ensures { λ r. ⌜ ChoirStarted hertz s (now (intervals .entry)) (now (store .entry)) (r .choir) (r .answer) ⌝ }
+{
+    let d = tuner::start(hertz, s);
+    let number = choir_number(d.answer.number, store.len(), intervals);
+    if number == 0 {
+        let t = d.tuner;
+        return begin(t, chosen_voices(intervals), 0);
+    }
+    let e = tuner::start_default();
+    let u = e.tuner;
+    begin(u, chosen_voices(&intervals[..0]), number)
+}
+
+// A reset: the voices that were chosen stay, each level with the input; the list begins anew.
+pub fn reset(c: Choir, store: &[u32]) -> ChoirTaken
+    ensures { λ r. ⌜ ChoirReset c (now (store .entry)) (r .choir) (r .answer) ⌝ }
+{
+    if !good(c) {
+        return left_as(c, 9);
+    }
+    if !roomy(store.len()) {
+        return left_as(c, 17);
+    }
+    let t = c.tuner;
+    let vs = c.voices;
+    let d = Tuner::reset(t);
+    let u = d.tuner;
+    begin(u, level_voices(vs), 0)
 }

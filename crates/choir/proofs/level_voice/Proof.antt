@@ -1,0 +1,13 @@
+-- `choir::level_voice` meets its contract.
+-- Assumes nothing.
+use mathlib.Core.Path.{refl}
+use Rattle.choir.specs.Choirs.{levelVoice}
+use Rattle.choir.proofs.level_voice.Statement.{statement}
+use Rattle.choir.proofs.level_voice.Tie as tie
+
+returns : tie.Need-returns
+unfolding levelVoice
+returns c = refl
+
+pub level-voice-spec : {M : Type 1} → statement M
+level-voice-spec = tie.close (tie.spec returns)

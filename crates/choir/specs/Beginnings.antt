@@ -1,0 +1,134 @@
+-- Laws of intervals, and of the numbers where voices begin.
+use mathlib.Core.Path.{_≡_, refl, sym, ap, _∙_, subst}
+use mathlib.Core.Bool.{Bool, true, false, cond, _&&_, _||_}
+use mathlib.Core.List.{List, [], _∷_}
+use Prim.Native.Nat.{ℕ, zero, suc, _+_, _-_, _≤_, _<_}
+use native.Mathlib.Omega.{arith}
+use borrow.Author.Tests.{eq-eqb, ne-eqb, eqb-true, eqb-false, le-leb, lt-leb, lt-ltb, le-ltb, ltb-false}
+use lib.Dec.{T, leb, ltb, eqb}
+use lib.IntN.{ℤ, pos, negsuc, negℤ, natAbs, _+ℤ_}
+use lib.ListN.{length, drop, getD, List·getD-eq-default}
+use lib.Seq.{drop-cons, drop-length}
+use lib.Signed.{ltZ, nonNeg}
+use Rattle.whole.specs.Tests.{Decides, by, cond-yes, cond-no}
+use Rattle.whole.specs.Bounds.{minus-down}
+use Rattle.rules.specs.declared.Settings.{Settings}
+use Rattle.rules.specs.Rules.{startNumber, defaults, cdRate, refuse}
+use Rattle.answers.specs.declared.Answer.{Answer}
+use Rattle.answers.specs.Numbering.{plain}
+use Rattle.lists.specs.Lists.{room, emptyListing}
+use Rattle.tuner.specs.declared.Tuner.{Tuner}
+use Rattle.tuner.specs.Tuners.{freshTuner, defaultTuner, Started}
+use Rattle.tuner.specs.Starts.{start-taken, default-start-taken}
+use Rattle.listing.specs.declared.ListAnswer.{ListAnswer}
+use Rattle.listing.specs.Listings.{listAnswer}
+use Rattle.choir.specs.declared.Voices.{Voices}
+use Rattle.choir.specs.declared.Choir.{Choir}
+use Rattle.choir.specs.Choirs.{keptInterval, allInRange, chosenVoices, beginning, roomy, choirNumber, ChoirStarted}
+
+-- ---- one interval
+module _ (z : ℤ) where
+  pub interval-below : ltZ z (negℤ (pos 12)) ≡ true → keptInterval z ≡ 25
+  unfolding keptInterval
+  interval-below e = cond-yes 25 (natAbs (pos 12 +ℤ z)) (ap (λ (b : Bool). b || ltZ (pos 12) z) e)
+
+  module _ (e : ltZ z (negℤ (pos 12)) ≡ false) where
+    pub interval-above : ltZ (pos 12) z ≡ true → keptInterval z ≡ 25
+    unfolding keptInterval
+    interval-above f = cond-yes 25 (natAbs (pos 12 +ℤ z)) (ap (λ (b : Bool). b || ltZ (pos 12) z) e ∙ f)
+
+    pub interval-is : ltZ (pos 12) z ≡ false → keptInterval z ≡ natAbs (pos 12 +ℤ z)
+    unfolding keptInterval
+    interval-is f = cond-no 25 (natAbs (pos 12 +ℤ z)) (ap (λ (b : Bool). b || ltZ (pos 12) z) e ∙ f)
+
+-- in range, it is kept as no negative number, which is at most 24
+pub kept-up : (z : ℤ) → ltZ z (negℤ (pos 12)) ≡ false → ltZ (pos 12) z ≡ false → T (nonNeg (pos 12 +ℤ z)) × (natAbs (pos 12 +ℤ z) ≤ 24) × (natAbs z ≤ 12)
+kept-up (pos n) e f = let q = ltb-false 12 n f in (tt, omega arith, omega arith)
+kept-up (negsuc n) e f =
+    let q = ltb-false 11 n e in
+    let down = minus-down 12 (suc n) (omega arith) in
+    (subst (λ (y : ℤ). T (nonNeg y)) (sym down) tt, subst (λ (y : ℤ). natAbs y ≤ 24) (sym down) (omega arith), omega arith)
+
+-- past the last it is none: in unison
+pub interval-none : (zs : List ℤ) (j : ℕ) → length zs ≤ j → keptInterval (getD zs j (pos 0)) ≡ 12
+unfolding keptInterval
+interval-none zs j h = ap keptInterval (List·getD-eq-default zs (pos 0) {n = j} h)
+
+-- ---- all of them, from a place on
+module _ (zs : List ℤ) (i : ℕ) (h : i < length zs) where
+  pub range-out : 24 < keptInterval (getD zs i (pos 0)) → allInRange (drop i zs) ≡ false
+  unfolding allInRange
+  range-out l = ap allInRange (drop-cons zs i (pos 0) h) ∙ ap (λ (b : Bool). b && allInRange (drop (suc i) zs)) (lt-leb _ 24 l)
+
+  pub range-on : keptInterval (getD zs i (pos 0)) ≤ 24 → allInRange (drop i zs) ≡ allInRange (drop (suc i) zs)
+  unfolding allInRange
+  range-on l = ap allInRange (drop-cons zs i (pos 0) h) ∙ ap (λ (b : Bool). b && allInRange (drop (suc i) zs)) (le-leb _ 24 l)
+
+pub range-end : (zs : List ℤ) → allInRange (drop (length zs) zs) ≡ true
+unfolding allInRange
+range-end zs = ap allInRange (drop-length zs)
+
+-- ---- room for the list
+pub roomy-none : {n : ℕ} → n ≡ 0 → roomy n ≡ true
+roomy-none {n} e = ap (λ (b : Bool). b || ltb 0 (room n)) (eq-eqb n 0 e)
+
+pub roomy-lent : {n : ℕ} {b : Bool} → (n ≡ 0 → ⊥) → Decides b (0 < room n) → roomy n ≡ b
+roomy-lent {n} {b} h d =
+    ap (λ (a : Bool). a || ltb 0 (room n)) (ne-eqb n 0 h)
+    ∙ by b (λ e. lt-ltb 0 (room n) (d .yes e) ∙ sym e) (λ e. le-ltb 0 (room n) (omega (arith, none (d .no e))) ∙ sym e)
+  where
+    none : (0 < room n → ⊥) → room n ≡ 0
+    none k = by (eqb (room n) 0) (λ e. eqb-true (room n) 0 e) (λ e. absurd (let q = eqb-false (room n) 0 e in k (omega arith)))
+
+-- ---- the number
+module _ (v n : ℕ) (zs : List ℤ) where
+  pub number-own : (v ≡ 0 → ⊥) → choirNumber v n zs ≡ v
+  unfolding choirNumber
+  number-own h = cond-no _ v (ne-eqb v 0 h)
+
+  module _ (e : v ≡ 0) where
+    pub number-17 : roomy n ≡ false → choirNumber v n zs ≡ 17
+    unfolding choirNumber
+    number-17 r = cond-yes _ v (eq-eqb v 0 e) ∙ cond-no _ 17 r
+
+    module _ (r : roomy n ≡ true) where
+      pub number-18 : allInRange zs ≡ false → choirNumber v n zs ≡ 18
+      unfolding choirNumber
+      number-18 a = cond-yes _ v (eq-eqb v 0 e) ∙ cond-yes _ 17 r ∙ cond-no _ 18 a
+
+      pub number-19 : allInRange zs ≡ true → 3 < length zs → choirNumber v n zs ≡ 19
+      unfolding choirNumber
+      number-19 a l = cond-yes _ v (eq-eqb v 0 e) ∙ cond-yes _ 17 r ∙ cond-yes _ 18 a ∙ cond-no 0 19 (lt-leb _ 3 l)
+
+      pub number-0 : allInRange zs ≡ true → length zs ≤ 3 → choirNumber v n zs ≡ 0
+      unfolding choirNumber
+      number-0 a l = cond-yes _ v (eq-eqb v 0 e) ∙ cond-yes _ 17 r ∙ cond-yes _ 18 a ∙ cond-yes 0 19 (le-leb _ 3 l)
+
+  -- where it is 0 so is the tuner's own
+  pub own-zero : choirNumber v n zs ≡ 0 → v ≡ 0
+  unfolding choirNumber
+  own-zero e = by (eqb v 0) (λ z. eqb-true v 0 z) (λ z. sym (number-own (eqb-false v 0 z)) ∙ e)
+
+-- ---- a start, by the tuner's own
+module _ (zs : List ℤ) (store : List ℕ) {hertz : ℕ} {s : Settings} {t : Tuner} {b : Answer} {v : ℕ} (p : Started hertz s t b) (e : v ≡ choirNumber (b .number) (length store) zs) where
+  number-is : v ≡ choirNumber (startNumber hertz s) (length store) zs
+  number-is = e ∙ ap (λ (x : Answer). choirNumber (x .number) (length store) zs) (p .answer)
+
+  pub choir-started : {c′ : Choir} {a : ListAnswer} → v ≡ 0 → c′ ≡ beginning t (chosenVoices zs) → a ≡ listAnswer (plain 0) emptyListing → ChoirStarted hertz s zs store c′ a
+  choir-started z f g =
+      let number = sym number-is ∙ z in
+      record {
+        choir =
+            f ∙ ap (λ (u : Tuner). beginning u (chosenVoices zs)) (start-taken (own-zero (startNumber hertz s) (length store) zs number) p .0)
+            ∙ sym (cond-yes (beginning (freshTuner hertz s) (chosenVoices zs)) (beginning defaultTuner (chosenVoices [])) (eq-eqb _ 0 number));
+        answer = g ∙ ap (λ (w : ℕ). listAnswer (plain w) emptyListing) (sym number);
+      }
+
+  pub choir-refused : {c′ : Choir} {a : ListAnswer} {u : Tuner} {d : Answer} → (v ≡ 0 → ⊥) → Started cdRate defaults u d → c′ ≡ beginning u (chosenVoices []) → a ≡ listAnswer (plain v) emptyListing → ChoirStarted hertz s zs store c′ a
+  choir-refused n q f g =
+      record {
+        choir =
+            f ∙ ap (λ (w : Tuner). beginning w (chosenVoices [])) (default-start-taken q .0)
+            ∙ sym (cond-no (beginning (freshTuner hertz s) (chosenVoices zs)) (beginning defaultTuner (chosenVoices [])) (ne-eqb _ 0 (λ z. n (number-is ∙ z))));
+        answer = g ∙ ap (λ (w : ℕ). listAnswer (plain w) emptyListing) number-is;
+      }
