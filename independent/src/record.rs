@@ -410,6 +410,7 @@ impl Record {
             // Those of the samples that the call takes.
             notes: Vec::new(),
             sounded: Vec::new(),
+            periods: Vec::new(),
             eighths: history(&self.eighths, count / 8),
             mode: match self.tracking {
                 0 => Mode::Searching,

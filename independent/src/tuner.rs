@@ -34,6 +34,9 @@ pub enum Answer {
     RateUnknown = 16,
     /// A call's own that lends a store for the list: no room for one row.
     StoreWithoutRoom = 17,
+    /// A start's own that chooses voices.
+    IntervalOutOfRange = 18,
+    TooManyVoices = 19,
 }
 
 impl Answer {
@@ -123,6 +126,8 @@ pub struct Tuner {
     pub(crate) notes: Vec<Note>,
     /// What a report counts of each sample.
     pub(crate) sounded: Vec<Sounded>,
+    /// The period beside it. Voices are worked out from both.
+    pub(crate) periods: Vec<Option<i64>>,
     pub(crate) eighths: History,
     pub(crate) mode: Mode,
     pub(crate) rate: i64,
@@ -171,6 +176,7 @@ impl Tuner {
             take: History::fresh(),
             notes: Vec::new(),
             sounded: Vec::new(),
+            periods: Vec::new(),
             eighths: History::fresh(),
             mode: Mode::Searching,
             rate: LEVEL_RATE,
@@ -326,6 +332,7 @@ impl Tuner {
             _ => {}
         }
         self.notes.push(self.note());
+        self.periods.push(self.period());
         let input = input_position(n);
         let grown = self.position + self.rate;
         let period = self.period();
