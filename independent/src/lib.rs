@@ -22,6 +22,7 @@ pub mod statistics;
 pub mod table;
 pub mod takes;
 pub mod tuner;
+pub mod voice_lines;
 pub mod voices;
 pub mod wave;
 pub mod waves;

@@ -83,7 +83,7 @@ fn byte(field: &[u8]) -> Option<u8> {
     u8::try_from(whole_number(field, u64::from(u8::MAX))?).ok()
 }
 
-fn sample(field: &[u8]) -> Option<i16> {
+pub(crate) fn sample(field: &[u8]) -> Option<i16> {
     let value = match field.strip_prefix(b"-") {
         Some(digits) => -(whole_number(digits, 32_768)? as i64),
         None => whole_number(field, 32_767)? as i64,

@@ -14,6 +14,7 @@ const COMMANDS: [(&str, &str); 12] = [
     ("records", env!("CARGO_BIN_EXE_records")),
     ("report", env!("CARGO_BIN_EXE_report")),
     ("smoothness", env!("CARGO_BIN_EXE_smoothness")),
+    ("voices", env!("CARGO_BIN_EXE_voices")),
     ("waves", env!("CARGO_BIN_EXE_waves")),
 ];
 

@@ -23,3 +23,4 @@ mod runs;
 pub mod script;
 mod sound;
 mod spoilt;
+pub mod voices;

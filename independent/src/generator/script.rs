@@ -31,7 +31,7 @@ pub fn write_script(
 
 /// Chance for the rates on start lines alone, so that all else of a script is
 /// what it would be without them; other kinds have others.
-fn rates_of(kind: &Kind, seed: u64) -> Random {
+pub(super) fn rates_of(kind: &Kind, seed: u64) -> Random {
     let bytes = kind.name.bytes().map(u64::from);
     Random::seeded(bytes.fold(!seed, |mixed, byte| mixed.rotate_left(8) ^ byte))
 }
