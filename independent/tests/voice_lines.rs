@@ -77,7 +77,7 @@ fn lines_that_choose_voices() {
     let bad = "voices 13\nstart 0 200 0 100\nvoices 13\nstart 1 1 0 1 1\nvoices 13\n";
     assert_eq!(lines_answered(bad), "0\n8\n0\n16\n0\n");
     let long = format!("voices{}", "\t1".repeat(4_094));
-    assert_eq!(text(answers_with_voices(long[..8_192].as_bytes())), "0\n");
+    assert_eq!(text(answers_with_voices(&long.as_bytes()[..8_192])), "0\n");
     assert_eq!(text(answers_with_voices(long.as_bytes())), "10\n");
 }
 

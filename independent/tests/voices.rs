@@ -546,6 +546,35 @@ fn keys_count_from_the_next_step() {
     assert_eq!(sounds, [false, false, false, false, true]);
 }
 
+/// A voice sings what the lead alone would sing under the keys of the voice's notes,
+/// as long as tracking lasts and the lead's raw rate is in its bounds.
+#[test]
+fn a_voice_sings_as_a_lead_under_its_own_keys() {
+    let take = tone(104.0, 6_000);
+    for (hertz, lowest) in [(CD, 69), (FILM, 70)] {
+        for interval in -12..=9 {
+            let sing = |intervals: &[i32], higher: i32| {
+                let mut ensemble = started(hertz, keyboard(), intervals);
+                let mut given = Vec::new();
+                for (number, stretch) in (0..).zip(take.chunks(501)) {
+                    let key = lowest + i32::from(number % 3) + higher;
+                    midi(&mut ensemble, &[144, key as u8, 100]);
+                    given.push(block(&mut ensemble, number, stretch).1);
+                }
+                let pitched = first_pitched(&ensemble.lead);
+                assert!(pitched.len() > 5_000 && pitched.end == take.len());
+                (pitched, given)
+            };
+            let (pitched, beside) = sing(&[interval], 0);
+            let (_, alone) = sing(&[], interval);
+            let voice = beside.iter().flat_map(|given| &given.voices[0]);
+            let lead = alone.iter().flat_map(|given| &given.lead);
+            let same = voice.zip(lead).skip(pitched.start).all(|(a, b)| a == b);
+            assert!(same, "{interval} at {hertz}");
+        }
+    }
+}
+
 /// An answer to a block with this room in each output, the voices' too.
 fn in_room(
     ensemble: &mut Ensemble,
