@@ -110,7 +110,7 @@ beside-in-bounds {f} r interval {t} {at} x h b =
     subst (λ (n : ℕ). InBounds (suc (t .count)) (voiced n (s .next .sound) rate (o .period) at .position)) (sym (next-count f t x))
     (voiced-in-bounds (t .count) (s .next .sound) rate (o .period) (rate-kept (r .hertz) interval tracked) b)
 
-pub voice-bounds : VoiceBounds
+pub voice-bounds : (f : InForce) (interval : ℕ) (t : Take) (at : ℤ) (xs : List ℤ) → ForceIn f → Sane t → InBounds (t .count) at → InBounds (t .count + length xs) (voiceAfter f interval t at xs)
 unfolding voiceAfter
 voice-bounds f interval t at [] r h b = subst (λ (n : ℕ). InBounds n at) (sym (add-zero (t .count))) b
 voice-bounds f interval t at (x ∷ xs) r h b =
@@ -119,3 +119,6 @@ voice-bounds f interval t at (x ∷ xs) r h b =
     let e = next-count f t x in
     subst (λ (n : ℕ). InBounds n (voiceAfter f interval (s .next) (v .position) xs)) (ap (λ (n : ℕ). n + length xs) e ∙ omega arith)
     (voice-bounds f interval (s .next) (v .position) xs r (stepped-sane r h x) (subst (λ (n : ℕ). InBounds n (v .position)) (sym e) (beside-in-bounds r interval x h b)))
+
+pub always-in-bounds : VoiceBounds
+always-in-bounds f interval t at xs r p h b = voice-bounds f interval t at xs r (record { pitch = p; bounds = h }) b

@@ -1,4 +1,4 @@
--- Backing voices, in the words of change request K13: a voice beside the lead is a fold over what the rules give for each sample of the lead. Definitions only, and three statements (`VoiceAccount`, `VoiceBounds`, `VoiceCutting`); their proofs are `voice-account`, `voice-bounds` and `voice-cutting` in Accompanying.antt.
+-- Backing voices, in the words of change request K13: a voice beside the lead is a fold over what the rules give for each sample of the lead. Definitions only, and three statements (`VoiceAccount`, `VoiceBounds`, `VoiceCutting`); their proofs are `voice-account`, `always-in-bounds` and `voice-cutting` in Accompanying.antt.
 use mathlib.Core.Bool.{cond, _&&_, _||_}
 use mathlib.Core.Path.{_≡_}
 use mathlib.Core.List.{List, [], _∷_, _++_}
@@ -8,8 +8,7 @@ use lib.IntN.{ℤ, pos, _+ℤ_, _-ℤ_}
 use lib.ListN.{length}
 use Rattle.rules.specs.declared.InForce.{InForce}
 use Rattle.rules.specs.Rules.{Sound, Take, Step, noNote, wantedPeriod, rawRate, inputAt, cycles, growth, reading, stepped, after}
-use Rattle.rules.specs.Facts.{ForceIn, InBounds}
-use Rattle.rules.specs.Sane.{Sane}
+use Rattle.rules.specs.Facts.{ForceIn, PitchIn, InBounds}
 
 -- ---- note and rate of a voice
 
@@ -109,7 +108,8 @@ VoiceAccount =
 -- it is never ahead of the input nor over 1,000 samples behind: in bounds it stays so after any samples, at rates from 1,201 to 3,556,721 where it sounds
 abbrev pub VoiceBounds : Type 0
 VoiceBounds =
-    (f : InForce) (interval : ℕ) (t : Take) (at : ℤ) (xs : List ℤ) → ForceIn f → Sane t → InBounds (t .count) at → InBounds (t .count + length xs) (voiceAfter f interval t at xs)
+    (f : InForce) (interval : ℕ) (t : Take) (at : ℤ) (xs : List ℤ)
+    → ForceIn f → PitchIn (t .pitch) → InBounds (t .count) (t .position) → InBounds (t .count) at → InBounds (t .count + length xs) (voiceAfter f interval t at xs)
 
 -- however the samples are cut
 abbrev pub VoiceCutting : Type 0
