@@ -121,6 +121,34 @@ pub data ChoirTook (c : Choir) (k : ℕ) (xs ys : List ℤ) (o : Outs) (store : 
   record-out-of-range : (ChoirGood c → ⊥) → c′ ≡ c → a ≡ listAnswer (plain 9) (c .list) → ys′ ≡ ys → o′ ≡ o → store′ ≡ store → ChoirTook c k xs ys o store c′ a ys′ o′ store′
   by-number : ChoirGood c → Judged c k xs ys o store c′ a ys′ o′ store′ → ChoirTook c k xs ys o store c′ a ys′ o′ store′
 
+-- ---- a further voice changes nothing
+
+-- the first j voices are the same, and so are the first j outputs
+pub record SameVoices (j : ℕ) (vs ws : Voices) : Type 0 where
+  pub first : 0 < j → vs .first ≡ ws .first
+  pub second : 1 < j → vs .second ≡ ws .second
+  pub third : 2 < j → vs .third ≡ ws .third
+
+pub record SameOuts (j : ℕ) (o p : Outs) : Type 0 where
+  pub first : 0 < j → o .first ≡ p .first
+  pub second : 1 < j → o .second ≡ p .second
+  pub third : 2 < j → o .third ≡ p .third
+
+-- two choirs with the same lead and list, in which j voices at least are chosen, the first j the same
+pub record SameUpTo (j : ℕ) (c d : Choir) : Type 0 where
+  pub tuner : c .tuner ≡ d .tuner
+  pub list : c .list ≡ d .list
+  pub voices : SameVoices j (c .voices) (d .voices)
+  pub chosen : j ≤ c .voices .count
+  pub beside : j ≤ d .voices .count
+
+-- over the same block, answered with the same number, lead, list and the first j voices stay the same, and so do their outputs, whatever voices there are further
+abbrev pub FurtherVoice : Type 0
+FurtherVoice =
+    (j : ℕ) (c d c′ d′ : Choir) (k : ℕ) (xs ys ys₁ ys₂ : List ℤ) (o p o′ p′ : Outs) (store store₁ store₂ : List ℕ) (a b : ListAnswer)
+    → SameUpTo j c d → SameOuts j o p → (m : Judged c k xs ys o store c′ a ys₁ o′ store₁) (n : Judged d k xs ys p store d′ b ys₂ p′ store₂) → m .number ≡ n .number
+    → SameUpTo j c′ d′ × SameOuts j o′ p′ × (a ≡ b) × (ys₁ ≡ ys₂) × (store₁ ≡ store₂)
+
 -- ---- where voices begin
 
 -- an interval of -12 to 12 semitones is kept as 0 to 24; any other as 25, which is none

@@ -2,3 +2,4 @@ pub mod Choirs
 pub mod Beside
 pub mod Parts
 pub mod Beginnings
+pub mod Leads

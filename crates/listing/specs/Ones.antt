@@ -28,7 +28,7 @@ list-reset-one (begun-anew g r e f) (record-out-of-range m e′ f′) = absurd (
 list-reset-one (begun-anew g r e f) (no-room g′ r′ e′ f′) = absurd (omega arith)
 list-reset-one (begun-anew g r e f) (begun-anew g′ r′ e′ f′) = (e ∙ sym e′, f ∙ sym f′)
 
-listed-one : {t : Tuner} {xs : List ℤ} {l l₁ l₂ : Listing} {s s₁ s₂ : List ℕ} {v : ℕ} → ListedBy t xs l s l₁ s₁ v → ListedBy t xs l s l₂ s₂ v → (l₁ ≡ l₂) × (s₁ ≡ s₂)
+pub listed-one : {t : Tuner} {xs : List ℤ} {l l₁ l₂ : Listing} {s s₁ s₂ : List ℕ} {v : ℕ} → ListedBy t xs l s l₁ s₁ v → ListedBy t xs l s l₂ s₂ v → (l₁ ≡ l₂) × (s₁ ≡ s₂)
 listed-one (goes-on e) (goes-on f) = let q = e ∙ sym f in (ap (λ (k : Sheet). k .listing) q, ap (λ (k : Sheet). k .store) q)
 listed-one (goes-on e) (as-it-was h f w) = absurd (omega arith)
 listed-one (as-it-was h e w) (goes-on f) = absurd (omega arith)
