@@ -121,7 +121,7 @@ lead-alone {c} {c′} {k} {xs} {ys} {ys′} {o} {o′} {store} {store′} {a} g 
     as-plain (g .0) took (subst (ListedBy (c .tuner) xs (c .list) store (c′ .list) store′) (took-number took) (m .list)) (m .answer ∙ ap (λ (x : Answer). listAnswer x (c′ .list)) (sym same))
 
 -- ---- a further voice
-sung-chosen : {i chosen : ℕ} (t : Tuner) (xs : List ℤ) (v : Voice) → i < chosen → sungBy i chosen t xs v ≡ voiceAfterBlock t xs v
+pub sung-chosen : {i chosen : ℕ} (t : Tuner) (xs : List ℤ) (v : Voice) → i < chosen → sungBy i chosen t xs v ≡ voiceAfterBlock t xs v
 unfolding sungBy
 sung-chosen {i} {chosen} t xs v h = cond-yes (voiceAfterBlock t xs v) v (lt-ltb i chosen h)
 

@@ -3,3 +3,4 @@ pub mod Beside
 pub mod Parts
 pub mod Beginnings
 pub mod Leads
+pub mod Goods
