@@ -149,6 +149,31 @@ FurtherVoice =
     → SameUpTo j c d → SameOuts j o p → (m : Judged c k xs ys o store c′ a ys₁ o′ store₁) (n : Judged d k xs ys p store d′ b ys₂ p′ store₂) → m .number ≡ n .number
     → SameUpTo j c′ d′ × SameOuts j o′ p′ × (a ≡ b) × (ys₁ ≡ ys₂) × (store₁ ≡ store₂)
 
+-- blocks one after the other to two choirs, the same blocks to both, all taken
+pub data AllTaken : (c d c′ d′ : Choir) → Type 0 where
+  none : {c d : Choir} → AllTaken c d c d
+  and-then : {c d c₁ d₁ c₂ d₂ : Choir} {k : ℕ} {xs ys ys₁ ys₂ : List ℤ} {o p o′ p′ : Outs} {store store₁ store₂ : List ℕ} {a b : ListAnswer}
+      → AllTaken c d c₁ d₁ → (m : Judged c₁ k xs ys o store c₂ a ys₁ o′ store₁) (n : Judged d₁ k xs ys p store d₂ b ys₂ p′ store₂) → m .number ≡ 0 → n .number ≡ 0 → AllTaken c d c₂ d₂
+
+-- over the same blocks, all taken, a further voice changes nothing in the lead or another voice
+abbrev pub FurtherVoices : Type 0
+FurtherVoices = (j : ℕ) (c d c′ d′ : Choir) → AllTaken c d c′ d′ → SameUpTo j c d → SameUpTo j c′ d′
+
+-- ---- a block sent again
+
+-- the outputs of the chosen voices begin with the same n samples
+pub record SameStart (chosen n : ℕ) (o p : Outs) : Type 0 where
+  pub first : 0 < chosen → take n (o .first) ≡ take n (p .first)
+  pub second : 1 < chosen → take n (o .second) ≡ take n (p .second)
+  pub third : 2 < chosen → take n (o .third) ≡ take n (p .third)
+
+-- a block taken, and then given again: all voices' outputs are given again, and lead, list and voices stay
+abbrev pub VoicesAgain : Type 0
+VoicesAgain =
+    (c c′ c″ : Choir) (k : ℕ) (xs ys ys₁ zs zs₁ : List ℤ) (o o′ p p′ : Outs) (store store₁ rows rows₁ : List ℕ) (a b : ListAnswer)
+    → (m : Judged c k xs ys o store c′ a ys₁ o′ store₁) (n : Judged c′ k xs zs p rows c″ b zs₁ p′ rows₁) → m .number ≡ 0 → n .number ≡ 1
+    → (c″ ≡ c′) × SameStart (c′ .voices .count) (length xs) p′ o′ × (rows₁ ≡ rows)
+
 -- ---- where voices begin
 
 -- an interval of -12 to 12 semitones is kept as 0 to 24; any other as 25, which is none

@@ -1,28 +1,32 @@
 -- No second answer to a choir's calls; its lead is the lead alone, whatever voices there are; and a further voice changes nothing in lead, list or another voice.
 use mathlib.Core.Path.{_≡_, refl, sym, ap, _∙_, subst, transport}
 use mathlib.Core.Bool.{Bool, true, false, cond}
-use mathlib.Core.List.{List, _++_}
-use Prim.Native.Nat.{ℕ, _≤_, _<_}
+use mathlib.Core.List.{List, [], _∷_, _++_}
+use Prim.Native.Nat.{ℕ, suc, _≤_, _<_}
 use native.Mathlib.Omega.{arith}
 use borrow.Author.Tests.{lt-ltb, ltb-true, ltb-false, leb-true, leb-false, eqb-true, eqb-false}
 use lib.Dec.{leb, ltb, eqb}
 use lib.IntN.{ℤ}
-use lib.ListN.{length, take, drop}
+use lib.ListN.{length, take, drop, length-append, length-drop, length-replicate}
+use lib.Seq.{take-at, length-take-le}
 use Rattle.whole.specs.Tests.{by, cond-yes, yes-and-no}
 use Rattle.rules.specs.declared.Settings.{Settings}
+use Rattle.rules.specs.declared.InForce.{InForce}
+use Rattle.rules.specs.Rules.{Take}
+use Rattle.voices.specs.Voices.{voiceGives, voiceOuts}
 use Rattle.answers.specs.declared.Answer.{Answer}
 use Rattle.tuner.specs.declared.Tuner.{Tuner}
 use Rattle.tuner.specs.Tuners.{Fits, Verdict, record-out-of-range, block-empty, block-over-512, output-short, number-neither, other-samples, given-again, take-full, taken, tunerBy, answerBy, outBy, Took}
-use Rattle.tuner.specs.Verdicts.{verdict-one}
+use Rattle.tuner.specs.Verdicts.{verdict-one, verdict-fits, tuner-kept}
 use Rattle.staying.specs.Staying.{took-number}
 use Rattle.lists.specs.declared.Listing.{Listing}
 use Rattle.listing.specs.declared.ListAnswer.{ListAnswer}
-use Rattle.listing.specs.Listings.{listTuner, listAnswer, ListedBy, ListTook, as-plain}
+use Rattle.listing.specs.Listings.{listTuner, listAnswer, ListedBy, goes-on, as-it-was, ListTook, as-plain}
 use Rattle.listing.specs.Ones.{listed-one}
 use Rattle.choir.specs.declared.Voice.{Voice}
 use Rattle.choir.specs.declared.Voices.{Voices}
 use Rattle.choir.specs.declared.Choir.{Choir}
-use Rattle.choir.specs.Choirs.{ChoirGood, Outs, roomWith, leastRoom, voiceAfterBlock, sungBy, allSung, writtenBy, allWritten, voicesBy, outsBy, Judged, ChoirTook, record-out-of-range, by-number, SameVoices, SameOuts, SameUpTo, FurtherVoice, ChoirStarted, ChoirReset, no-room, begun-anew}
+use Rattle.choir.specs.Choirs.{ChoirGood, Outs, roomWith, leastRoom, voiceAfterBlock, sungBy, allSung, writtenBy, allWritten, voicesBy, outsBy, Judged, ChoirTook, record-out-of-range, by-number, SameVoices, SameOuts, SameUpTo, FurtherVoice, AllTaken, none, and-then, FurtherVoices, SameStart, VoicesAgain, ChoirStarted, ChoirReset, no-room, begun-anew}
 use Rattle.choir.specs.Parts.{room-less, room-more, room-beyond, all-fit, voices-taken, voices-kept, voices-count, outs-given, outs-kept, written-chosen}
 
 -- ---- no second answer
@@ -161,18 +165,81 @@ module _ (j : ℕ) {vs ws : Voices} (h : j ≤ vs .count) (k : j ≤ ws .count) 
       (λ e. let z = leb-true v 1 e in transport (λ i. SameOuts j (sym (outs-given v n vs o z) i) (sym (outs-given v n ws p z) i)) (all-written-same n q))
       (λ e. let z = leb-false v 1 e in transport (λ i. SameOuts j (sym (outs-kept v n vs o z) i) (sym (outs-kept v n ws p z) i)) q)
 
-pub further-voice : FurtherVoice
-further-voice j c d c′ d′ k xs ys ys₁ ys₂ o p o′ p′ store store₁ store₂ a b s q m n e =
-    let t = m .tuner ∙ (λ i. tunerBy (e i) (s .tuner i) k xs) ∙ sym (n .tuner) in
+-- what stays the same of the choirs, and of their lists' stores
+same-on : (j : ℕ) {c d c′ d′ : Choir} {k : ℕ} {xs ys ys₁ ys₂ : List ℤ} {o p o′ p′ : Outs} {store store₁ store₂ : List ℕ} {a b : ListAnswer} → SameUpTo j c d
+    → (m : Judged c k xs ys o store c′ a ys₁ o′ store₁) (n : Judged d k xs ys p store d′ b ys₂ p′ store₂) → m .number ≡ n .number → SameUpTo j c′ d′ × (store₁ ≡ store₂)
+same-on j {c} {d} {c′} {d′} {k} {xs} {store = store} {store₁ = store₁} s m n e =
     let l = listed-one (transport (λ i. ListedBy (s .tuner i) xs (s .list i) store (c′ .list) store₁ (e i)) (m .list)) (n .list) in
     let more = m .voices ∙ (λ i. voicesBy (e i) (s .tuner i) xs (c .voices)) in
     let chosen = ap (λ (vs : Voices). vs .count) more ∙ voices-count (n .number) (d .tuner) xs (c .voices) in
-    let beside = ap (λ (vs : Voices). vs .count) (n .voices) ∙ voices-count (n .number) (d .tuner) xs (d .voices) in
-    let voices = transport (λ i. SameVoices j (sym more i) (sym (n .voices) i)) (voices-same j (s .chosen) (s .beside) (s .voices) (n .number) (d .tuner) xs) in (
-      record { tuner = t; list = l .0; voices = voices; chosen = omega (arith, chosen, s .chosen); beside = omega (arith, beside, s .beside) },
-      transport (λ i. SameOuts j (sym (m .outs ∙ (λ h. outsBy (e h) (length xs) (c′ .voices) o)) i) (sym (n .outs) i))
-          (outs-same j (omega (arith, chosen, s .chosen)) (omega (arith, beside, s .beside)) voices (n .number) (length xs) q),
-      m .answer ∙ (λ i. listAnswer (answerBy (e i) (s .tuner i) k xs) (l .0 i)) ∙ sym (n .answer),
-      m .out ∙ (λ i. outBy (e i) (s .tuner i) k xs ys) ∙ sym (n .out),
+    let beside = ap (λ (vs : Voices). vs .count) (n .voices) ∙ voices-count (n .number) (d .tuner) xs (d .voices) in (
+      record {
+        tuner = m .tuner ∙ (λ i. tunerBy (e i) (s .tuner i) k xs) ∙ sym (n .tuner);
+        list = l .0;
+        voices = transport (λ i. SameVoices j (sym more i) (sym (n .voices) i)) (voices-same j (s .chosen) (s .beside) (s .voices) (n .number) (d .tuner) xs);
+        chosen = omega (arith, chosen, s .chosen);
+        beside = omega (arith, beside, s .beside);
+      },
       l .1,
     )
+
+pub further-voice : FurtherVoice
+further-voice j c d c′ d′ k xs ys ys₁ ys₂ o p o′ p′ store store₁ store₂ a b s q m n e =
+    let r = same-on j s m n e in (
+      r .0,
+      transport (λ i. SameOuts j (sym (m .outs ∙ (λ h. outsBy (e h) (length xs) (c′ .voices) o)) i) (sym (n .outs) i))
+          (outs-same j (r .0 .chosen) (r .0 .beside) (r .0 .voices) (n .number) (length xs) q),
+      m .answer ∙ (λ i. listAnswer (answerBy (e i) (s .tuner i) k xs) (r .0 .list i)) ∙ sym (n .answer),
+      m .out ∙ (λ i. outBy (e i) (s .tuner i) k xs ys) ∙ sym (n .out),
+      r .1,
+    )
+
+pub further-voices : FurtherVoices
+further-voices j c d c′ d′ none s = s
+further-voices j c d c′ d′ (and-then {c₁ = c₁} {d₁ = d₁} before m n e f) s = same-on j (further-voices j c d c₁ d₁ before s) m n (e ∙ sym f) .0
+
+-- ---- a block sent again
+again-starts : {j chosen : ℕ} (n : ℕ) (v : Voice) (ys : List ℤ) → j < chosen → n ≤ 512 → length (v .out) ≡ 512 → take n (writtenBy j chosen n v ys) ≡ take n (v .out)
+again-starts {j} {chosen} n v ys h k l = ap (take n) (written-chosen j chosen n v ys h) ∙ take-at (take n (v .out)) (drop n ys) n (length-take-le n (v .out) (omega arith))
+
+-- written twice, it begins with the same samples
+twice : {j chosen : ℕ} (n : ℕ) (v : Voice) (ys zs : List ℤ) {ys′ zs′ : List ℤ} → ys′ ≡ writtenBy j chosen n v ys → zs′ ≡ writtenBy j chosen n v zs → j < chosen → n ≤ 512 → length (v .out) ≡ 512 → take n ys′ ≡ take n zs′
+twice n v ys zs e f h k l = ap (take n) e ∙ again-starts n v ys h k l ∙ sym (ap (take n) f ∙ again-starts n v zs h k l)
+
+-- what a voice keeps of a block that it sang is as long as the longest block
+outs-many : (f : InForce) (interval : ℕ) (t : Take) (at : ℤ) (xs : List ℤ) → length (voiceOuts (voiceGives f interval t at xs)) ≡ length xs
+unfolding voiceOuts voiceGives
+outs-many f interval t at [] = refl
+outs-many f interval t at (x ∷ xs) = ap suc (outs-many f interval _ _ xs)
+
+kept-long : {j chosen : ℕ} (t : Tuner) (xs : List ℤ) (v : Voice) → length xs ≤ 512 → j < chosen → length (sungBy j chosen t xs v .out) ≡ 512
+unfolding voiceAfterBlock
+kept-long t xs v h k =
+    ap (λ (w : Voice). length (w .out)) (sung-chosen t xs v k)
+    ∙ simp (length-append, outs-many, length-drop, length-replicate) (omega arith)
+
+pub voices-again : VoicesAgain
+voices-again c c′ c″ k xs ys ys₁ zs zs₁ o o′ p p′ store store₁ rows rows₁ a b m n e f =
+    let sung = m .voices ∙ voices-taken (m .number) (c .tuner) xs (c .voices) e in
+    let chosen : c′ .voices .count ≡ c .voices .count = ap (λ (vs : Voices). vs .count) sung in
+    let fits = verdict-fits (m .verdict) (omega arith) in
+    let t = n .tuner ∙ tuner-kept (c′ .tuner) k xs (λ z. omega arith) in
+    let w = n .voices ∙ voices-kept (n .number) (c′ .tuner) xs (c′ .voices) (λ z. omega arith) in
+    let l = stays (omega (arith, f)) (n .list) in
+    let before = m .outs ∙ outs-given (m .number) (length xs) (c′ .voices) o (omega arith) in
+    let now = n .outs ∙ ap (λ (vs : Voices). outsBy (n .number) (length xs) vs p) w ∙ outs-given (n .number) (length xs) (c′ .voices) p (omega arith) in (
+      (λ i. record { tuner = t i; list = l .0 i; voices = w i }),
+      record {
+        first = λ h. let long = ap (λ (vs : Voices). length (vs .first .out)) sung ∙ kept-long (c .tuner) xs (c .voices .first) (fits .most) (omega (arith, chosen, h)) in
+            twice (length xs) (c′ .voices .first) (p .first) (o .first) (ap (λ (q : Outs). q .first) now) (ap (λ (q : Outs). q .first) before) h (fits .most) long;
+        second = λ h. let long = ap (λ (vs : Voices). length (vs .second .out)) sung ∙ kept-long (c .tuner) xs (c .voices .second) (fits .most) (omega (arith, chosen, h)) in
+            twice (length xs) (c′ .voices .second) (p .second) (o .second) (ap (λ (q : Outs). q .second) now) (ap (λ (q : Outs). q .second) before) h (fits .most) long;
+        third = λ h. let long = ap (λ (vs : Voices). length (vs .third .out)) sung ∙ kept-long (c .tuner) xs (c .voices .third) (fits .most) (omega (arith, chosen, h)) in
+            twice (length xs) (c′ .voices .third) (p .third) (o .third) (ap (λ (q : Outs). q .third) now) (ap (λ (q : Outs). q .third) before) h (fits .most) long;
+      },
+      l .1,
+    )
+  where
+    stays : {t : Tuner} {xs : List ℤ} {l l′ : Listing} {s s′ : List ℕ} {v : ℕ} → 0 < v → ListedBy t xs l s l′ s′ v → (l′ ≡ l) × (s′ ≡ s)
+    stays h (goes-on q) = absurd (omega arith)
+    stays h (as-it-was z q r) = (q, r)
