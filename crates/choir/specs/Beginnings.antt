@@ -1,19 +1,16 @@
 -- Laws of intervals, and of the numbers where voices begin.
-use mathlib.Core.Path.{_≡_, refl, sym, ap, _∙_, subst}
-use mathlib.Core.Bool.{Bool, true, false, cond, _&&_, _||_}
-use mathlib.Core.List.{List, [], _∷_}
-use Prim.Native.Nat.{ℕ, zero, suc, _+_, _-_, _≤_, _<_}
+use mathlib.Core.Path.{_≡_, sym, ap, _∙_}
+use mathlib.Core.Bool.{Bool, true, false, _||_}
+use mathlib.Core.List.{List, []}
+use Prim.Native.Nat.{ℕ, _-_, _≤_, _<_}
 use native.Mathlib.Omega.{arith}
-use borrow.Author.Tests.{eq-eqb, ne-eqb, eqb-true, eqb-false, le-leb, lt-leb, lt-ltb, le-ltb, ltb-false}
-use lib.Dec.{T, leb, ltb, eqb}
-use lib.IntN.{ℤ, pos, negsuc, negℤ, natAbs, _+ℤ_}
-use lib.ListN.{length, drop, getD, List·getD-eq-default}
-use lib.Seq.{drop-cons, drop-length}
-use lib.Signed.{ltZ, nonNeg}
+use borrow.Author.Tests.{eq-eqb, ne-eqb, eqb-true, eqb-false, le-leb, lt-leb, lt-ltb, le-ltb}
+use lib.Dec.{ltb, eqb}
+use lib.IntN.{ℤ}
+use lib.ListN.{length}
 use Rattle.whole.specs.Tests.{Decides, by, cond-yes, cond-no}
-use Rattle.whole.specs.Bounds.{minus-down}
 use Rattle.rules.specs.declared.Settings.{Settings}
-use Rattle.rules.specs.Rules.{startNumber, defaults, cdRate, refuse}
+use Rattle.rules.specs.Rules.{startNumber, defaults, cdRate}
 use Rattle.answers.specs.declared.Answer.{Answer}
 use Rattle.answers.specs.Numbering.{plain}
 use Rattle.lists.specs.Lists.{room, emptyListing}
@@ -22,51 +19,9 @@ use Rattle.tuner.specs.Tuners.{freshTuner, defaultTuner, Started}
 use Rattle.tuner.specs.Starts.{start-taken, default-start-taken}
 use Rattle.listing.specs.declared.ListAnswer.{ListAnswer}
 use Rattle.listing.specs.Listings.{listAnswer}
-use Rattle.choir.specs.declared.Voices.{Voices}
 use Rattle.choir.specs.declared.Choir.{Choir}
-use Rattle.choir.specs.Choirs.{keptInterval, allInRange, chosenVoices, beginning, roomy, choirNumber, ChoirStarted}
-
--- ---- one interval
-module _ (z : ℤ) where
-  pub interval-below : ltZ z (negℤ (pos 12)) ≡ true → keptInterval z ≡ 25
-  unfolding keptInterval
-  interval-below e = cond-yes 25 (natAbs (pos 12 +ℤ z)) (ap (λ (b : Bool). b || ltZ (pos 12) z) e)
-
-  module _ (e : ltZ z (negℤ (pos 12)) ≡ false) where
-    pub interval-above : ltZ (pos 12) z ≡ true → keptInterval z ≡ 25
-    unfolding keptInterval
-    interval-above f = cond-yes 25 (natAbs (pos 12 +ℤ z)) (ap (λ (b : Bool). b || ltZ (pos 12) z) e ∙ f)
-
-    pub interval-is : ltZ (pos 12) z ≡ false → keptInterval z ≡ natAbs (pos 12 +ℤ z)
-    unfolding keptInterval
-    interval-is f = cond-no 25 (natAbs (pos 12 +ℤ z)) (ap (λ (b : Bool). b || ltZ (pos 12) z) e ∙ f)
-
--- in range, it is kept as no negative number, which is at most 24
-pub kept-up : (z : ℤ) → ltZ z (negℤ (pos 12)) ≡ false → ltZ (pos 12) z ≡ false → T (nonNeg (pos 12 +ℤ z)) × (natAbs (pos 12 +ℤ z) ≤ 24) × (natAbs z ≤ 12)
-kept-up (pos n) e f = let q = ltb-false 12 n f in (tt, omega arith, omega arith)
-kept-up (negsuc n) e f =
-    let q = ltb-false 11 n e in
-    let down = minus-down 12 (suc n) (omega arith) in
-    (subst (λ (y : ℤ). T (nonNeg y)) (sym down) tt, subst (λ (y : ℤ). natAbs y ≤ 24) (sym down) (omega arith), omega arith)
-
--- past the last it is none: in unison
-pub interval-none : (zs : List ℤ) (j : ℕ) → length zs ≤ j → keptInterval (getD zs j (pos 0)) ≡ 12
-unfolding keptInterval
-interval-none zs j h = ap keptInterval (List·getD-eq-default zs (pos 0) {n = j} h)
-
--- ---- all of them, from a place on
-module _ (zs : List ℤ) (i : ℕ) (h : i < length zs) where
-  pub range-out : 24 < keptInterval (getD zs i (pos 0)) → allInRange (drop i zs) ≡ false
-  unfolding allInRange
-  range-out l = ap allInRange (drop-cons zs i (pos 0) h) ∙ ap (λ (b : Bool). b && allInRange (drop (suc i) zs)) (lt-leb _ 24 l)
-
-  pub range-on : keptInterval (getD zs i (pos 0)) ≤ 24 → allInRange (drop i zs) ≡ allInRange (drop (suc i) zs)
-  unfolding allInRange
-  range-on l = ap allInRange (drop-cons zs i (pos 0) h) ∙ ap (λ (b : Bool). b && allInRange (drop (suc i) zs)) (le-leb _ 24 l)
-
-pub range-end : (zs : List ℤ) → allInRange (drop (length zs) zs) ≡ true
-unfolding allInRange
-range-end zs = ap allInRange (drop-length zs)
+use Rattle.singers.specs.Singers.{allInRange, chosenVoices}
+use Rattle.choir.specs.Choirs.{beginning, roomy, choirNumber, ChoirStarted}
 
 -- ---- room for the list
 pub roomy-none : {n : ℕ} → n ≡ 0 → roomy n ≡ true

@@ -22,7 +22,7 @@ use Rattle.copying.specs.Copies.{take-drop}
 use Rattle.record.specs.Records.{soundOf}
 use Rattle.tuner.specs.Taking.{kept-age}
 use Rattle.voices.specs.Voices.{voiceRate, Voiced, voiced, voicedBy, voiceAfter, voiceGives, voiceOuts}
-use Rattle.voices.specs.Singing.{Tracked, TrackedAll, singNext, singAfter, singOuts, Sang}
+use Rattle.voices.specs.Singing.{TrackedAll, singNext, singAfter, singOuts, Sang}
 use Rattle.voices.specs.Accompanying.{voice-cutting, tone-tracked, beside-in-bounds, voice-bounds}
 
 -- ---- one sample: sounds that are the same where a voice reads are voiced alike

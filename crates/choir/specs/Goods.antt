@@ -1,6 +1,6 @@
 -- Every call leaves a good choir good: a start whatever it is given, a reset and a block where it was good before.
 use mathlib.Core.Path.{_≡_, refl, sym, ap, _∙_, subst, transport}
-use mathlib.Core.Bool.{Bool, true, false, cond, _&&_}
+use mathlib.Core.Bool.{true}
 use mathlib.Core.List.{List, [], _∷_}
 use Prim.Native.Nat.{ℕ, zero, suc, _+_, _≤_, _<_}
 use native.Mathlib.Omega.{arith}
@@ -17,18 +17,18 @@ use Rattle.voices.specs.Accompanying.{voice-bounds}
 use Rattle.lists.specs.declared.Listing.{Listing}
 use Rattle.lists.specs.Lists.{emptyListing, sungNote, sheet, Sheet, ListingIn}
 use Rattle.lists.specs.Folds.{empty-in, afterNotes-in}
-use Rattle.answers.specs.Numbering.{plain}
 use Rattle.record.specs.Records.{freshHeard}
 use Rattle.tuner.specs.declared.Tuner.{Tuner}
-use Rattle.tuner.specs.Tuners.{takeOf, forceOf, Good, freshTuner, defaultTuner, heardAfter, afterBlock, Verdict, tunerBy, answerBy, outBy, Took, Started}
+use Rattle.tuner.specs.Tuners.{takeOf, forceOf, Good, freshTuner, defaultTuner, heardAfter, afterBlock, Verdict, tunerBy, answerBy, outBy, Took}
 use Rattle.tuner.specs.Verdicts.{tuner-taken, tuner-kept}
 use Rattle.staying.specs.Staying.{Lengths, good-force, good-sane, good-fresh, fresh-lengths, took-good, started-good, default-good}
 use Rattle.listing.specs.declared.ListAnswer.{ListAnswer}
 use Rattle.listing.specs.Listings.{blockNotes, ListedBy, goes-on, as-it-was}
-use Rattle.choir.specs.declared.Voice.{Voice}
-use Rattle.choir.specs.declared.Voices.{Voices}
+use Rattle.singers.specs.declared.Voice.{Voice}
+use Rattle.singers.specs.declared.Voices.{Voices}
 use Rattle.choir.specs.declared.Choir.{Choir}
-use Rattle.choir.specs.Choirs.{beginning, roomy, VoiceIn, VoicesIn, ChoirGood, Outs, leastRoom, standsAt, voiceAfterBlock, sungBy, allSung, voicesBy, Judged, ChoirTook, record-out-of-range, by-number, keptInterval, allInRange, levelVoice, chosenVoices, levelVoices, choirNumber, ChoirStarted, ChoirReset, no-room, begun-anew}
+use Rattle.singers.specs.Singers.{VoiceIn, VoicesIn, Outs, leastRoom, keptInterval, allInRange, levelVoice, chosenVoices, levelVoices}
+use Rattle.choir.specs.Choirs.{beginning, roomy, ChoirGood, standsAt, voiceAfterBlock, sungBy, voicesBy, Judged, ChoirTook, record-out-of-range, by-number, choirNumber, ChoirStarted, ChoirReset, no-room, begun-anew}
 use Rattle.choir.specs.Parts.{voices-taken, voices-kept}
 use Rattle.choir.specs.Beginnings.{own-zero, number-17, number-18, number-19}
 use Rattle.choir.specs.Leads.{sung-chosen}

@@ -1,6 +1,5 @@
 -- No second answer to a choir's calls; its lead is the lead alone, whatever voices there are; and a further voice changes nothing in lead, list or another voice.
 use mathlib.Core.Path.{_≡_, refl, sym, ap, _∙_, subst, transport}
-use mathlib.Core.Bool.{Bool, true, false, cond}
 use mathlib.Core.List.{List, [], _∷_, _++_}
 use Prim.Native.Nat.{ℕ, suc, _≤_, _<_}
 use native.Mathlib.Omega.{arith}
@@ -23,11 +22,13 @@ use Rattle.lists.specs.declared.Listing.{Listing}
 use Rattle.listing.specs.declared.ListAnswer.{ListAnswer}
 use Rattle.listing.specs.Listings.{listTuner, listAnswer, ListedBy, goes-on, as-it-was, ListTook, as-plain}
 use Rattle.listing.specs.Ones.{listed-one}
-use Rattle.choir.specs.declared.Voice.{Voice}
-use Rattle.choir.specs.declared.Voices.{Voices}
+use Rattle.singers.specs.declared.Voice.{Voice}
+use Rattle.singers.specs.declared.Voices.{Voices}
 use Rattle.choir.specs.declared.Choir.{Choir}
-use Rattle.choir.specs.Choirs.{ChoirGood, Outs, roomWith, leastRoom, voiceAfterBlock, sungBy, allSung, writtenBy, allWritten, voicesBy, outsBy, Judged, ChoirTook, record-out-of-range, by-number, SameVoices, SameOuts, SameUpTo, FurtherVoice, AllTaken, none, and-then, FurtherVoices, SameStart, VoicesAgain, ChoirStarted, ChoirReset, no-room, begun-anew}
-use Rattle.choir.specs.Parts.{room-less, room-more, room-beyond, all-fit, voices-taken, voices-kept, voices-count, outs-given, outs-kept, written-chosen}
+use Rattle.singers.specs.Singers.{Outs, roomWith, writtenBy, allWritten}
+use Rattle.choir.specs.Choirs.{ChoirGood, voiceAfterBlock, sungBy, allSung, voicesBy, outsBy, Judged, ChoirTook, record-out-of-range, by-number, SameVoices, SameOuts, SameUpTo, FurtherVoice, none, and-then, FurtherVoices, VoicesAgain, ChoirStarted, ChoirReset, no-room, begun-anew}
+use Rattle.singers.specs.Voicing.{room-less, room-more, room-beyond, all-fit, written-chosen}
+use Rattle.choir.specs.Parts.{voices-taken, voices-kept, voices-count, outs-given, outs-kept}
 
 -- ---- no second answer
 pub choir-started-one : {hertz : ℕ} {s : Settings} {zs : List ℤ} {store : List ℕ} {c₁ c₂ : Choir} {a₁ a₂ : ListAnswer} → ChoirStarted hertz s zs store c₁ a₁ → ChoirStarted hertz s zs store c₂ a₂ → (c₁ ≡ c₂) × (a₁ ≡ a₂)

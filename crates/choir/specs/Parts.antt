@@ -1,13 +1,12 @@
 -- What the parts of a block over a choir promise, and what they come to.
-use mathlib.Core.Path.{_≡_, refl, sym, ap, _∙_, subst}
-use mathlib.Core.Bool.{Bool, true, false, cond}
-use mathlib.Core.List.{List, [], _∷_, _++_, map}
-use Prim.Native.Nat.{ℕ, zero, suc, _+_, _-_, _≤_, _<_, min}
+use mathlib.Core.Path.{_≡_, refl, sym, ap, _∙_}
+use mathlib.Core.List.{List}
+use Prim.Native.Nat.{ℕ, _-_, _≤_, _<_}
 use native.Mathlib.Omega.{arith}
-use borrow.Author.Tests.{lt-ltb, le-ltb, ltb-true, ltb-false, eq-eqb, ne-eqb, le-leb, lt-leb}
-use lib.Dec.{leb, ltb, eqb}
-use lib.IntN.{ℤ, pos}
-use lib.ListN.{length, take, drop, getD, replicate}
+use borrow.Author.Tests.{lt-ltb, le-ltb, eq-eqb, ne-eqb, le-leb, lt-leb}
+use lib.Dec.{eqb}
+use lib.IntN.{ℤ}
+use lib.ListN.{length, getD}
 use Rattle.whole.specs.Tests.{by, cond-yes, cond-no, cond-case}
 use Rattle.rules.specs.declared.Settings.{Settings}
 use Rattle.rules.specs.declared.Tone.{Tone}
@@ -17,7 +16,7 @@ use Rattle.record.specs.declared.Heard.{Heard}
 use Rattle.record.specs.declared.Head.{Head}
 use Rattle.record.specs.declared.Last.{Last}
 use Rattle.lists.specs.declared.Listing.{Listing}
-use Rattle.rules.specs.Rules.{farthest, longestBlock, gives}
+use Rattle.rules.specs.Rules.{gives}
 use Rattle.rules.specs.Facts.{keeping}
 use Rattle.rules.specs.Position.{behind-in-bounds}
 use Rattle.steps.specs.Running.{Tones, tones, tonesGiven}
@@ -25,64 +24,22 @@ use Rattle.answers.specs.declared.Answer.{Answer}
 use Rattle.answers.specs.Numbering.{plain}
 use Rattle.lists.specs.Lists.{sungNote, sheet, afterNotes}
 use Rattle.tuner.specs.declared.Tuner.{Tuner}
-use Rattle.tuner.specs.Tuners.{takeOf, forceOf, Good, heardAfter, afterBlock, Verdict, tunerBy, answerBy, outBy}
+use Rattle.tuner.specs.Tuners.{takeOf, forceOf, Good, heardAfter, afterBlock, Verdict, tunerBy, answerBy}
 use Rattle.tuner.specs.Parted.{tunerOf}
 use Rattle.tuner.specs.Verdicts.{tuner-taken, tuner-kept, counted, overlaid, by-refused, by-given}
 use Rattle.staying.specs.Staying.{good-force, good-sane}
 use Rattle.listing.specs.declared.ListAnswer.{ListAnswer}
 use Rattle.listing.specs.Listings.{listAnswer, blockNotes, ListedBy, goes-on, as-it-was}
-use Rattle.voices.specs.Singing.{TrackedAll, Sang}
-use Rattle.choir.specs.declared.Voice.{Voice}
-use Rattle.choir.specs.declared.Voices.{Voices}
+use Rattle.voices.specs.Singing.{TrackedAll}
+use Rattle.singers.specs.declared.Voice.{Voice}
+use Rattle.singers.specs.declared.Voices.{Voices}
 use Rattle.choir.specs.declared.Choir.{Choir}
 use Rattle.choir.specs.Beside.{ToldEach, given-at, told-tracked, sang-rules}
-use Rattle.choir.specs.Choirs.{VoiceIn, VoicesIn, Outs, roomWith, leastRoom, standsAt, voiceAfterBlock, sungBy, allSung, writtenBy, allWritten, voicesBy, outsBy, Judged}
-
--- ---- room
-
--- with a voice that is chosen, and with one that is not
-module _ (j chosen n room : ℕ) where
-  pub room-less : j < chosen → n < room → roomWith j chosen n room ≡ n
-  unfolding roomWith
-  room-less h l = cond-yes (min n room) room (lt-ltb j chosen h) ∙ omega arith
-
-  pub room-more : j < chosen → room ≤ n → roomWith j chosen n room ≡ room
-  unfolding roomWith
-  room-more h l = cond-yes (min n room) room (lt-ltb j chosen h) ∙ omega arith
-
-  pub room-beyond : chosen ≤ j → roomWith j chosen n room ≡ room
-  unfolding roomWith
-  room-beyond h = cond-no (min n room) room (le-ltb j chosen h)
-
-  -- what has room there has it in both
-  pub room-both : (k : ℕ) → k ≤ roomWith j chosen n room → (k ≤ room) × (j < chosen → k ≤ n)
-  room-both k h =
-      by (ltb j chosen)
-      (λ e. let l = ltb-true j chosen e in by (ltb n room)
-      (λ f. let m = ltb-true n room f in let q = room-less l m in (omega arith, λ i. omega arith))
-      (λ f. let m = ltb-false n room f in let q = room-more l m in (omega arith, λ i. omega arith)))
-      (λ e. let l = ltb-false j chosen e in let q = room-beyond l in (omega arith, λ i. absurd (omega arith)))
-
--- so it has room in each output that is asked for
-pub all-fit : (chosen lead first second third k : ℕ) → k ≤ leastRoom chosen lead first second third → (k ≤ lead) × (0 < chosen → k ≤ first) × (1 < chosen → k ≤ second) × (2 < chosen → k ≤ third)
-all-fit chosen lead first second third k h =
-    let two = room-both 2 chosen third (roomWith 1 chosen second (roomWith 0 chosen first lead)) k h in
-    let one = room-both 1 chosen second (roomWith 0 chosen first lead) k (two .0) in
-    let none = room-both 0 chosen first lead k (one .0) in
-    (none .0, none .1, one .1, two .1)
+use Rattle.singers.specs.Singers.{VoiceIn, VoicesIn, Outs, leastRoom, allWritten}
+use Rattle.singers.specs.Voicing.{SangBy, sang, beyond, AllSang}
+use Rattle.choir.specs.Choirs.{voiceAfterBlock, sungBy, allSung, voicesBy, outsBy, Judged}
 
 -- ---- what a voice sang
-
--- voice j of those chosen sang beside n samples of the store s; one beyond them is as it was
-pub data SangBy (j chosen hertz : ℕ) (periods notes : List ℕ) (s : List ℤ) (n : ℕ) (v v′ : Voice) : Type 0 where
-  sang : j < chosen → v′ .interval ≡ v .interval → Sang hertz (v .interval) (v .behind) periods notes s (1764 - n) n (replicate longestBlock (pos 0)) (v′ .out) (v′ .behind) → SangBy j chosen hertz periods notes s n v v′
-  beyond : chosen ≤ j → v′ ≡ v → SangBy j chosen hertz periods notes s n v v′
-
-pub record AllSang (hertz : ℕ) (periods notes : List ℕ) (s : List ℤ) (n : ℕ) (vs vs′ : Voices) : Type 0 where
-  pub count : vs′ .count ≡ vs .count
-  pub first : SangBy 0 (vs .count) hertz periods notes s n (vs .first) (vs′ .first)
-  pub second : SangBy 1 (vs .count) hertz periods notes s n (vs .second) (vs′ .second)
-  pub third : SangBy 2 (vs .count) hertz periods notes s n (vs .third) (vs′ .third)
 
 -- the tones told of a tuner's block
 pub told-each : (t : Tuner) (xs : List ℤ) (before : Tones) {after : Tones} → after ≡ tonesGiven before (gives (forceOf t) (takeOf t) xs) → ToldEach (forceOf t) (takeOf t) xs (after .periods) (after .notes)
@@ -122,16 +79,6 @@ module _ (settings : Settings) (hertz : ℕ) (keyboard : Keyboard) (heard : Hear
   pub notes-unread : blockNotes (tunerOf settings hertz keyboard heard pitch head l) xs ≡ blockNotes (tunerOf settings hertz keyboard heard pitch head l′) xs
   unfolding takeOf
   notes-unread = refl
-
--- ---- what is written
-module _ (j chosen n : ℕ) (v : Voice) (ys : List ℤ) where
-  pub written-chosen : j < chosen → writtenBy j chosen n v ys ≡ take n (v .out) ++ drop n ys
-  unfolding writtenBy
-  written-chosen h = cond-yes (take n (v .out) ++ drop n ys) ys (lt-ltb j chosen h)
-
-  pub written-beyond : chosen ≤ j → writtenBy j chosen n v ys ≡ ys
-  unfolding writtenBy
-  written-beyond h = cond-no (take n (v .out) ++ drop n ys) ys (le-ltb j chosen h)
 
 -- ---- a block by its number
 

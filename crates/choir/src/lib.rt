@@ -9,22 +9,20 @@ use record::Head;
 use record::Heard;
 use record::Last;
 use rules::EIGHTH_LAGS;
-use rules::FARTHEST;
 use rules::KEPT_EIGHTHS;
 use rules::KEPT_SAMPLES;
 use rules::LONGEST_BLOCK;
 use rules::Settings;
+use singers::Voices;
 use tuner::LastNumbers;
 use tuner::Left;
 use tuner::Tuner;
 ghost use mathlib.Core.Path.{_≡_};
 ghost use mathlib.Core.List.{_++_};
 ghost use Prim.Native.Nat.{ℕ, _+_, _≤_, _<_};
-ghost use lib.IntN.{pos};
-ghost use lib.ListN.{length, take, drop, getD};
+ghost use lib.ListN.{length, take, drop};
 ghost use Rattle.whole.specs.Tests.{Decides};
-ghost use Rattle.rules.specs.Rules.{longestBlock, keptSamples, takeLimit};
-ghost use Rattle.rules.specs.Facts.{SampleRate};
+ghost use Rattle.rules.specs.Rules.{longestBlock, takeLimit};
 ghost use Rattle.answers.specs.Numbering.{plain};
 ghost use Rattle.lists.specs.Lists.{emptyListing, ListingIn};
 ghost use Rattle.record.specs.declared.Last.{Last};
@@ -34,35 +32,9 @@ ghost use Rattle.tuner.specs.Parted.{tunerOf, lastWith};
 ghost use Rattle.tuner.specs.Tuners.{Good, Verdict};
 ghost use Rattle.tuner.specs.Verdicts.{counted};
 ghost use Rattle.listing.specs.Listings.{listAnswer};
-ghost use Rattle.voices.specs.Singing.{TrackedAll};
-ghost use Rattle.choir.specs.Choirs.{VoiceIn, VoicesIn, ChoirGood, outs, roomWith, leastRoom, writtenBy, allWritten, Judged, ChoirTook, keptInterval, allInRange, levelVoice, chosenVoices, levelVoices, beginning, roomy, choirNumber, ChoirStarted, ChoirReset};
-ghost use Rattle.choir.specs.Parts.{SangBy, AllSang, LeftBy, Gave};
-
-// The widest interval, kept as 0 to 24 for -12 to 12.
-const WIDEST: u32 = 2 * voices::UNISON;
-
-// What an interval out of range is kept as.
-const NO_INTERVAL: u32 = WIDEST + 1;
-
-// So many voices may be chosen.
-const MOST_VOICES: u64 = 3;
-
-// A voice: its interval, how far its position lies behind the input, and its last output.
-#[repr(C)]
-pub struct Voice {
-    pub interval: u32,
-    pub behind: u32,
-    pub out: [i16; LONGEST_BLOCK],
-}
-
-// How many voices are chosen, and the voices.
-#[repr(C)]
-pub struct Voices {
-    pub count: u64,
-    pub first: Voice,
-    pub second: Voice,
-    pub third: Voice,
-}
+ghost use Rattle.singers.specs.Singers.{VoicesIn, outs, leastRoom, allWritten};
+ghost use Rattle.choir.specs.Choirs.{ChoirGood, Judged, ChoirTook, beginning, roomy, choirNumber, ChoirStarted, ChoirReset};
+ghost use Rattle.choir.specs.Parts.{LeftBy, Gave};
 
 // A tuner, the list of its take, and its voices.
 #[repr(C)]
@@ -84,34 +56,6 @@ pub struct ChoirLeft {
     pub voices: Voices,
 }
 
-// A voice that is chosen is in its ranges.
-fn voice_right(j: u64, chosen: u64, v: Voice) -> bool
-    ensures { λ r. ⌜ Decides r (j < chosen → VoiceIn v) ⌝ }
-{
-    if chosen <= j {
-        return true;
-    }
-    if v.interval > WIDEST {
-        return false;
-    }
-    v.behind <= FARTHEST
-}
-
-fn voices_right(vs: Voices) -> bool
-    ensures { λ r. ⌜ Decides r (VoicesIn vs) ⌝ }
-{
-    if vs.count > MOST_VOICES {
-        return false;
-    }
-    if !voice_right(0, vs.count, vs.first) {
-        return false;
-    }
-    if !voice_right(1, vs.count, vs.second) {
-        return false;
-    }
-    voice_right(2, vs.count, vs.third)
-}
-
 // A choir is good.
 pub fn good(c: Choir) -> bool
     ensures { λ r. ⌜ Decides r (ChoirGood c) ⌝ }
@@ -126,7 +70,7 @@ pub fn good(c: Choir) -> bool
     if !listing::good(lead) {
         return false;
     }
-    voices_right(vs)
+    singers::voices_right(vs)
 }
 
 // A choir left as it was, and a number.
@@ -137,27 +81,6 @@ fn left_as(c: Choir, number: u32) -> ChoirTaken
         choir: c,
         answer: listing::answer_of(answers::plain(number), c.list),
     }
-}
-
-// The lesser of this room and that of a voice's output, where the voice is chosen.
-fn room_with(j: u64, chosen: u64, places: usize, room: usize) -> usize
-    ensures { λ r. ⌜ r ≡ roomWith j chosen places room ⌝ }
-{
-    if j < chosen {
-        if places < room {
-            return places;
-        }
-    }
-    room
-}
-
-// The least room of the lead's output and the chosen voices'.
-fn least_room(chosen: u64, lead: usize, first: usize, second: usize, third: usize) -> usize
-    ensures { λ r. ⌜ r ≡ leastRoom chosen lead first second third ⌝ }
-{
-    let one = room_with(0, chosen, first, lead);
-    let two = room_with(1, chosen, second, one);
-    room_with(2, chosen, third, two)
 }
 
 // The number of the answer to a block, with so much room for the outputs.
@@ -173,76 +96,6 @@ fn judge(t: Tuner, number: u16, samples: &[i16], room: usize) -> u32
         dropped: t.last.dropped,
     };
     tuner::judge_parts(t.heard.count, last, &heard, number, samples, room)
-}
-
-// A voice that is chosen sings beside the n newest samples of the store, for which the lead had these periods and wanted notes.
-fn sung(
-    j: u64,
-    chosen: u64,
-    v: Voice,
-    hertz: u32,
-    periods: &[u32; LONGEST_BLOCK],
-    notes: &[u32; LONGEST_BLOCK],
-    s: &[i16; KEPT_SAMPLES],
-    n: usize,
-) -> Voice
-    requires { ⌜ (j < chosen → VoiceIn v) × SampleRate hertz × TrackedAll n (now periods) (now notes) × (length (now s) ≡ keptSamples) × (n ≤ longestBlock) ⌝ }
-    ensures { λ r. ⌜ SangBy j chosen hertz (now (periods .entry)) (now (notes .entry)) (now (s .entry)) n v r ⌝ }
-{
-    if chosen <= j {
-        return v;
-    }
-    let mut out = [0i16; LONGEST_BLOCK];
-    let behind = voices::sing(
-        v.behind,
-        hertz,
-        v.interval,
-        periods,
-        notes,
-        s,
-        KEPT_SAMPLES - n,
-        n,
-        &mut out,
-    );
-    Voice {
-        interval: v.interval,
-        behind: behind,
-        out: out,
-    }
-}
-
-// Each voice that is chosen sings, by itself.
-fn all_sung(
-    vs: Voices,
-    hertz: u32,
-    periods: &[u32; LONGEST_BLOCK],
-    notes: &[u32; LONGEST_BLOCK],
-    s: &[i16; KEPT_SAMPLES],
-    n: usize,
-) -> Voices
-    requires { ⌜ VoicesIn vs × SampleRate hertz × TrackedAll n (now periods) (now notes) × (length (now s) ≡ keptSamples) × (n ≤ longestBlock) ⌝ }
-    ensures { λ r. ⌜ AllSang hertz (now (periods .entry)) (now (notes .entry)) (now (s .entry)) n vs r ⌝ }
-{
-    let first = sung(0, vs.count, vs.first, hertz, periods, notes, s, n);
-    let second = sung(1, vs.count, vs.second, hertz, periods, notes, s, n);
-    let third = sung(2, vs.count, vs.third, hertz, periods, notes, s, n);
-    Voices {
-        count: vs.count,
-        first: first,
-        second: second,
-        third: third,
-    }
-}
-
-// The output that a chosen voice keeps is written.
-fn give(j: u64, chosen: u64, v: Voice, n: usize, out: &mut [i16])
-    requires { ⌜ (n ≤ longestBlock) × (j < chosen → n ≤ length (now out)) ⌝ }
-    ensures { λ r. ⌜ now (out .exit) ≡ writtenBy j chosen n v (now (out .entry)) ⌝ }
-{
-    if j < chosen {
-        let kept = v.out;
-        copying::give(&kept, out, n);
-    }
 }
 
 // A block is taken, over the parts of a record: lead, voices and list go on. Its samples tell of themselves what voices and list need.
@@ -290,7 +143,7 @@ fn take_parts(
         &mut rates,
     );
     let rate = hertz as u32;
-    let beside = all_sung(vs, rate, &periods, &notes, heard, n);
+    let beside = singers::all_sung(vs, rate, &periods, &notes, heard, n);
     let listed = listing::go_on(list, v.tone, &periods, &mut notes, n, count, store);
     ChoirLeft {
         left: left,
@@ -416,9 +269,9 @@ fn write(
     let vs = c.voices;
     let kept = t.last.out;
     copying::give(&kept, out, n);
-    give(0, vs.count, vs.first, n, first);
-    give(1, vs.count, vs.second, n, second);
-    give(2, vs.count, vs.third, n, third);
+    singers::give(0, vs.count, vs.first, n, first);
+    singers::give(1, vs.count, vs.second, n, second);
+    singers::give(2, vs.count, vs.third, n, third);
 }
 
 // A block to a good choir: taken, given again or refused.
@@ -436,7 +289,7 @@ fn block_to_good(
     ensures { λ r. ⌜ Judged c number (now (samples .entry)) (now (out .entry)) (outs (now (first .entry)) (now (second .entry)) (now (third .entry))) (now (store .entry)) (r .choir) (r .answer) (now (out .exit)) (outs (now (first .exit)) (now (second .exit)) (now (third .exit))) (now (store .exit)) ⌝ }
 {
     let t = c.tuner;
-    let room = least_room(
+    let room = singers::least_room(
         c.voices.count,
         out.len(),
         first.len(),
@@ -472,82 +325,6 @@ pub fn block(
     block_to_good(c, number, samples, out, first, second, third, store)
 }
 
-// An interval in semitones as it is kept.
-fn kept_interval(z: i32) -> u32
-    ensures { λ r. ⌜ r ≡ keptInterval z ⌝ }
-{
-    if z < -12 {
-        return NO_INTERVAL;
-    }
-    if 12 < z {
-        return NO_INTERVAL;
-    }
-    (12 + z) as u32
-}
-
-fn all_in_range(intervals: &[i32]) -> bool
-    ensures { λ r. ⌜ r ≡ allInRange (now (intervals .entry)) ⌝ }
-{
-    let mut i: usize = 0;
-    while i < intervals.len() {
-        if kept_interval(intervals[i]) > WIDEST {
-            return false;
-        }
-        i += 1;
-    }
-    true
-}
-
-// A voice level with the input, that kept no output.
-fn level_voice(interval: u32) -> Voice
-    ensures { λ r. ⌜ r ≡ levelVoice interval ⌝ }
-{
-    Voice {
-        interval: interval,
-        behind: 0,
-        out: [0i16; LONGEST_BLOCK],
-    }
-}
-
-// The voice of interval j; in unison where there is none.
-fn chosen_voice(intervals: &[i32], j: usize) -> Voice
-    ensures { λ r. ⌜ r ≡ levelVoice (keptInterval (getD (now (intervals .entry)) j (pos 0))) ⌝ }
-{
-    if j < intervals.len() {
-        return level_voice(kept_interval(intervals[j]));
-    }
-    level_voice(voices::UNISON)
-}
-
-fn chosen_voices(intervals: &[i32]) -> Voices
-    ensures { λ r. ⌜ r ≡ chosenVoices (now (intervals .entry)) ⌝ }
-{
-    let first = chosen_voice(intervals, 0);
-    let second = chosen_voice(intervals, 1);
-    let third = chosen_voice(intervals, 2);
-    Voices {
-        count: intervals.len() as u64,
-        first: first,
-        second: second,
-        third: third,
-    }
-}
-
-// The same voices, each level.
-fn level_voices(vs: Voices) -> Voices
-    ensures { λ r. ⌜ r ≡ levelVoices vs ⌝ }
-{
-    let first = level_voice(vs.first.interval);
-    let second = level_voice(vs.second.interval);
-    let third = level_voice(vs.third.interval);
-    Voices {
-        count: vs.count,
-        first: first,
-        second: second,
-        third: third,
-    }
-}
-
 // A store of so many numbers has room for one row; an empty one is none lent.
 fn roomy(numbers: usize) -> bool
     ensures { λ r. ⌜ r ≡ roomy numbers ⌝ }
@@ -568,7 +345,7 @@ fn choir_number(number: u32, numbers: usize, intervals: &[i32]) -> u32
     if !roomy(numbers) {
         return 17;
     }
-    if !all_in_range(intervals) {
+    if !singers::all_in_range(intervals) {
         return 18;
     }
     if intervals.len() > 3 {
@@ -600,11 +377,11 @@ pub fn start(hertz: u32, s: Settings, intervals: &[i32], store: &[u32]) -> Choir
     let number = choir_number(d.answer.number, store.len(), intervals);
     if number == 0 {
         let t = d.tuner;
-        return begin(t, chosen_voices(intervals), 0);
+        return begin(t, singers::chosen_voices(intervals), 0);
     }
     let e = tuner::start_default();
     let u = e.tuner;
-    begin(u, chosen_voices(&intervals[..0]), number)
+    begin(u, singers::chosen_voices(&intervals[..0]), number)
 }
 
 // A reset: the voices that were chosen stay, each level with the input; the list begins anew.
@@ -621,5 +398,5 @@ pub fn reset(c: Choir, store: &[u32]) -> ChoirTaken
     let vs = c.voices;
     let d = Tuner::reset(t);
     let u = d.tuner;
-    begin(u, level_voices(vs), 0)
+    begin(u, singers::level_voices(vs), 0)
 }

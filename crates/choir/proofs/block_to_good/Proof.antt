@@ -1,13 +1,13 @@
 -- `choir::block_to_good` meets its contract: the number decides; what is then kept is written.
 -- Assumes nothing.
-use mathlib.Core.Path.{_≡_, sym, ap, subst, _∙_}
+use mathlib.Core.Path.{sym, ap, subst, _∙_}
 use Prim.Native.Nat.{ℕ, _≤_}
 use native.Mathlib.Omega.{arith}
 use lib.ListN.{length}
 use Rattle.tuner.specs.Tuners.{Verdict}
 use Rattle.tuner.specs.Verdicts.{verdict-fits}
-use Rattle.choir.specs.declared.Voices.{Voices}
-use Rattle.choir.specs.Choirs.{outs, leastRoom}
+use Rattle.singers.specs.declared.Voices.{Voices}
+use Rattle.singers.specs.Singers.{outs, leastRoom}
 use Rattle.choir.specs.Parts.{Judges, voices-count, judged-refused, judged-given}
 use borrow.Author.Needs.{needs}
 use Rattle.choir.proofs.block_to_good.Statement.{statement}

@@ -1,7 +1,7 @@
 -- `choir::start` meets its contract: the tuner's own start with the voices chosen, or the default tuner without voices.
 -- Assumes nothing.
 use mathlib.Core.Path.{ap, _∙_}
-use Rattle.choir.specs.declared.Voices.{Voices}
+use Rattle.singers.specs.declared.Voices.{Voices}
 use Rattle.choir.specs.Choirs.{beginning}
 use Rattle.choir.specs.Beginnings.{choir-started, choir-refused}
 use borrow.Author.Needs.{needs}

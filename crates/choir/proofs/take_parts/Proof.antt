@@ -6,7 +6,7 @@ use Prim.Native.Nat.{ℕ}
 use native.Mathlib.Omega.{arith}
 use borrow.Author.Needs.{needs}
 use lib.IntN.{ℤ}
-use lib.ListN.{length, take, replicate}
+use lib.ListN.{length, replicate}
 use Rattle.rules.specs.declared.Tone.{Tone}
 use Rattle.rules.specs.Rules.{Given, gives}
 use Rattle.rules.specs.Table.{rate-upto}
@@ -17,13 +17,12 @@ use Rattle.record.specs.Records.{noLast}
 use Rattle.steps.specs.Running.{Tones, tones, tonesGiven}
 use Rattle.lists.specs.Lists.{sungNote, sheet, afterNotes}
 use Rattle.tuner.specs.declared.Tuner.{Tuner}
-use Rattle.tuner.specs.Tuners.{takeOf, forceOf, Good, afterBlock}
+use Rattle.tuner.specs.Tuners.{takeOf, forceOf}
 use Rattle.tuner.specs.Parted.{tunerOf}
 use Rattle.listing.specs.Hushes.{given-length, told-sung, gives-many}
-use Rattle.choir.specs.declared.Voices.{Voices}
-use Rattle.choir.specs.Choirs.{allSung}
 use Rattle.choir.specs.Beside.{ToldEach}
-use Rattle.choir.specs.Parts.{AllSang, told-each, tracked-all, all-sang-is, store-left, sung-unread, notes-unread}
+use Rattle.singers.specs.Voicing.{AllSang}
+use Rattle.choir.specs.Parts.{told-each, tracked-all, all-sang-is, store-left, sung-unread, notes-unread}
 use Rattle.choir.proofs.take_parts.Statement.{statement}
 use Rattle.choir.proofs.take_parts.Tie as tie
 

@@ -5,8 +5,8 @@ use Prim.Native.Nat.{_≤_, _<_}
 use native.Mathlib.Omega.{arith}
 use lib.ListN.{length}
 use Rattle.tuner.proofs.Fields.{out-long}
-use Rattle.choir.specs.Choirs.{outs}
-use Rattle.choir.specs.Parts.{all-fit}
+use Rattle.singers.specs.Singers.{outs}
+use Rattle.singers.specs.Voicing.{all-fit}
 use borrow.Author.Needs.{needs}
 use Rattle.choir.proofs.write.Statement.{statement}
 use Rattle.choir.proofs.write.Tie as tie

@@ -1,0 +1,2 @@
+pub mod Singers
+pub mod Voicing
