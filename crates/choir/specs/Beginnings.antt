@@ -2,9 +2,9 @@
 use mathlib.Core.Path.{_≡_, sym, ap, _∙_}
 use mathlib.Core.Bool.{Bool, true, false, _||_}
 use mathlib.Core.List.{List, []}
-use Prim.Native.Nat.{ℕ, _-_, _≤_, _<_}
+use Prim.Native.Nat.{ℕ, _-_, _<_}
 use native.Mathlib.Omega.{arith}
-use borrow.Author.Tests.{eq-eqb, ne-eqb, eqb-true, eqb-false, le-leb, lt-leb, lt-ltb, le-ltb}
+use borrow.Author.Tests.{eq-eqb, ne-eqb, eqb-true, eqb-false, lt-ltb, le-ltb}
 use lib.Dec.{ltb, eqb}
 use lib.IntN.{ℤ}
 use lib.ListN.{length}
@@ -20,7 +20,7 @@ use Rattle.tuner.specs.Starts.{start-taken, default-start-taken}
 use Rattle.listing.specs.declared.ListAnswer.{ListAnswer}
 use Rattle.listing.specs.Listings.{listAnswer}
 use Rattle.choir.specs.declared.Choir.{Choir}
-use Rattle.singers.specs.Singers.{allInRange, chosenVoices}
+use Rattle.singers.specs.Singers.{intervalsNumber, chosenVoices}
 use Rattle.choir.specs.Choirs.{beginning, roomy, choirNumber, ChoirStarted}
 
 -- ---- room for the list
@@ -46,18 +46,9 @@ module _ (v n : ℕ) (zs : List ℤ) where
     unfolding choirNumber
     number-17 r = cond-yes _ v (eq-eqb v 0 e) ∙ cond-no _ 17 r
 
-    module _ (r : roomy n ≡ true) where
-      pub number-18 : allInRange zs ≡ false → choirNumber v n zs ≡ 18
-      unfolding choirNumber
-      number-18 a = cond-yes _ v (eq-eqb v 0 e) ∙ cond-yes _ 17 r ∙ cond-no _ 18 a
-
-      pub number-19 : allInRange zs ≡ true → 3 < length zs → choirNumber v n zs ≡ 19
-      unfolding choirNumber
-      number-19 a l = cond-yes _ v (eq-eqb v 0 e) ∙ cond-yes _ 17 r ∙ cond-yes _ 18 a ∙ cond-no 0 19 (lt-leb _ 3 l)
-
-      pub number-0 : allInRange zs ≡ true → length zs ≤ 3 → choirNumber v n zs ≡ 0
-      unfolding choirNumber
-      number-0 a l = cond-yes _ v (eq-eqb v 0 e) ∙ cond-yes _ 17 r ∙ cond-yes _ 18 a ∙ cond-yes 0 19 (le-leb _ 3 l)
+    pub number-on : roomy n ≡ true → choirNumber v n zs ≡ intervalsNumber zs
+    unfolding choirNumber
+    number-on r = cond-yes _ v (eq-eqb v 0 e) ∙ cond-yes _ 17 r
 
   -- where it is 0 so is the tuner's own
   pub own-zero : choirNumber v n zs ≡ 0 → v ≡ 0

@@ -17,7 +17,7 @@ use Rattle.listing.specs.declared.ListAnswer.{ListAnswer}
 use Rattle.listing.specs.Listings.{listTuner, ListGood, listAnswer, ListedBy}
 use Rattle.singers.specs.declared.Voice.{Voice}
 use Rattle.singers.specs.declared.Voices.{Voices}
-use Rattle.singers.specs.Singers.{VoicesIn, Outs, leastRoom, allWritten, allInRange, chosenVoices, levelVoices}
+use Rattle.singers.specs.Singers.{VoicesIn, Outs, leastRoom, allWritten, intervalsNumber, chosenVoices, levelVoices}
 use Rattle.choir.specs.declared.Choir.{Choir}
 
 -- ---- the record
@@ -142,9 +142,9 @@ beginning t vs = record { tuner = t; list = emptyListing; voices = vs }
 abbrev pub roomy : ℕ → Bool
 roomy n = eqb n 0 || ltb 0 (room n)
 
--- behind the tuner's own number: 17 where a store is lent without room for one row, 18 where an interval is out of range, 19 for more than three voices
+-- behind the tuner's own number: 17 where a store is lent without room for one row, then 18 and 19 of the intervals
 unfoldable pub choirNumber : ℕ → (n : ℕ) → List ℤ → ℕ
-choirNumber v n zs = cond (eqb v 0) (refuse 17 (roomy n) (refuse 18 (allInRange zs) (refuse 19 (leb (length zs) 3) 0))) v
+choirNumber v n zs = cond (eqb v 0) (refuse 17 (roomy n) (intervalsNumber zs)) v
 
 -- the promise of a start: the fresh tuner with the voices of these intervals, or the default tuner without voices beside the number; an empty list
 pub record ChoirStarted (hertz : ℕ) (s : Settings) (zs : List ℤ) (store : List ℕ) (c′ : Choir) (a : ListAnswer) : Type 0 where

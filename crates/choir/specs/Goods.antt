@@ -4,7 +4,7 @@ use mathlib.Core.Bool.{true}
 use mathlib.Core.List.{List, [], _∷_}
 use Prim.Native.Nat.{ℕ, zero, suc, _+_, _≤_, _<_}
 use native.Mathlib.Omega.{arith}
-use borrow.Author.Tests.{leb-true, leb-false, eqb-true, eqb-false, eq-eqb}
+use borrow.Author.Tests.{leb-true, eqb-true, eqb-false, eq-eqb}
 use lib.Dec.{leb, eqb}
 use lib.IntN.{ℤ, pos}
 use lib.ListN.{length, getD, replicate, length-replicate, length-map}
@@ -27,10 +27,11 @@ use Rattle.listing.specs.Listings.{blockNotes, ListedBy, goes-on, as-it-was}
 use Rattle.singers.specs.declared.Voice.{Voice}
 use Rattle.singers.specs.declared.Voices.{Voices}
 use Rattle.choir.specs.declared.Choir.{Choir}
-use Rattle.singers.specs.Singers.{VoiceIn, VoicesIn, Outs, leastRoom, keptInterval, allInRange, levelVoice, chosenVoices, levelVoices}
+use Rattle.singers.specs.Singers.{VoiceIn, VoicesIn, Outs, leastRoom, keptInterval, allInRange, levelVoice, chosenVoices, levelVoices, intervalsNumber}
+use Rattle.singers.specs.Voicing.{number-says}
 use Rattle.choir.specs.Choirs.{beginning, roomy, ChoirGood, standsAt, voiceAfterBlock, sungBy, voicesBy, Judged, ChoirTook, record-out-of-range, by-number, choirNumber, ChoirStarted, ChoirReset, no-room, begun-anew}
 use Rattle.choir.specs.Parts.{voices-taken, voices-kept}
-use Rattle.choir.specs.Beginnings.{own-zero, number-17, number-18, number-19}
+use Rattle.choir.specs.Beginnings.{own-zero, number-17, number-on}
 use Rattle.choir.specs.Leads.{sung-chosen}
 
 -- ---- the voices after a block
@@ -116,17 +117,11 @@ chosen-in : (zs : List ℤ) → allInRange zs ≡ true → length zs ≤ 3 → V
 unfolding chosenVoices
 chosen-in zs e h = record { count = h; first = λ k. level-in (each-in zs e 0 k); second = λ k. level-in (each-in zs e 1 k); third = λ k. level-in (each-in zs e 2 k) }
 
--- the number is 0 only where all is in range
-number-says : (v n : ℕ) (zs : List ℤ) → choirNumber v n zs ≡ 0 → (allInRange zs ≡ true) × (length zs ≤ 3)
-number-says v n zs e =
+-- where a start is taken the intervals are in range
+intervals-in : (v n : ℕ) (zs : List ℤ) → choirNumber v n zs ≡ 0 → intervalsNumber zs ≡ 0
+intervals-in v n zs e =
     let z = own-zero v n zs e in
-    by (roomy n)
-    (λ r. by (allInRange zs)
-    (λ a. by (leb (length zs) 3)
-    (λ l. (a, leb-true (length zs) 3 l))
-    (λ l. absurd (let q = number-19 v n zs z r a (leb-false (length zs) 3 l) in omega arith)))
-    (λ a. absurd (let q = number-18 v n zs z r a in omega arith)))
-    (λ r. absurd (let q = number-17 v n zs z r in omega arith))
+    by (roomy n) (λ r. sym (number-on v n zs z r) ∙ e) (λ r. absurd (let q = number-17 v n zs z r in omega arith))
 
 unrefused-good : (hertz : ℕ) (s : Settings) → startNumber hertz s ≡ 0 → Good (freshTuner hertz s) × Lengths (freshTuner hertz s)
 unrefused-good hertz s e = started-good {hertz = hertz} {s = s} (record { tuner = sym (cond-yes (freshTuner hertz s) defaultTuner (eq-eqb (startNumber hertz s) 0 e)); answer = refl })
@@ -141,6 +136,6 @@ choir-started-good {hertz} {s} {zs} {store} p =
     (cond-case (eqb v 0) (beginning (freshTuner hertz s) (chosenVoices zs)) (beginning defaultTuner (chosenVoices [])) (λ (d : Choir). ChoirGood d × Lengths (d .tuner))
     (λ e. let z = eqb-true v 0 e in
     let t = unrefused-good hertz s (own-zero (startNumber hertz s) (length store) zs z) in
-    let k = number-says (startNumber hertz s) (length store) zs z in
+    let k = number-says zs (intervals-in (startNumber hertz s) (length store) zs z) in
     (fresh-in hertz s (t .0) (chosen-in zs (k .0) (k .1)), t .1))
     (λ e. (fresh-in cdRate defaults (default-good .0) none-in, default-good .1)))

@@ -269,9 +269,7 @@ fn write(
     let vs = c.voices;
     let kept = t.last.out;
     copying::give(&kept, out, n);
-    singers::give(0, vs.count, vs.first, n, first);
-    singers::give(1, vs.count, vs.second, n, second);
-    singers::give(2, vs.count, vs.third, n, third);
+    singers::give_all(vs, n, first, second, third);
 }
 
 // A block to a good choir: taken, given again or refused.
@@ -345,13 +343,7 @@ fn choir_number(number: u32, numbers: usize, intervals: &[i32]) -> u32
     if !roomy(numbers) {
         return 17;
     }
-    if !singers::all_in_range(intervals) {
-        return 18;
-    }
-    if intervals.len() > 3 {
-        return 19;
-    }
-    0
+    singers::intervals_number(intervals)
 }
 
 // A choir where its list begins, and a number.

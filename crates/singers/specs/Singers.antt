@@ -6,7 +6,7 @@ use lib.Dec.{leb, ltb}
 use lib.IntN.{ℤ, pos, negℤ, natAbs, _+ℤ_}
 use lib.ListN.{length, take, drop, getD, replicate}
 use lib.Signed.{ltZ}
-use Rattle.rules.specs.Rules.{farthest, longestBlock}
+use Rattle.rules.specs.Rules.{farthest, longestBlock, refuse}
 use Rattle.voices.specs.Voices.{IntervalIn}
 use Rattle.singers.specs.declared.Voice.{Voice}
 use Rattle.singers.specs.declared.Voices.{Voices}
@@ -59,6 +59,10 @@ keptInterval z = cond (ltZ z (negℤ (pos 12)) || ltZ (pos 12) z) 25 (natAbs (po
 unfoldable pub allInRange : List ℤ → Bool
 allInRange [] = true
 allInRange (z ∷ zs) = leb (keptInterval z) 24 && allInRange zs
+
+-- 18 where an interval is out of range, 19 for more than three
+unfoldable pub intervalsNumber : List ℤ → ℕ
+intervalsNumber zs = refuse 18 (allInRange zs) (refuse 19 (leb (length zs) 3) 0)
 
 -- a voice level with the input, that kept no output
 unfoldable pub levelVoice : ℕ → Voice

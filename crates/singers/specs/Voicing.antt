@@ -4,8 +4,8 @@ use mathlib.Core.Bool.{Bool, true, false, _&&_, _||_}
 use mathlib.Core.List.{List, _++_}
 use Prim.Native.Nat.{ℕ, suc, _-_, _≤_, _<_, min}
 use native.Mathlib.Omega.{arith}
-use borrow.Author.Tests.{le-leb, lt-leb, lt-ltb, le-ltb, ltb-true, ltb-false}
-use lib.Dec.{T, ltb}
+use borrow.Author.Tests.{le-leb, lt-leb, leb-true, leb-false, lt-ltb, le-ltb, ltb-true, ltb-false}
+use lib.Dec.{T, leb, ltb}
 use lib.IntN.{ℤ, pos, negsuc, negℤ, natAbs, _+ℤ_}
 use lib.ListN.{length, take, drop, getD, replicate, List·getD-eq-default}
 use lib.Seq.{drop-cons, drop-length}
@@ -16,7 +16,7 @@ use Rattle.rules.specs.Rules.{longestBlock}
 use Rattle.voices.specs.Singing.{Sang}
 use Rattle.singers.specs.declared.Voice.{Voice}
 use Rattle.singers.specs.declared.Voices.{Voices}
-use Rattle.singers.specs.Singers.{roomWith, leastRoom, writtenBy, keptInterval, allInRange}
+use Rattle.singers.specs.Singers.{roomWith, leastRoom, writtenBy, keptInterval, allInRange, intervalsNumber}
 
 -- ---- room
 
@@ -115,3 +115,26 @@ module _ (zs : List ℤ) (i : ℕ) (h : i < length zs) where
 pub range-end : (zs : List ℤ) → allInRange (drop (length zs) zs) ≡ true
 unfolding allInRange
 range-end zs = ap allInRange (drop-length zs)
+
+-- ---- the number of the intervals
+module _ (zs : List ℤ) where
+  pub number-18 : allInRange zs ≡ false → intervalsNumber zs ≡ 18
+  unfolding intervalsNumber
+  number-18 a = cond-no _ 18 a
+
+  pub number-19 : allInRange zs ≡ true → 3 < length zs → intervalsNumber zs ≡ 19
+  unfolding intervalsNumber
+  number-19 a l = cond-yes _ 18 a ∙ cond-no 0 19 (lt-leb _ 3 l)
+
+  pub number-0 : allInRange zs ≡ true → length zs ≤ 3 → intervalsNumber zs ≡ 0
+  unfolding intervalsNumber
+  number-0 a l = cond-yes _ 18 a ∙ cond-yes 0 19 (le-leb _ 3 l)
+
+  -- it is 0 only where all is in range
+  pub number-says : intervalsNumber zs ≡ 0 → (allInRange zs ≡ true) × (length zs ≤ 3)
+  number-says e =
+      by (allInRange zs)
+      (λ a. by (leb (length zs) 3)
+      (λ l. (a, leb-true (length zs) 3 l))
+      (λ l. absurd (let q = number-19 a (leb-false (length zs) 3 l) in omega arith)))
+      (λ a. absurd (let q = number-18 a in omega arith))

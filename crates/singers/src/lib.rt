@@ -11,7 +11,7 @@ ghost use Rattle.whole.specs.Tests.{Decides};
 ghost use Rattle.rules.specs.Rules.{longestBlock, keptSamples};
 ghost use Rattle.rules.specs.Facts.{SampleRate};
 ghost use Rattle.voices.specs.Singing.{TrackedAll};
-ghost use Rattle.singers.specs.Singers.{VoiceIn, VoicesIn, roomWith, leastRoom, writtenBy, keptInterval, allInRange, levelVoice, chosenVoices, levelVoices};
+ghost use Rattle.singers.specs.Singers.{VoiceIn, VoicesIn, outs, roomWith, leastRoom, writtenBy, allWritten, keptInterval, allInRange, intervalsNumber, levelVoice, chosenVoices, levelVoices};
 ghost use Rattle.singers.specs.Voicing.{SangBy, AllSang};
 
 // The widest interval, kept as 0 to 24 for -12 to 12.
@@ -149,7 +149,7 @@ pub fn all_sung(
 }
 
 // The output that a chosen voice keeps is written.
-pub fn give(j: u64, chosen: u64, v: Voice, n: usize, out: &mut [i16])
+fn give(j: u64, chosen: u64, v: Voice, n: usize, out: &mut [i16])
     requires { ⌜ (n ≤ longestBlock) × (j < chosen → n ≤ length (now out)) ⌝ }
     ensures { λ r. ⌜ now (out .exit) ≡ writtenBy j chosen n v (now (out .entry)) ⌝ }
 {
@@ -157,6 +157,16 @@ pub fn give(j: u64, chosen: u64, v: Voice, n: usize, out: &mut [i16])
         let kept = v.out;
         copying::give(&kept, out, n);
     }
+}
+
+// The outputs that the chosen voices keep are written.
+pub fn give_all(vs: Voices, n: usize, first: &mut [i16], second: &mut [i16], third: &mut [i16])
+    requires { ⌜ (n ≤ longestBlock) × (0 < vs .count → n ≤ length (now first)) × (1 < vs .count → n ≤ length (now second)) × (2 < vs .count → n ≤ length (now third)) ⌝ }
+    ensures { λ r. ⌜ outs (now (first .exit)) (now (second .exit)) (now (third .exit)) ≡ allWritten n vs (outs (now (first .entry)) (now (second .entry)) (now (third .entry))) ⌝ }
+{
+    give(0, vs.count, vs.first, n, first);
+    give(1, vs.count, vs.second, n, second);
+    give(2, vs.count, vs.third, n, third);
 }
 
 // An interval in semitones as it is kept.
@@ -172,7 +182,7 @@ fn kept_interval(z: i32) -> u32
     (12 + z) as u32
 }
 
-pub fn all_in_range(intervals: &[i32]) -> bool
+fn all_in_range(intervals: &[i32]) -> bool
     ensures { λ r. ⌜ r ≡ allInRange (now (intervals .entry)) ⌝ }
 {
     let mut i: usize = 0;
@@ -183,6 +193,19 @@ pub fn all_in_range(intervals: &[i32]) -> bool
         i += 1;
     }
     true
+}
+
+// The number that intervals are answered: 18, then 19; 0 where they are taken.
+pub fn intervals_number(intervals: &[i32]) -> u32
+    ensures { λ r. ⌜ r ≡ intervalsNumber (now (intervals .entry)) ⌝ }
+{
+    if !all_in_range(intervals) {
+        return 18;
+    }
+    if intervals.len() > 3 {
+        return 19;
+    }
+    0
 }
 
 // A voice level with the input, that kept no output.

@@ -5,7 +5,6 @@ use Prim.Native.Nat.{_≤_, _<_}
 use native.Mathlib.Omega.{arith}
 use lib.ListN.{length}
 use Rattle.tuner.proofs.Fields.{out-long}
-use Rattle.singers.specs.Singers.{outs}
 use Rattle.singers.specs.Voicing.{all-fit}
 use borrow.Author.Needs.{needs}
 use Rattle.choir.proofs.write.Statement.{statement}
@@ -23,14 +22,8 @@ give-requires c κs =
     let s = c .before .before .before .before .before in
     (omega (arith, out-long (s .args .c .tuner) _ (s .good .0 .1 .1 .0), s .pre .0), fitting s .0)
 
-give-requires-2 : tie.Need-give-requires-2
-give-requires-2 c κs = let s = c .before .before .before .before .before .before .before .before in (s .pre .0, fitting s .1)
-
-give-requires-3 : tie.Need-give-requires-3
-give-requires-3 c κs = let s = c .before .before .before .before .before .before .before .before .before .before .before in (s .pre .0, fitting s .2)
-
-give-requires-4 : tie.Need-give-requires-4
-give-requires-4 c κs = let s = c .before .before .before .before .before .before .before .before .before .before .before .before .before .before in (s .pre .0, fitting s .3)
+give-all-requires : tie.Need-give-all-requires
+give-all-requires c κs = let s = c .before .before .before .before .before .before .before .before .before .before in (s .pre .0, fitting s .1, fitting s .2, fitting s .3)
 
 same-length : tie.Need-same-length
 same-length c = search needs
@@ -45,19 +38,7 @@ same-length-4 : tie.Need-same-length-4
 same-length-4 c = search needs
 
 returns : tie.Need-returns
-returns c = (c .before .before .before .before .before .before .before .before .before .before .give .ensures, λ i. outs (c .before .before .before .before .before .before .before .give2 .ensures i) (c .before .before .before .before .give3 .ensures i) (c .before .give4 .ensures i))
+returns c = (c .before .before .before .before .before .before .before .before .give .ensures, c .before .before .before .give-all .ensures)
 
 pub write-spec : {M : Type 1} → statement M
-write-spec =
-    tie.close
-    (tie.spec
-    slice-aggregate-give
-    give-requires
-    give-requires-2
-    give-requires-3
-    give-requires-4
-    same-length
-    same-length-2
-    same-length-3
-    same-length-4
-    returns)
+write-spec = tie.close (tie.spec slice-aggregate-give give-requires give-all-requires same-length same-length-2 same-length-3 same-length-4 returns)
