@@ -26,7 +26,7 @@ use Rattle.voices.specs.Singing.{TrackedAll, singNext, singAfter, singOuts, San
 use Rattle.voices.specs.Accompanying.{voice-cutting, tone-tracked, beside-in-bounds, voice-bounds}
 
 -- ---- one sample: sounds that are the same where a voice reads are voiced alike
-voiced-alike : {x x′ : Sound} → SameNewest 1006 x x′ → (n rate p : ℕ) (at : ℤ) → InBounds n (voiced n x rate p at .position) → voiced n x rate p at ≡ voiced n x′ rate p at
+pub voiced-alike : {x x′ : Sound} → SameNewest 1006 x x′ → (n rate p : ℕ) (at : ℤ) → InBounds n (voiced n x rate p at .position) → voiced n x rate p at ≡ voiced n x′ rate p at
 unfolding voiced
 voiced-alike same n zero p at h = refl
 voiced-alike same n (suc r) p at h =

@@ -107,7 +107,7 @@ choir-reset-good {c} g l (begun-anew h r e f) =
 -- ---- a start
 
 -- what is in range is kept so
-each-in : (zs : List ℤ) → allInRange zs ≡ true → (i : ℕ) → i < length zs → keptInterval (getD zs i (pos 0)) ≤ 24
+pub each-in : (zs : List ℤ) → allInRange zs ≡ true → (i : ℕ) → i < length zs → keptInterval (getD zs i (pos 0)) ≤ 24
 unfolding allInRange
 each-in [] e i h = absurd (omega arith)
 each-in (z ∷ zs) e zero h = leb-true _ 24 (and-left (leb (keptInterval z) 24) (allInRange zs) e)
@@ -118,7 +118,7 @@ unfolding chosenVoices
 chosen-in zs e h = record { count = h; first = λ k. level-in (each-in zs e 0 k); second = λ k. level-in (each-in zs e 1 k); third = λ k. level-in (each-in zs e 2 k) }
 
 -- where a start is taken the intervals are in range
-intervals-in : (v n : ℕ) (zs : List ℤ) → choirNumber v n zs ≡ 0 → intervalsNumber zs ≡ 0
+pub intervals-in : (v n : ℕ) (zs : List ℤ) → choirNumber v n zs ≡ 0 → intervalsNumber zs ≡ 0
 intervals-in v n zs e =
     let z = own-zero v n zs e in
     by (roomy n) (λ r. sym (number-on v n zs z r) ∙ e) (λ r. absurd (let q = number-17 v n zs z r in omega arith))

@@ -1,0 +1,4 @@
+pub mod Backing
+pub mod Alongside
+pub mod Steps
+pub mod Backs
