@@ -1,9 +1,11 @@
--- Backing voices after any series of calls: K13's account. Definitions only, and four statements (`BackingTheorem`, `WrittenTheorem`, `FurtherTheorem`, `CutTheorem`); their proofs are `backing-holds`, `written-holds`, `further-holds` and `cut-holds` in Backs.antt.
+-- Backing voices after any series of calls: K13's account. Definitions only, and five statements (`BackingTheorem`, `WrittenTheorem`, `TotalTheorem`, `FurtherTheorem`, `CutTheorem`); their proofs are `backing-holds`, `written-holds`, `further-holds` and `cut-holds` in Backs.antt, and `total-holds` in Totals.antt.
 use mathlib.Core.Path.{_≡_}
+use mathlib.Core.Bool.{cond}
 use mathlib.Core.List.{List, [], _∷_, _++_}
 use Prim.Native.Nat.{ℕ, _+_, _-_, _≤_, _<_}
+use lib.Dec.{eqb}
 use lib.IntN.{ℤ, pos}
-use lib.ListN.{length, drop, replicate}
+use lib.ListN.{length, take, drop, replicate}
 use Rattle.rules.specs.declared.Settings.{Settings}
 use Rattle.rules.specs.Rules.{defaults, cdRate, inputAt, longestBlock, stepped}
 use Rattle.rules.specs.Facts.{InBounds}
@@ -134,6 +136,28 @@ WrittenTheorem =
     (cs : List Call) (c c′ : Choir) (began store store′ : List ℕ) (k : ℕ) (xs ys ys′ : List ℤ) (o o′ : Outs) (a : ListAnswer)
     → ChoirSeries cs c began store → ChoirTook c k xs ys o store c′ a ys′ o′ store′ → a .answer .number ≤ 1 → WroteAll (length xs) (received (block k xs ys (a .answer) ys′ ∷ cs)) (c′ .voices) o o′
 
+-- what the blocks taken since the last start or reset wrote of one of the outputs, one after the other
+unfoldable pub wroteBy : (Outs → List ℤ) → {cs : List Call} {c : Choir} {began store : List ℕ} → ChoirSeries cs c began store → List ℤ
+wroteBy part (first-start p z) = []
+wroteBy part (then-start h p z) = []
+wroteBy part (refused-start h p z) = []
+wroteBy part (then-reset h p z) = []
+wroteBy part (refused-reset h p z) = wroteBy part h
+wroteBy part (then-block {o′ = o′} {a} h p n) = cond (eqb (a .answer .number) 0) (wroteBy part h ++ take (a .answer .written) (part o′)) (wroteBy part h)
+wroteBy part (short-block h p z) = wroteBy part h
+wroteBy part (then-change h p) = wroteBy part h
+wroteBy part (then-midi h p) = wroteBy part h
+wroteBy part (then-meter h p) = wroteBy part h
+
+-- samples out: what was written of each chosen voice is what the rules give over all that was received
+pub record TotalIs {cs : List Call} {c : Choir} {began store : List ℕ} (h : ChoirSeries cs c began store) : Type 0 where
+  pub first : 0 < c .voices .count → wroteBy (λ (o : Outs). o .first) h ≡ voiceOuts (voicedOf (c .voices .first .interval) (received cs))
+  pub second : 1 < c .voices .count → wroteBy (λ (o : Outs). o .second) h ≡ voiceOuts (voicedOf (c .voices .second .interval) (received cs))
+  pub third : 2 < c .voices .count → wroteBy (λ (o : Outs). o .third) h ≡ voiceOuts (voicedOf (c .voices .third .interval) (received cs))
+
+abbrev pub TotalTheorem : Type 0
+TotalTheorem = (cs : List Call) (c : Choir) (began store : List ℕ) (h : ChoirSeries cs c began store) → TotalIs h
+
 -- ---- other voices beside them
 
 -- the same lead and list, and the same voice wherever the same interval was chosen
@@ -149,11 +173,12 @@ FurtherTheorem = (cs : List Call) (c c′ : Choir) (began store store′ : List 
 
 -- ---- the same take, cut in two ways
 
--- the lead is alike, the list the same, and so is each voice of one interval, but for the output of the last block
+-- the lead is alike, the list the same, what a voice of any interval gave in all the same, and each voice of one interval the same but for the output of the last block
 pub record CutAlike (cs cs′ : List Call) (c c′ : Choir) (store store′ : List ℕ) : Type 0 where
   pub lead : Alike (received cs) (received cs′) (c .tuner) (c′ .tuner)
   pub list : c .list ≡ c′ .list
   pub stores : store ≡ store′
+  pub gave : (interval : ℕ) → voicedOf interval (received cs) ≡ voicedOf interval (received cs′)
   pub voices : (v v′ : Voice) → Chosen (c .voices) v → Chosen (c′ .voices) v′ → v .interval ≡ v′ .interval → v .behind ≡ v′ .behind
 
 -- any two series of calls that received the same take, their lists begun in equal stores

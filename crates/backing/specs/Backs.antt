@@ -1,12 +1,12 @@
 -- The proofs of the account of backing voices: after any calls the tuner is that of the same plain calls, list and voices are functions of what happened in the take (`Follows`), and the rest is read off that.
 use mathlib.Core.Path.{_≡_, refl, sym, ap, _∙_, subst, transport}
-use mathlib.Core.Bool.{Bool, true, cond}
+use mathlib.Core.Bool.{Bool, cond}
 use mathlib.Core.List.{List, [], _∷_, _++_, map, map-append}
-use Prim.Native.Nat.{ℕ, zero, suc, _+_, _-_, _≤_, _<_}
+use Prim.Native.Nat.{ℕ, suc, _+_, _-_, _≤_, _<_}
 use native.Mathlib.Nat.{add-zero, zero-add}
 use native.Mathlib.Omega.{arith}
-use borrow.Author.Tests.{eq-eqb, ne-eqb, eqb-true, eqb-false, leb-true, leb-false}
-use lib.Dec.{leb, eqb}
+use borrow.Author.Tests.{eq-eqb, ne-eqb, eqb-true, eqb-false}
+use lib.Dec.{eqb}
 use lib.IntN.{ℤ, pos, natAbs, _-ℤ_}
 use lib.ListN.{length, take, drop, replicate, length-replicate, length-drop}
 use lib.Seq.{take-at}
@@ -31,7 +31,7 @@ use Rattle.listing.specs.Listings.{ListedBy, goes-on, as-it-was, blockNotes}
 use Rattle.singers.specs.declared.Voice.{Voice}
 use Rattle.choir.specs.declared.Choir.{Choir}
 use Rattle.singers.specs.Singers.{Outs, leastRoom, writtenBy, allInRange, chosenVoices}
-use Rattle.choir.specs.Choirs.{ChoirGood, Judged, ChoirTook, by-number, record-out-of-range as choir-out-of-range, beginning, roomy, choirNumber, ChoirStarted, ChoirReset, record-out-of-range as reset-out-of-range, no-room, begun-anew}
+use Rattle.choir.specs.Choirs.{ChoirGood, Judged, ChoirTook, by-number, record-out-of-range as choir-out-of-range, beginning, choirNumber, ChoirStarted, ChoirReset, record-out-of-range as reset-out-of-range, no-room, begun-anew}
 use Rattle.singers.specs.Voicing.{all-fit, written-chosen, number-says}
 use Rattle.choir.specs.Parts.{voices-taken, voices-kept, outs-given}
 use Rattle.choir.specs.Beginnings.{own-zero}
@@ -40,7 +40,7 @@ use Rattle.account.specs.Account.{Call, start, change, block, midi, reset, Leav
 use Rattle.account.specs.Holds.{holds, never-nine, series-lengths, cutting-holds}
 use Rattle.sung.specs.Sung.{notesOf}
 use Rattle.sung.specs.Follows.{last-is, count-is, notes-are, change-notes, midi-notes, meter-notes, untaken-notes, start-notes, reset-notes}
-use Rattle.backing.specs.Backing.{ChoirSeries, first-start, then-start, refused-start, then-reset, refused-reset, then-block, short-block, then-change, then-midi, then-meter, voiceCourse, voiceOf, voicedOf, newestOut, keptOut, Chosen, the-first, the-second, the-third, BackingTheorem, WroteAll, WrittenTheorem, FurtherTheorem, CutTheorem}
+use Rattle.backing.specs.Backing.{ChoirSeries, first-start, then-start, refused-start, then-reset, refused-reset, then-block, short-block, then-change, then-midi, then-meter, voiceCourse, voicedIn, voiceOf, voicedOf, newestOut, keptOut, Chosen, the-first, the-second, the-third, BackingTheorem, WrittenTheorem, FurtherTheorem, CutTheorem}
 use Rattle.voices.specs.Voices.{voiceOuts}
 use Rattle.backing.specs.Alongside.{voicedIn-length, outs-length}
 use Rattle.backing.specs.Steps.{VoiceKeeps, VoicesKeep, keep-right, chosen-keep, level-keep, SameBeside, beside-same, change-beside, bytes-beside, keep-on, voice-holds, sung-keep}
@@ -78,12 +78,12 @@ module _ {c : Choir} {k : ℕ} {xs ys : List ℤ} {o : Outs} {store : List ℕ} 
         out = refl;
       }
 
-  number-is : a .answer .number ≡ d .number
+  pub number-is : a .answer .number ≡ d .number
   unfolding least-took
   number-is = sym (took-number least-took)
 
   -- and, unless one is short, with the lead's
-  plain-took : (a .answer .number ≡ 4 → ⊥) → Took (c .tuner) k xs ys (c′ .tuner) (a .answer) ys′
+  pub plain-took : (a .answer .number ≡ 4 → ⊥) → Took (c .tuner) k xs ys (c′ .tuner) (a .answer) ys′
   plain-took n =
       record {
         number = d .number;
@@ -94,7 +94,7 @@ module _ {c : Choir} {k : ℕ} {xs ys : List ℤ} {o : Outs} {store : List ℕ} 
       }
 
   -- one that is not taken leaves all as it was
-  unmoved : 0 < a .answer .number → (c′ ≡ c) × (store′ ≡ store)
+  pub unmoved : 0 < a .answer .number → (c′ ≡ c) × (store′ ≡ store)
   unmoved h =
       let n : d .number ≡ 0 → ⊥ = λ z. omega (arith, number-is) in
       let list = listed (d .number) n (d .list) in
@@ -125,15 +125,15 @@ afterNotes-append last at k (n ∷ ns) ms =
     afterNotes-append n (suc at) (afterNote last at n k) ns ms ∙ ap (λ (m : ℕ). afterNotes (lastNote n ns) m (afterNotes n (suc at) (afterNote last at n k) ns) ms) e
 
 -- the list of all notes, from an empty one in the store
-abbrev listOf : List ℕ → List Call → Sheet
+abbrev pub listOf : List ℕ → List Call → Sheet
 listOf began cs = afterNotes noNote 0 (sheet emptyListing began) (notesOf cs)
 
-record Follows (cs : List Call) (c : Choir) (began store : List ℕ) : Type 0 where
-  series : Series cs (c .tuner)
-  list : sheet (c .list) store ≡ listOf began cs
-  voices : VoicesKeep (received cs) (c .tuner) (c .voices)
+pub record Follows (cs : List Call) (c : Choir) (began store : List ℕ) : Type 0 where
+  pub series : Series cs (c .tuner)
+  pub list : sheet (c .list) store ≡ listOf began cs
+  pub voices : VoicesKeep (received cs) (c .tuner) (c .voices)
 
-good : {cs : List Call} {c : Choir} {began store : List ℕ} → Follows cs c began store → ChoirGood c
+pub good : {cs : List Call} {c : Choir} {began store : List ℕ} → Follows cs c began store → ChoirGood c
 good {cs} {c} {began} f =
     let in-list = afterNotes-in noNote 0 (sheet emptyListing began) (notesOf cs) empty-in in (
       (holds cs (c .tuner) (f .series) .good, transport (λ i. ListingIn ((zero-add (length (notesOf cs)) ∙ sym (count-is (f .series))) i) (sym (f .list) i .listing)) in-list),
@@ -158,7 +158,7 @@ module _ (t u : Tuner) {t′ : Tuner} (b : Bool) (e : t′ ≡ cond b u t) where
   last-left : u .last .length ≡ t .last .length → t′ .last .length ≡ t .last .length
   last-left q = ap (λ (w : Tuner). w .last .length) e ∙ cond-case b u t (λ (w : Tuner). w .last .length ≡ t .last .length) (λ z. q) (λ z. refl)
 
-either-beside : (a : Answer) (r r′ : Received) → SameBeside r r′ → SameBeside r (ifTaken a r′ r)
+pub either-beside : (a : Answer) (r r′ : Received) → SameBeside r r′ → SameBeside r (ifTaken a r′ r)
 either-beside a r r′ same = cond-case (eqb (a .number) 0) r′ r (SameBeside r) (λ z. same) (λ z. beside-same {r = r} refl)
 
 follow-change : {cs : List Call} {c : Choir} {began store : List ℕ} {s : Settings} {t′ : Tuner} {a : Answer} → Follows cs c began store → Changed (c .tuner) s t′ a → Follows (change s a ∷ cs) (record { tuner = t′; list = c .list; voices = c .voices }) began store
@@ -175,11 +175,11 @@ follow-midi {cs} {c} {bytes = bytes} {a = a} f p =
 
 -- ---- a block
 module _ {cs : List Call} {c c′ : Choir} {began store store′ : List ℕ} {k : ℕ} {xs ys ys′ : List ℤ} {o o′ : Outs} {a : ListAnswer} (f : Follows cs c began store) (d : Judged c k xs ys o store c′ a ys′ o′ store′) where
-  after-taken : a .answer .number ≡ 0 → received (block k xs ys (a .answer) ys′ ∷ cs) ≡ withBlock (received cs) xs (a .answer) ys′
+  pub after-taken : a .answer .number ≡ 0 → received (block k xs ys (a .answer) ys′ ∷ cs) ≡ withBlock (received cs) xs (a .answer) ys′
   unfolding received plus
   after-taken z = cond-yes (withBlock (received cs) xs (a .answer) ys′) (received cs) (eq-eqb (a .answer .number) 0 z)
 
-  after-untaken : 0 < a .answer .number → received (block k xs ys (a .answer) ys′ ∷ cs) ≡ received cs
+  pub after-untaken : 0 < a .answer .number → received (block k xs ys (a .answer) ys′ ∷ cs) ≡ received cs
   unfolding received plus
   after-untaken h = cond-no (withBlock (received cs) xs (a .answer) ys′) (received cs) (ne-eqb (a .answer .number) 0 (λ z. omega arith))
 
@@ -270,13 +270,13 @@ follow-reset {cs} {c} {c′} {store = store} {a} f (begun-anew g r is b) z =
     anew store (and-then (f .series) (by-reset plainly)) (ap (λ (d : Choir). d .list) is) (reset-notes cs (a .answer) z)
     (transport (λ i. VoicesKeep (sym begins i) (sym is i .tuner) (sym is i .voices)) (level-keep (t .hertz) (t .settings) (g .1)))
 
-reset-left : {c c′ : Choir} {store : List ℕ} {a : ListAnswer} → ChoirReset c store c′ a → 0 < a .answer .number → c′ ≡ c
+pub reset-left : {c c′ : Choir} {store : List ℕ} {a : ListAnswer} → ChoirReset c store c′ a → 0 < a .answer .number → c′ ≡ c
 reset-left (reset-out-of-range n e b) h = e
 reset-left (no-room g r e b) h = e
 reset-left (begun-anew g r e b) h = absurd (omega (arith, ap (λ (b : ListAnswer). b .answer .number) b))
 
 -- ---- after any series of calls
-follows : {cs : List Call} {c : Choir} {began store : List ℕ} → ChoirSeries cs c began store → Follows cs c began store
+pub follows : {cs : List Call} {c : Choir} {began store : List ℕ} → ChoirSeries cs c began store → Follows cs c began store
 unfolding received plus
 follows (first-start p z) = started [] (λ t q. and-then fresh-start (by-start q)) p z
 follows (then-start {cs} h p z) = started cs (λ t q. and-then (follows h .series) (by-start q)) p z
@@ -403,6 +403,7 @@ cut-holds cs cs′ c c′ began store store′ h h′ same =
       lead = lead;
       list = ap (λ (k : Sheet). k .listing) sheets;
       stores = ap (λ (k : Sheet). k .store) sheets;
+      gave = λ interval. (λ i. voicedIn interval (freshCourse (same .hertz i) (same .settings i)) (inputAt 0) (same .events i));
       voices =
           λ v v′ q q′ e.
           behind-is (f .voices .each v q)

@@ -2,3 +2,4 @@ pub mod Backing
 pub mod Alongside
 pub mod Steps
 pub mod Backs
+pub mod Totals

@@ -2,14 +2,11 @@
 use mathlib.Core.Path.{_≡_, refl, sym, ap, _∙_, subst, transport}
 use mathlib.Core.Bool.{true}
 use mathlib.Core.List.{List, [], _∷_, _++_, map, append-nil}
-use Prim.Native.Nat.{ℕ, zero, suc, _+_, _-_, _≤_, _<_}
+use Prim.Native.Nat.{ℕ, _+_, _-_, _≤_, _<_}
 use native.Mathlib.Omega.{arith}
-use borrow.Author.Tests.{lt-ltb, leb-true}
-use lib.Dec.{leb}
 use lib.IntN.{ℤ, pos, _-ℤ_, +ℤ-idr}
-use lib.ListN.{length, drop, getD, replicate, length-append}
+use lib.ListN.{length, drop, replicate, length-append}
 use lib.Seq.{drop-at}
-use Rattle.whole.specs.Tests.{cond-yes, and-left, and-right}
 use Rattle.whole.specs.Ring.{var, con, _⊕_, _⊖_, solve}
 use Rattle.rules.specs.declared.Settings.{Settings}
 use Rattle.rules.specs.Rules.{inputAt, longestBlock}
@@ -27,7 +24,7 @@ use Rattle.voices.specs.Voices.{IntervalIn, Voiced, voiceAfter, voiceGives, voi
 use Rattle.voices.specs.Accompanying.{voice-bounds}
 use Rattle.singers.specs.declared.Voice.{Voice}
 use Rattle.singers.specs.declared.Voices.{Voices}
-use Rattle.singers.specs.Singers.{VoiceIn, VoicesIn, keptInterval, allInRange, levelVoice, chosenVoices, levelVoices}
+use Rattle.singers.specs.Singers.{VoiceIn, VoicesIn, allInRange, levelVoice, chosenVoices, levelVoices}
 use Rattle.choir.specs.Choirs.{standsAt, voiceAfterBlock, sungBy, allSung}
 use Rattle.choir.specs.Leads.{sung-chosen}
 use Rattle.choir.specs.Goods.{each-in}
