@@ -1,4 +1,4 @@
--- Backing voices after any series of calls: K13's account. Definitions only, and five statements (`BackingTheorem`, `WrittenTheorem`, `TotalTheorem`, `FurtherTheorem`, `CutTheorem`); their proofs are `backing-holds`, `written-holds`, `further-holds` and `cut-holds` in Backs.antt, and `total-holds` in Totals.antt.
+-- Backing voices after any series of calls: K13's account. Definitions only, and six statements (`BackingTheorem`, `StayTheorem`, `WrittenTheorem`, `TotalTheorem`, `FurtherTheorem`, `CutTheorem`); their proofs are `backing-holds`, `written-holds`, `further-holds` and `cut-holds` in Backs.antt, `total-holds` in Totals.antt, and `stay-holds` in Stays.antt.
 use mathlib.Core.Path.{_≡_}
 use mathlib.Core.Bool.{cond}
 use mathlib.Core.List.{List, [], _∷_, _++_}
@@ -22,7 +22,7 @@ use Rattle.voices.specs.Voices.{IntervalIn, Voiced, voicedBy, voiceAfter, voice
 use Rattle.singers.specs.declared.Voice.{Voice}
 use Rattle.singers.specs.declared.Voices.{Voices}
 use Rattle.choir.specs.declared.Choir.{Choir}
-use Rattle.singers.specs.Singers.{Outs}
+use Rattle.singers.specs.Singers.{Outs, chosenVoices, levelVoices}
 use Rattle.choir.specs.Choirs.{ChoirGood, standsAt, ChoirTook, ChoirStarted, ChoirReset}
 use Rattle.account.specs.Account.{Call, start, change, block, midi, reset, meter, Received, courseOf, received, samplesOf, NeverNine}
 use Rattle.account.specs.Cutting.{SameTake, Alike}
@@ -121,6 +121,25 @@ pub record BackingIs (cs : List Call) (c : Choir) (began store : List ℕ) : Typ
 -- after any series of calls
 abbrev pub BackingTheorem : Type 0
 BackingTheorem = (cs : List Call) (c : Choir) (began store : List ℕ) → ChoirSeries cs c began store → BackingIs cs c began store
+
+-- ---- the voices that are chosen
+
+-- the intervals of the last start that was taken; a start that is refused leaves none
+unfoldable pub choseBy : {cs : List Call} {c : Choir} {began store : List ℕ} → ChoirSeries cs c began store → List ℤ
+choseBy (first-start {zs = zs} p z) = zs
+choseBy (then-start {zs = zs} h p z) = zs
+choseBy (refused-start h p z) = []
+choseBy (then-reset h p z) = choseBy h
+choseBy (refused-reset h p z) = choseBy h
+choseBy (then-block h p n) = choseBy h
+choseBy (short-block h p z) = choseBy h
+choseBy (then-change h p) = choseBy h
+choseBy (then-midi h p) = choseBy h
+choseBy (then-meter h p) = choseBy h
+
+-- the voices stay until the next start: put level, they are those of its intervals
+abbrev pub StayTheorem : Type 0
+StayTheorem = (cs : List Call) (c : Choir) (began store : List ℕ) (h : ChoirSeries cs c began store) → levelVoices (c .voices) ≡ chosenVoices (choseBy h)
 
 -- ---- what a block wrote
 

@@ -3,3 +3,4 @@ pub mod Alongside
 pub mod Steps
 pub mod Backs
 pub mod Totals
+pub mod Stays
