@@ -273,7 +273,7 @@ fn write(
 }
 
 // A block to a good choir: taken, given again or refused.
-fn block_to_good(
+pub fn block_to_good(
     c: Choir,
     number: u16,
     samples: &[i16],

@@ -87,7 +87,7 @@ module _ {t₀ t t′ : Tuner} {size : ℕ} {xs ys ys′ : List ℤ} {k₀ : She
   abbrev answer : Answer
   answer = g′ .left .answer
 
-  before : Goes t₀ size xs t g
+  pub before : Goes t₀ size xs t g
   before = p .goes zero′
 
   -- the place behind the samples taken so far
@@ -107,7 +107,7 @@ module _ {t₀ t t′ : Tuner} {size : ℕ} {xs ys ys′ : List ℤ} {k₀ : She
     unfolding addedBy
     same-from = ap (λ (n : NightAnswer). tookFrom n size) a
 
-    samples-more : tookSamples (g′ .answer) size xs ≡ tookSamples (g .answer) size xs ++ block
+    pub samples-more : tookSamples (g′ .answer) size xs ≡ tookSamples (g .answer) size xs ++ block
     samples-more =
         (λ i. take (written i) (drop (same-from i) xs))
         ∙ take-add (g .answer .written) (length block) (drop (tookFrom (g .answer) size) xs)
@@ -142,16 +142,16 @@ module _ {t₀ t t′ : Tuner} {size : ℕ} {xs ys ys′ : List ℤ} {k₀ : She
     is-last : IsLast t (g .next)
     is-last = again-is-last (w .took) e
 
-    first : g .at ≡ 0
+    pub first : g .at ≡ 0
     first =
         by (ltb 0 (g .at))
         (λ h. let n = before .number (leb-true 1 (g .at) h) in absurd (omega (arith, n, is-last .1)))
         (λ h. let n = leb-false 1 (g .at) h in omega arith)
 
-    none-before : g .answer .written ≡ 0
+    pub none-before : g .answer .written ≡ 0
     none-before = omega (arith, behind, first)
 
-    none-now : g′ .answer .written ≡ 0
+    pub none-now : g′ .answer .written ≡ 0
     unfolding addedBy
     none-now = ap (λ (n : NightAnswer). n .written) a ∙ none-before
 

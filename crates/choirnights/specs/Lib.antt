@@ -1,0 +1,5 @@
+pub mod ChoirNights
+pub mod Ones
+pub mod Alike
+pub mod Voicing
+pub mod Sofar
