@@ -2,7 +2,7 @@
 
 use std::process::{Command, Output, Stdio};
 
-const COMMANDS: [(&str, &str); 12] = [
+const COMMANDS: [(&str, &str); 13] = [
     ("compare", env!("CARGO_BIN_EXE_compare")),
     ("files", env!("CARGO_BIN_EXE_files")),
     ("generate", env!("CARGO_BIN_EXE_generate")),
