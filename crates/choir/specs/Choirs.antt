@@ -8,11 +8,13 @@ use lib.IntN.{ℤ, pos, natAbs, _-ℤ_}
 use lib.ListN.{length, take, drop, replicate}
 use Rattle.rules.specs.declared.Settings.{Settings}
 use Rattle.rules.specs.Rules.{inputAt, longestBlock, refuse, startNumber}
+use Rattle.answers.specs.declared.Answer.{Answer}
 use Rattle.answers.specs.Numbering.{plain}
+use Rattle.meters.specs.declared.Meter.{Meter}
 use Rattle.lists.specs.Lists.{room, emptyListing}
 use Rattle.voices.specs.Voices.{voiceAfter, voiceGives, voiceOuts}
 use Rattle.tuner.specs.declared.Tuner.{Tuner}
-use Rattle.tuner.specs.Tuners.{takeOf, forceOf, freshTuner, defaultTuner, Verdict, tunerBy, answerBy, outBy}
+use Rattle.tuner.specs.Tuners.{takeOf, forceOf, freshTuner, defaultTuner, Verdict, tunerBy, answerBy, outBy, Changed, Keyed, Metered}
 use Rattle.listing.specs.declared.ListAnswer.{ListAnswer}
 use Rattle.listing.specs.Listings.{listTuner, ListGood, listAnswer, ListedBy}
 use Rattle.singers.specs.declared.Voice.{Voice}
@@ -156,3 +158,27 @@ pub data ChoirReset (c : Choir) (store : List ℕ) (c′ : Choir) (a : ListAnswe
   record-out-of-range : (ChoirGood c → ⊥) → c′ ≡ c → a ≡ listAnswer (plain 9) (c .list) → ChoirReset c store c′ a
   no-room : ChoirGood c → roomy (length store) ≡ false → c′ ≡ c → a ≡ listAnswer (plain 17) (c .list) → ChoirReset c store c′ a
   begun-anew : ChoirGood c → roomy (length store) ≡ true → c′ ≡ beginning (freshTuner (c .tuner .hertz) (c .tuner .settings)) (levelVoices (c .voices)) → a ≡ listAnswer (plain 0) emptyListing → ChoirReset c store c′ a
+
+-- ---- calls of the lead alone
+
+-- the choir with another lead
+abbrev pub ledBy : Choir → Tuner → Choir
+ledBy c t = record { tuner = t; list = c .list; voices = c .voices }
+
+-- the promise of a call of the lead's, `Call t t′ a`: 9 where the record is out of range, and all as it was; else what it does to the lead, and list and voices stay
+pub data OfLead (Call : Tuner → Tuner → Answer → Type 0) (c c′ : Choir) (a : Answer) : Type 0 where
+  record-out-of-range : (ChoirGood c → ⊥) → c′ ≡ c → a ≡ plain 9 → OfLead Call c c′ a
+  of-the-lead : ChoirGood c → {t′ : Tuner} → Call (c .tuner) t′ a → c′ ≡ ledBy c t′ → OfLead Call c c′ a
+
+-- a change of settings
+abbrev pub ChoirChanged : Choir → Settings → Choir → Answer → Type 0
+ChoirChanged c s c′ a = OfLead (λ t t′ b. Changed t s t′ b) c c′ a
+
+-- keyboard bytes
+abbrev pub ChoirKeyed : Choir → List ℕ → Choir → Answer → Type 0
+ChoirKeyed c bytes c′ a = OfLead (λ t t′ b. Keyed t bytes t′ b) c c′ a
+
+-- a read of the meter: refused where the record is out of range, else the lead's
+pub data ChoirMetered (c : Choir) (m : Meter) : Type 0 where
+  record-out-of-range : (ChoirGood c → ⊥) → m ≡ Meter.Refused → ChoirMetered c m
+  of-the-lead : ChoirGood c → Metered (c .tuner) m → ChoirMetered c m

@@ -4,3 +4,4 @@ pub mod Parts
 pub mod Beginnings
 pub mod Leads
 pub mod Goods
+pub mod Led

@@ -4,6 +4,7 @@ use keyboard::Keyboard;
 use listing::ListAnswer;
 use listing::ListTuner;
 use lists::Listing;
+use meters::Meter;
 use pitch::Pitch;
 use record::Head;
 use record::Heard;
@@ -16,6 +17,7 @@ use rules::Settings;
 use singers::Voices;
 use tuner::LastNumbers;
 use tuner::Left;
+use tuner::Taken;
 use tuner::Tuner;
 ghost use mathlib.Core.Path.{_≡_};
 ghost use mathlib.Core.List.{_++_};
@@ -33,7 +35,7 @@ ghost use Rattle.tuner.specs.Tuners.{Good, Verdict};
 ghost use Rattle.tuner.specs.Verdicts.{counted};
 ghost use Rattle.listing.specs.Listings.{listAnswer};
 ghost use Rattle.singers.specs.Singers.{VoicesIn, outs, leastRoom, allWritten};
-ghost use Rattle.choir.specs.Choirs.{ChoirGood, Judged, ChoirTook, beginning, roomy, choirNumber, ChoirStarted, ChoirReset};
+ghost use Rattle.choir.specs.Choirs.{ChoirGood, Judged, ChoirTook, beginning, ledBy, roomy, choirNumber, ChoirStarted, ChoirReset, ChoirChanged, ChoirKeyed, ChoirMetered};
 ghost use Rattle.choir.specs.Parts.{LeftBy, Gave};
 
 // A tuner, the list of its take, and its voices.
@@ -47,6 +49,12 @@ pub struct Choir {
 pub struct ChoirTaken {
     pub choir: Choir,
     pub answer: ListAnswer,
+}
+
+// What a call of the lead's alone leaves, and its answer.
+pub struct ChoirLed {
+    pub choir: Choir,
+    pub answer: Answer,
 }
 
 // What a block leaves beside the lent arrays: the tuner's, the list, and the voices.
@@ -391,4 +399,65 @@ pub fn reset(c: Choir, store: &[u32]) -> ChoirTaken
     let d = Tuner::reset(t);
     let u = d.tuner;
     begin(u, singers::level_voices(vs), 0)
+}
+
+// A choir left as it was, and 9.
+fn unled(c: Choir) -> ChoirLed
+    ensures { λ r. ⌜ (r .choir ≡ c) × (r .answer ≡ plain 9) ⌝ }
+{
+    ChoirLed {
+        choir: c,
+        answer: answers::plain(9),
+    }
+}
+
+// What a call did to the lead, and list and voices as they were.
+fn led(c: Choir, d: Taken) -> ChoirLed
+    ensures { λ r. ⌜ (r .choir ≡ ledBy c (d .tuner)) × (r .answer ≡ d .answer) ⌝ }
+{
+    let t = d.tuner;
+    let list = c.list;
+    let vs = c.voices;
+    let answer = d.answer;
+    ChoirLed {
+        choir: Choir {
+            tuner: t,
+            list: list,
+            voices: vs,
+        },
+        answer: answer,
+    }
+}
+
+// New settings, which count from the next sample.
+pub fn change(c: Choir, s: Settings) -> ChoirLed
+    ensures { λ r. ⌜ ChoirChanged c s (r .choir) (r .answer) ⌝ }
+{
+    if !good(c) {
+        return unled(c);
+    }
+    let t = c.tuner;
+    led(c, Tuner::change(t, s))
+}
+
+// Bytes from the keyboard.
+pub fn midi(c: Choir, bytes: &[u8]) -> ChoirLed
+    ensures { λ r. ⌜ ChoirKeyed c (now (bytes .entry)) (r .choir) (r .answer) ⌝ }
+{
+    if !good(c) {
+        return unled(c);
+    }
+    let t = c.tuner;
+    led(c, Tuner::midi(t, bytes))
+}
+
+// What the meter shows of the lead.
+pub fn meter(c: Choir) -> Meter
+    ensures { λ r. ⌜ ChoirMetered c r ⌝ }
+{
+    if !good(c) {
+        return Meter::Refused;
+    }
+    let t = c.tuner;
+    Tuner::meter(t)
 }
