@@ -116,9 +116,9 @@ fn read(s: &[i16], m: usize, behind: u32) -> i16
     requires { ⌜ (m ≤ length (now s)) × (1006 ≤ m) × (behind ≤ rules.farthest) ⌝ }
     ensures { λ r. ⌜ ((n : ℕ) → r ≡ rules.reading (ago (now (s .entry)) m) n (rules.inputAt n -ℤ pos behind)) ⌝ }
 {
-    let whole = (behind + 65535) / 65536;
-    let u = (whole * 65536 - behind) / 16;
-    let at = m - 6 - whole as usize;
+    let place = rules::FARTHEST - behind;
+    let u = place % 65536 / 16;
+    let at = m - 1006 + (place / 65536) as usize;
     among(s, at, u)
 }
 

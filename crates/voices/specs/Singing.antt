@@ -1,6 +1,6 @@
 -- A voice over the samples of a block: where its position stands after each, and what it writes there. The code keeps it by how far it lies behind the input.
 -- Its rate is the tracked period over an entry of the table, so it lies no farther from one than a cycle is long: the lead's bounds are its own.
-use mathlib.Core.Path.{_≡_, refl, sym, ap, _∙_, subst}
+use mathlib.Core.Path.{_≡_, refl, sym, ap, _∙_, subst, transport}
 use mathlib.Core.Bool.{Bool, true, false, cond, _&&_, _||_}
 use mathlib.Core.List.{List, [], _∷_, _++_}
 use Prim.Native.Nat.{ℕ, zero, suc, _+_, _-_, _*_, _/_, _≤_, _<_}
@@ -37,6 +37,10 @@ pub record TrackedAll (b : ℕ) (periods notes : List ℕ) : Type 0 where
 -- silent, or at a rate that one cycle mends
 abbrev pub Kept : ℕ → ℕ → Type 0
 Kept rate p = 0 < rate → Paced rate p
+
+-- what a voice keeps beside the period p and the wanted note n: the entry of its note where there is a period, and its rate
+abbrev pub Reckoned : (hertz interval p n entry rate : ℕ) → Type 0
+Reckoned hertz interval p n entry rate = (0 < p → entry ≡ voicePeriod hertz interval n) × (rate ≡ voiceRate hertz interval p n)
 
 -- one sample, whatever its number: the voice that lay so far behind lies r behind, and its output is at place i
 pub record Sounded (behind rate p : ℕ) (s : List ℤ) (m i : ℕ) (outs outs′ : List ℤ) (r : ℕ) : Type 0 where
@@ -209,3 +213,9 @@ module _ (hertz interval behind : ℕ) (periods notes : List ℕ) (s : List ℤ)
             ∙ ap (λ (k : ℕ). singOuts hertz interval n (at n) periods notes s m (suc i) ++ drop k outs) z;
       } in
       subst (λ (k : ℕ). Sang hertz interval behind periods notes s m k outs outs₂ r) (sym z) whole
+
+  -- and one at the rate of a stretch: beside the same period p and the same note n
+  pub sang-on : {i rate p n : ℕ} {outs₁ outs₂ : List ℤ} {b r : ℕ} → i < length outs → rate ≡ voiceRate hertz interval p n → p ≡ getD periods i 0 → n ≡ getD notes i 0 → Sang hertz interval behind periods notes s m i outs outs₁ b
+      → Sounded b rate p s (m + i + 1) i outs₁ outs₂ r → Sang hertz interval behind periods notes s m (i + 1) outs outs₂ r
+  sang-on {i} {outs₁ = outs₁} {outs₂} {b} {r} l e same same-note a d =
+      sang-more l a (transport (λ j. Sounded b ((e ∙ (λ k. voiceRate hertz interval (same k) (same-note k))) j) (same j) s (m + i + 1) i outs₁ outs₂ r) d)

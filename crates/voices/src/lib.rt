@@ -3,12 +3,15 @@ use reading::Growth;
 use rules::LONGEST_BLOCK;
 use rules::NO_NOTE;
 ghost use mathlib.Core.Path.{_≡_};
+ghost use mathlib.Core.List.{List};
 ghost use Prim.Native.Nat.{ℕ, _+_, _≤_, _<_};
-ghost use lib.ListN.{length, set};
-ghost use Rattle.rules.specs.Rules.{longestBlock, noNote, farthest};
+ghost use lib.IntN.{ℤ};
+ghost use lib.ListN.{length, getD};
+ghost use Rattle.whole.specs.Tests.{Decides};
+ghost use Rattle.rules.specs.Rules.{longestBlock, noNote, farthest, leastPeriod, greatestPeriod};
 ghost use Rattle.rules.specs.Facts.{SampleRate};
 ghost use Rattle.voices.specs.Voices.{IntervalIn, voiceNote, voicePeriod, voiceRate};
-ghost use Rattle.voices.specs.Singing.{Tracked, TrackedAll, Kept, Sounded, Sang};
+ghost use Rattle.voices.specs.Singing.{Tracked, TrackedAll, Kept, Reckoned, Sounded, Sang};
 
 // Intervals of -12 to 12 semitones are kept as 0 to 24; this is none.
 pub const UNISON: u32 = 12;
@@ -16,12 +19,20 @@ pub const UNISON: u32 = 12;
 // How far a voice that is put level lies behind the input.
 const LEVEL: u32 = 0;
 
-// A voice within a block: how far its position lies behind the input; and its rate, beside the period and the wanted note for which it was reckoned.
+// A voice within a block: how far its position lies behind the input; the period and the wanted note beside which it sings, the table entry of its note,
+// and its rate.
 struct Singer {
     behind: u32,
     period: u32,
     note: u32,
+    entry: u32,
     rate: u32,
+}
+
+// Where a stretch of samples ends, and how far behind it leaves the voice.
+struct Sung {
+    at: usize,
+    behind: u32,
 }
 
 // The note of a voice, so many semitones from the wanted note.
@@ -39,79 +50,135 @@ fn voice_note(interval: u32, note: u32) -> u32
     above - UNISON
 }
 
-// The rate of a voice beside this period and this wanted note; 0 where it is silent.
-fn voice_rate(hertz: u32, interval: u32, period: u32, note: u32) -> u32
-    requires { ⌜ SampleRate hertz × IntervalIn interval × Tracked period note ⌝ }
-    ensures { λ r. ⌜ r ≡ voiceRate hertz interval period note ⌝ }
+// The table entry of a voice's note beside this wanted note; 0 where it has none.
+fn voice_entry(hertz: u32, interval: u32, note: u32) -> u32
+    requires { ⌜ SampleRate hertz × IntervalIn interval × (note ≤ noNote) ⌝ }
+    ensures { λ r. ⌜ r ≡ voicePeriod hertz interval note ⌝ }
 {
-    if period == 0 {
-        return 0;
+    notes::wanted_period(hertz, voice_note(interval, note))
+}
+
+// The same, looked up only where the note is another.
+fn entry_beside(v: Singer, hertz: u32, interval: u32, note: u32) -> u32
+    requires { ⌜ SampleRate hertz × IntervalIn interval × (note ≤ noNote) × Reckoned hertz interval (v .period) (v .note) (v .entry) (v .rate) ⌝ }
+    ensures { λ r. ⌜ r ≡ voicePeriod hertz interval note ⌝ }
+{
+    if v.period != 0 {
+        if v.note == note {
+            return v.entry;
+        }
     }
-    let entry = notes::wanted_period(hertz, voice_note(interval, note));
+    voice_entry(hertz, interval, note)
+}
+
+// The rate of a voice beside this period, where its note has this entry; 0 where it is silent.
+fn voice_rate(period: u32, entry: u32) -> u32
+    requires { ⌜ (0 < period) × (period ≤ greatestPeriod) × (0 < entry → leastPeriod ≤ entry) ⌝ }
+    ensures { λ r. ⌜ ((hertz interval note : ℕ) → entry ≡ voicePeriod hertz interval note → r ≡ voiceRate hertz interval period note) ⌝ }
+{
     if entry == 0 {
         return 0;
     }
     notes::raw_rate(period, entry)
 }
 
-// The same voice with the rate for this period and this note: reckoned anew only where they are others.
+// The same voice beside this period and this wanted note.
 fn beside(v: Singer, hertz: u32, interval: u32, period: u32, note: u32) -> Singer
-    requires { ⌜ SampleRate hertz × IntervalIn interval × Tracked period note × (v .rate ≡ voiceRate hertz interval (v .period) (v .note)) ⌝ }
-    ensures { λ r. ⌜ (r .behind ≡ v .behind) × (r .period ≡ period) × (r .note ≡ note) × (r .rate ≡ voiceRate hertz interval period note) ⌝ }
+    requires { ⌜ SampleRate hertz × IntervalIn interval × Tracked period note × Reckoned hertz interval (v .period) (v .note) (v .entry) (v .rate) ⌝ }
+    ensures { λ r. ⌜ (r .behind ≡ v .behind) × (r .period ≡ period) × (r .note ≡ note) × Reckoned hertz interval period note (r .entry) (r .rate) ⌝ }
 {
-    if v.period == period {
-        if v.note == note {
-            return v;
-        }
+    if period == 0 {
+        return Singer {
+            behind: v.behind,
+            period: 0,
+            note: note,
+            entry: 0,
+            rate: 0,
+        };
     }
+    let entry = entry_beside(v, hertz, interval, note);
     Singer {
         behind: v.behind,
         period: period,
         note: note,
-        rate: voice_rate(hertz, interval, period, note),
+        entry: entry,
+        rate: voice_rate(period, entry),
     }
 }
 
 // One sample, the newest of the first m: the output goes to place i. Silent, it is 0, and the position is put level with the input.
-fn sound(v: Singer, s: &[i16], m: usize, out: &mut [i16; LONGEST_BLOCK], i: usize) -> u32
-    requires { ⌜ (v .behind ≤ farthest) × Kept (v .rate) (v .period) × (m ≤ length (now s)) × (1006 ≤ m) × (i < longestBlock) × (length (now out) ≡ longestBlock) ⌝ }
-    ensures { λ r. ⌜ Sounded (v .behind) (v .rate) (v .period) (now (s .entry)) m i (now (out .entry)) (now (out .exit)) r ⌝ }
-{
-    if v.rate == 0 {
-        out[i] = 0;
-        return LEVEL;
-    }
-    let g = Growth {
-        behind: v.behind,
-        repeated: 0,
-        dropped: 0,
-    };
-    let r = reading::turn(g, v.rate, v.period, s, m, out, i);
-    r.behind
-}
-
-// One sample more, after which the lead has this period and this wanted note.
-fn next(
-    v: Singer,
-    hertz: u32,
-    interval: u32,
+fn sound(
+    behind: u32,
+    rate: u32,
     period: u32,
-    note: u32,
     s: &[i16],
     m: usize,
     out: &mut [i16; LONGEST_BLOCK],
     i: usize,
-) -> Singer
-    requires { ⌜ SampleRate hertz × IntervalIn interval × Tracked period note × (v .rate ≡ voiceRate hertz interval (v .period) (v .note)) × (v .behind ≤ farthest) × (m ≤ length (now s)) × (1006 ≤ m) × (i < longestBlock) × (length (now out) ≡ longestBlock) ⌝ }
-    ensures { λ r. ⌜ (r .rate ≡ voiceRate hertz interval (r .period) (r .note)) × Sounded (v .behind) (voiceRate hertz interval period note) period (now (s .entry)) m i (now (out .entry)) (now (out .exit)) (r .behind) ⌝ }
+) -> u32
+    requires { ⌜ (behind ≤ farthest) × Kept rate period × (m ≤ length (now s)) × (1006 ≤ m) × (i < longestBlock) × (length (now out) ≡ longestBlock) ⌝ }
+    ensures { λ r. ⌜ Sounded behind rate period (now (s .entry)) m i (now (out .entry)) (now (out .exit)) r ⌝ }
 {
-    let w = beside(v, hertz, interval, period, note);
-    let behind = sound(w, s, m, out, i);
-    Singer {
+    if rate == 0 {
+        out[i] = 0;
+        return LEVEL;
+    }
+    let g = Growth {
         behind: behind,
-        period: w.period,
-        note: w.note,
-        rate: w.rate,
+        repeated: 0,
+        dropped: 0,
+    };
+    let r = reading::turn(g, rate, period, s, m, out, i);
+    r.behind
+}
+
+// Sample i, of b, is one beside this period and this note.
+fn goes_on(
+    period: u32,
+    note: u32,
+    periods: &[u32; LONGEST_BLOCK],
+    notes: &[u32; LONGEST_BLOCK],
+    i: usize,
+    b: usize,
+) -> bool
+    requires { ⌜ b ≤ longestBlock ⌝ }
+    ensures { λ r. ⌜ Decides r ((i < b) × (period ≡ getD (now (periods .entry)) i 0) × (note ≡ getD (now (notes .entry)) i 0)) ⌝ }
+{
+    if i >= b {
+        return false;
+    }
+    if period != periods[i] {
+        return false;
+    }
+    note == notes[i]
+}
+
+// The samples of the store after the first m from this one on, of b, as long as the lead has the voice's period and note: they are sung at one rate.
+fn stretch(
+    v: Singer,
+    periods: &[u32; LONGEST_BLOCK],
+    notes: &[u32; LONGEST_BLOCK],
+    s: &[i16],
+    m: usize,
+    from: usize,
+    b: usize,
+    out: &mut [i16; LONGEST_BLOCK],
+) -> Sung
+    requires { ⌜ (v .behind ≤ farthest) × Kept (v .rate) (v .period) × (m + b ≤ length (now s)) × (1005 ≤ m) × (b ≤ longestBlock) × (length (now out) ≡ longestBlock) × (from < b) × (v .period ≡ getD (now periods) from 0) × (v .note ≡ getD (now notes) from 0) ⌝ }
+    ensures { λ r. ⌜ (from < r .at) × (r .at ≤ b) × (length (now (out .exit)) ≡ length (now (out .entry))) × ((hertz interval behind : ℕ) (outs : List ℤ) → length outs ≡ longestBlock → v .rate ≡ voiceRate hertz interval (v .period) (v .note) → Sang hertz interval behind (now (periods .entry)) (now (notes .entry)) (now (s .entry)) m from outs (now (out .entry)) (v .behind) → Sang hertz interval behind (now (periods .entry)) (now (notes .entry)) (now (s .entry)) m (r .at) outs (now (out .exit)) (r .behind)) ⌝ }
+{
+    let rate = v.rate;
+    let period = v.period;
+    let note = v.note;
+    let mut behind = v.behind;
+    let mut i = from;
+    while goes_on(period, note, periods, notes, i, b) {
+        behind = sound(behind, rate, period, s, m + i + 1, out, i);
+        i += 1;
+    }
+    Sung {
+        at: i,
+        behind: behind,
     }
 }
 
@@ -134,22 +201,15 @@ pub fn sing(
         behind: behind,
         period: 0,
         note: NO_NOTE,
+        entry: 0,
         rate: 0,
     };
     let mut i: usize = 0;
     while i < b {
-        v = next(
-            v,
-            hertz,
-            interval,
-            periods[i],
-            notes[i],
-            s,
-            m + i + 1,
-            out,
-            i,
-        );
-        i += 1;
+        v = beside(v, hertz, interval, periods[i], notes[i]);
+        let d = stretch(v, periods, notes, s, m, i, b, out);
+        v.behind = d.behind;
+        i = d.at;
     }
     v.behind
 }

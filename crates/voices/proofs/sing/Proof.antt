@@ -1,17 +1,16 @@
--- `voices::sing` meets its contract: after i samples it is so of the first i (`Sang`).
+-- `voices::sing` meets its contract: after i samples it is so of the first i (`Sang`), and each stretch goes on from there.
 -- Assumes nothing.
-use mathlib.Core.Path.{_≡_, refl, sym, ap, subst, _∙_}
-use Prim.Native.Nat.{ℕ, _+_, _-_, _≤_}
+use mathlib.Core.Path.{_≡_, refl, sym, subst, _∙_, transport}
+use Prim.Native.Nat.{ℕ, _-_, _≤_}
 use native.Mathlib.Omega.{arith}
-use lib.ListN.{length, length-set}
-use Rattle.voices.specs.Voices.{voiceRate}
-use Rattle.voices.specs.Singing.{Sang, rate-none, sang-none, sang-more}
+use lib.ListN.{length}
+use Rattle.voices.specs.Singing.{Reckoned, Kept, Sang, rate-none, rate-kept, sang-none}
 use Rattle.voices.proofs.sing.Statement.{statement}
 use Rattle.voices.proofs.sing.Tie as tie
 
 abbrev Inv-loop : tie.InvT-loop
 Inv-loop behind hertz interval periods notes s m b out₀ v₀ i₀ out v i =
-    (i ≤ b) × (length out ≡ length out₀) × (v .rate ≡ voiceRate hertz interval (v .period) (v .note)) × Sang hertz interval behind periods notes s m i out₀ out (v .behind)
+    (i ≤ b) × (length out ≡ length out₀) × Reckoned hertz interval (v .period) (v .note) (v .entry) (v .rate) × Sang hertz interval behind periods notes s m i out₀ out (v .behind)
 
 abbrev μ-loop : tie.MeasureT-loop
 μ-loop behind hertz interval periods notes s m b out₀ v₀ i₀ out v i = b - i
@@ -19,53 +18,59 @@ abbrev μ-loop : tie.MeasureT-loop
 loop-holds : tie.Need-loop-holds Inv-loop μ-loop
 loop-holds c =
     let a = c .args in
-    (omega arith, refl, sym (rate-none (a .hertz) (a .interval) 128 refl), sang-none (a .hertz) (a .interval) (a .behind) (a .periods .now) (a .notes .now) (a .s .now) (a .m) (a .out .now) (c .pre .0))
+    (omega arith, refl, ((λ some. absurd (omega (arith, some))), sym (rate-none (a .hertz) (a .interval) 128 refl)), sang-none (a .hertz) (a .interval) (a .behind) (a .periods .now) (a .notes .now) (a .s .now) (a .m) (a .out .now) (c .pre .0))
 
-mul-next : tie.Need-mul-next Inv-loop μ-loop
-mul-next c = omega arith
+mul-beside : tie.Need-mul-beside Inv-loop μ-loop
+mul-beside c = omega arith
 
-element-copy-out-next : tie.Need-element-copy-out-next Inv-loop μ-loop
-element-copy-out-next c = omega arith
+element-copy-out-beside : tie.Need-element-copy-out-beside Inv-loop μ-loop
+element-copy-out-beside c = omega arith
 
-mul-next-2 : tie.Need-mul-next-2 Inv-loop μ-loop
-mul-next-2 c = omega arith
+mul-beside-2 : tie.Need-mul-beside-2 Inv-loop μ-loop
+mul-beside-2 c = omega arith
 
-element-copy-out-next-2 : tie.Need-element-copy-out-next-2 Inv-loop μ-loop
-element-copy-out-next-2 c = omega arith
+element-copy-out-beside-2 : tie.Need-element-copy-out-beside-2 Inv-loop μ-loop
+element-copy-out-beside-2 c = omega arith
 
-add-next : tie.Need-add-next Inv-loop μ-loop
-add-next c = omega arith
-
-add-next-2 : tie.Need-add-next-2 Inv-loop μ-loop
-add-next-2 c = omega arith
-
-next-requires : tie.Need-next-requires Inv-loop μ-loop
-next-requires c κs =
-    let l = c .before .before .before .before in
+beside-requires : tie.Need-beside-requires Inv-loop μ-loop
+beside-requires c κs =
+    let l = c .before .before .before in
     let p = l .before .pre in
-    let v = l .loop .inv in
-    let t = c .before .before .before .loop-test .taken in
-    (p .1, p .2, p .3 .each (l .loop .i) t, v .2, v .3 .near, omega (arith, t, p .4), omega (arith, p .5), omega (arith, t, p .6), v .1 ∙ p .7)
+    (p .1, p .2, p .3 .each (l .loop .i) (c .before .before .loop-test .taken), l .loop .inv .2)
 
-add-i : tie.Need-add-i Inv-loop μ-loop
-add-i c = omega arith
-
-loop-less : tie.Need-loop-less Inv-loop μ-loop
-loop-less c = omega arith
-
-loop-again : tie.Need-loop-again Inv-loop μ-loop
-loop-again c =
+stretch-requires : tie.Need-stretch-requires Inv-loop μ-loop
+stretch-requires c κs =
     let l = c .before .before .before .before .before in
-    let a = l .before .args in
     let p = l .before .pre in
     let v = l .loop .inv in
     let t = c .before .before .before .before .loop-test .taken in
-    let e = c .next .ensures in (
-      omega (arith, t),
-      ap length (e .1 .out 0) ∙ length-set (l .loop .out) (l .loop .i) _ ∙ v .1,
-      e .0,
-      sang-more (a .hertz) (a .interval) (a .behind) (a .periods .now) (a .notes .now) (a .s .now) (a .m) (a .out .now) (omega (arith, t, p .6, p .7)) (v .3) (e .1),
+    let e = c .before .beside .ensures in (
+      omega (arith, e .0, v .3 .near),
+      transport (λ j. Kept (sym (e .3 .1) j) (sym (e .1) j)) (rate-kept (p .1) (l .before .args .interval) (p .3 .each (l .loop .i) t)),
+      p .4,
+      p .5,
+      p .6,
+      v .1 ∙ p .7,
+      t,
+      e .1,
+      e .2,
     )
+
+loop-less : tie.Need-loop-less Inv-loop μ-loop
+loop-less c = let d = c .stretch .ensures in omega (arith, d .0, d .1)
+
+loop-again : tie.Need-loop-again Inv-loop μ-loop
+loop-again c =
+    let w = c .before .before in
+    let l = w .before .before .before .before in
+    let a = l .before .args in
+    let v = l .loop .inv in
+    let r = w .beside .result in
+    let e = w .beside .ensures in
+    let d = c .stretch .ensures in
+    let known : Reckoned (a .hertz) (a .interval) (r .period) (r .note) (r .entry) (r .rate) = transport (λ j. Reckoned (a .hertz) (a .interval) (sym (e .1) j) (sym (e .2) j) (r .entry) (r .rate)) (e .3) in
+    let here = subst (λ (k : ℕ). Sang (a .hertz) (a .interval) (a .behind) (a .periods .now) (a .notes .now) (a .s .now) (a .m) (l .loop .i) (a .out .now) (l .loop .out) k) (sym (e .0)) (v .3) in
+    (d .1, d .2 ∙ v .1, known, d .3 (a .hertz) (a .interval) (a .behind) (a .out .now) (l .before .pre .7) (known .1) here)
 
 returns : tie.Need-returns Inv-loop μ-loop
 returns c =
@@ -81,14 +86,12 @@ sing-spec =
     Inv-loop
     μ-loop
     loop-holds
-    mul-next
-    element-copy-out-next
-    mul-next-2
-    element-copy-out-next-2
-    add-next
-    add-next-2
-    next-requires
-    add-i
+    mul-beside
+    element-copy-out-beside
+    mul-beside-2
+    element-copy-out-beside-2
+    beside-requires
+    stretch-requires
     loop-less
     loop-again
     returns)

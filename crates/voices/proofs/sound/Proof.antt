@@ -14,18 +14,18 @@ element-set-of-out : tie.Need-element-set-of-out
 element-set-of-out c = search needs
 
 returns : tie.Need-returns
-returns c = voiced-silent (c .before .before .args .v .rate) (c .if1 .taken)
+returns c = voiced-silent (c .before .args .rate) (c .if1 .taken)
 
 turn-requires : tie.Need-turn-requires
 turn-requires c κs =
-    let s = c .before .before .before in
+    let s = c .before .before in
     let p = s .pre in
     (p .0, omega arith, omega arith, p .1 (omega (arith, c .before .if1 .left)), p .2, p .3, p .4)
 
 returns-2 : tie.Need-returns-2
 returns-2 c =
-    let s = c .before .before .before .before in
-    voiced-sounds (s .args .v .rate) (omega (arith, c .before .before .if1 .left)) refl (c .turn .ensures .0) (c .turn .ensures .1)
+    let s = c .before .before .before in
+    voiced-sounds (s .args .rate) (omega (arith, c .before .before .if1 .left)) refl (c .turn .ensures .0) (c .turn .ensures .1)
 
 pub sound-spec : {M : Type 1} → statement M
 sound-spec = tie.close (tie.spec mul-out element-set-of-out returns turn-requires returns-2)
