@@ -226,7 +226,7 @@ fn bare(state: u32) -> Shown
 }
 
 // The meter in numbers.
-fn shown_as(m: Meter) -> Shown
+pub fn shown_as(m: Meter) -> Shown
     ensures { λ r. ⌜ r ≡ shownAs m ⌝ }
 {
     match m {
@@ -261,9 +261,9 @@ fn metered(r: Record) -> Shown
 // The version of these calls.
 #[no_mangle]
 pub extern "C" fn daxfolin_version() -> u32
-    ensures { λ r. ⌜ r ≡ 10 ⌝ }
+    ensures { λ r. ⌜ r ≡ 11 ⌝ }
 {
-    10
+    11
 }
 
 // Where the k-th stretch of 512 samples of a recording of so many lies: the last may be shorter, and past the end there is nothing.

@@ -1,0 +1,2 @@
+pub mod HostChoirs
+pub mod ChoirLents
