@@ -1,21 +1,23 @@
 /* Daxfolin for C: a proved tuner for one sung voice, mono, 16-bit samples, 44,100 or 48,000 a second.
  *
- * Each function below is proved (crates/host, and crates/hostlist for those with a list): for any bytes in the record, any settings, any
- * block and any lengths it comes to an end, does nothing undefined, and answers as said here. It takes no memory of its own but under
- * 12 KB of stack (a night under 32 KB; with a list under 21 KB, a night under 33 KB), has no state outside the record and the listing, and
- * calls nothing but memcpy and memset. The archives are for x86-64 Linux; without a list the first is enough:
+ * Each function below is proved (crates/host, crates/hostlist for those with a list, and crates/hostchoir for those with backing voices):
+ * for any bytes in the record, any settings, any block and any lengths it comes to an end, does nothing undefined, and answers as said
+ * here. It takes no memory of its own but under 12 KB of stack (a night under 32 KB; with a list under 21 KB, a night under 33 KB; with
+ * voices under 100 KB), has no state outside the record and the listing, and calls nothing but memcpy and memset. The archives are for x86-64
+ * Linux; without voices and a list the last is enough, and without voices the last two are:
  *
- *     tools/library                                 proves it and writes target/staticlib/libhost.a and libhostlist.a
- *     cc -std=c11 -Ihost program.c target/staticlib/libhost.a target/staticlib/libhostlist.a
+ *     tools/library                                 proves it and writes target/staticlib/lib{hostchoir,hostlist,host}.a
+ *     cc -std=c11 -Ihost program.c target/staticlib/lib{hostchoir,hostlist,host}.a
  *
- * or host/build program.c OUT for both, also where the processor is another one (docs/HOST.md).
+ * or host/build program.c OUT for all, also where the processor is another one (docs/HOST.md).
  *
  * What the proof takes for granted of the caller, as C cannot say it:
- * - a record is lent at an address that is a multiple of 8, all its 6976 bytes readable and, but for daxfolin_meter, writable;
- *   daxfolin_start and daxfolin_start_default write them all and read none, so there it may be fresh memory;
- * - `samples` and `out` stand at even addresses, with as many samples behind them as the length beside them says, `store` and a listing at
- *   addresses that are multiples of 4, and `bytes` anywhere, likewise; of a length of 0 nothing is read or written;
- * - record, listing, samples, out, store and bytes do not overlap, and during a call nobody else touches them. Calls on different records may run at once. */
+ * - a record is lent at an address that is a multiple of 8, all its 6976 bytes readable and, but for daxfolin_meter, writable; so is one
+ *   with voices, of 10096 bytes. daxfolin_start and daxfolin_start_default write them all and read none, so there it may be fresh memory;
+ * - `samples` and outputs stand at even addresses, with as many samples behind them as the length beside them says, `store`, `intervals`
+ *   and a listing at addresses that are multiples of 4, and `bytes` anywhere, likewise; of a length of 0 nothing is read or written;
+ * - record, listing, samples, outputs, store, intervals and bytes do not overlap, and during a call nobody else touches them. Calls on
+ *   different records may run at once. */
 #ifndef DAXFOLIN_H
 #define DAXFOLIN_H
 
@@ -26,16 +28,18 @@
 extern "C" {
 #endif
 
-#define DAXFOLIN_VERSION 10u               /* of these calls: what daxfolin_version() answers */
+#define DAXFOLIN_VERSION 11u               /* of these calls: what daxfolin_version() answers */
 #define DAXFOLIN_LAYOUT 20006u             /* of the record: what stands first in it */
+#define DAXFOLIN_CHOIR_LAYOUT 30001u       /* of the record with voices, likewise */
 #define DAXFOLIN_LONGEST_BLOCK 512u        /* samples of a block */
 #define DAXFOLIN_LONGEST_TAKE 1000000000u  /* samples of a take */
 #define DAXFOLIN_MOST_ROWS 4096u           /* rows of a list, three numbers each */
+#define DAXFOLIN_MOST_VOICES 3u            /* voices beside the lead */
 #define DAXFOLIN_CD 44100u                 /* the sample rates, in samples a second */
 #define DAXFOLIN_FILM 48000u
 
 /* The answers. After a refusal, any number from 2 on, the record is as it was, and so is every sample of the output; but a start that
- * is refused (8, 11 to 16) leaves the default tuner in the record, and what that held is gone, and a night that is refused at a block
+ * is refused (8, 11 to 16, 18, 19) leaves the default tuner in the record, and what that held is gone, and a night that is refused at a block
  * leaves what was taken before that block. Of a start the sample rate is looked at first. Of settings the first bad one is named, in
  * the order scale, eps, decay, floor, channel, mode. 10 answers lines that cannot be read, and so none of these calls. */
 enum {
@@ -55,7 +59,9 @@ enum {
     DAXFOLIN_CHANNEL_OUT_OF_RANGE = 14, /* over 15 */
     DAXFOLIN_MODE_UNKNOWN = 15,         /* over 1 */
     DAXFOLIN_RATE_UNKNOWN = 16,         /* neither 44,100 nor 48,000: a start's alone, before the settings; it leaves the default tuner */
-    DAXFOLIN_STORE_WITHOUT_ROOM = 17    /* under three numbers: a start's or a reset's that lends a store, after all others; nothing is changed */
+    DAXFOLIN_STORE_WITHOUT_ROOM = 17,   /* under three numbers: a start's or a reset's that lends a store, after all before it; nothing is changed */
+    DAXFOLIN_INTERVAL_OUT_OF_RANGE = 18, /* below -12, or over 12: a start's that chooses voices, after 17; it leaves the default tuner without voices */
+    DAXFOLIN_TOO_MANY_VOICES = 19       /* over 3: likewise, after 18 */
 };
 
 /* The modes: whose note is wanted. */
@@ -182,6 +188,33 @@ typedef struct daxfolin_list_night_answer {
     uint32_t left;
 } daxfolin_list_night_answer;
 
+/* A voice beside the lead. */
+typedef struct daxfolin_voice {
+    uint32_t interval; /* from the wanted note, in semitones, and 12 more: 0 to 24, 12 is none */
+    uint32_t behind;   /* how far its read position lies behind the input, in 1/65536 sample */
+    int16_t out[512];  /* of the last block */
+} daxfolin_voice;
+
+typedef struct daxfolin_voices {
+    uint64_t count; /* voices chosen, 0 to 3: the first of those below */
+    daxfolin_voice voice[3];
+} daxfolin_voices;
+
+/* A tuner with its list and its voices: the record's numbers behind a layout of its own, the listing, and the voices. It is numbers alone
+ * too, and all that is said of a record holds of it; a record of either layout is answered 9 by the calls of the other. */
+typedef struct daxfolin_choir {
+    uint64_t layout; /* DAXFOLIN_CHOIR_LAYOUT */
+    daxfolin_settings settings;
+    uint64_t hertz;
+    daxfolin_keyboard keyboard;
+    daxfolin_heard heard;
+    daxfolin_pitch pitch;
+    daxfolin_head head;
+    daxfolin_last last;
+    daxfolin_listing list;
+    daxfolin_voices voices;
+} daxfolin_choir;
+
 /* What the meter shows; a figure that is not of the state is 0. */
 enum { DAXFOLIN_SEARCHING = 0, DAXFOLIN_LOCKING = 1, DAXFOLIN_PITCHED = 2, DAXFOLIN_REFUSED = 9 };
 
@@ -234,6 +267,13 @@ DAXFOLIN_SAME(offsetof(daxfolin_list_answer, rows), 12);
 DAXFOLIN_SAME(sizeof(daxfolin_list_answer), 20);
 DAXFOLIN_SAME(offsetof(daxfolin_list_night_answer, rows), 56);
 DAXFOLIN_SAME(sizeof(daxfolin_list_night_answer), 64);
+DAXFOLIN_SAME(sizeof(daxfolin_voice), 4 + 4 + 512 * 2);
+DAXFOLIN_SAME(sizeof(daxfolin_voices), 8 + 3 * 1032);
+DAXFOLIN_SAME(offsetof(daxfolin_choir, settings), 8);
+DAXFOLIN_SAME(offsetof(daxfolin_choir, last), offsetof(daxfolin_record, last));
+DAXFOLIN_SAME(offsetof(daxfolin_choir, list), 6976);
+DAXFOLIN_SAME(offsetof(daxfolin_choir, voices), 6992);
+DAXFOLIN_SAME(sizeof(daxfolin_choir), 10096);
 DAXFOLIN_SAME(sizeof(daxfolin_shown), 20);
 DAXFOLIN_SAME(sizeof(size_t), 8);
 #undef DAXFOLIN_SAME
@@ -298,6 +338,41 @@ daxfolin_list_answer daxfolin_list_block(daxfolin_record *record, daxfolin_listi
 daxfolin_list_night_answer daxfolin_list_night(daxfolin_record *record, daxfolin_listing *listing, uint16_t number, size_t size,
                                                const int16_t *samples, size_t samples_length, int16_t *out, size_t out_length,
                                                uint32_t *store, size_t store_length);
+
+/* ---- With backing voices. The calls below are the plain ones over a record of its own layout, daxfolin_choir, in which the list has its
+ * place too: a tuner with up to three voices beside the lead, each a fixed interval of -12 to 12 semitones from the wanted note, each with
+ * its own output. A voice reads the take by its own read position, at the rate that makes the tracked period its note's, without smoothing
+ * and without the lead's limits. Where there is no period or no wanted note, or where the voice's own note is outside the table, it writes
+ * 0, and is put level with the input. Lead, answers and list are what they are without voices: their cycles are in no count. `first`,
+ * `second` and `third` are the outputs of the voices in the order in which the start chose them. One beyond them is neither tested nor
+ * touched, and may be of length 0; a chosen voice's that is shorter than the block (of a night, than the recording) is answered 4, as the
+ * lead's is, and nothing is touched. A host without a list lends a store of length 0: rows are then left out, and nothing is answered 17. */
+
+/* daxfolin_start, with a voice for each interval; they stay until the next start. Refused in this order: 16, 8 or 11 to 15, 17 for a store
+ * of one or two numbers, 18, 19. Of 17 the record is as it was; any other refusal leaves the default tuner without voices. */
+daxfolin_list_answer daxfolin_choir_start(daxfolin_choir *choir, uint32_t hertz, daxfolin_settings settings, const int32_t *intervals,
+                                          size_t intervals_length, const uint32_t *store, size_t store_length);
+
+/* daxfolin_reset: the voices are kept too, each level with the input, and the list begins anew. 9, then 17, and nothing is changed. */
+daxfolin_list_answer daxfolin_choir_reset(daxfolin_choir *choir, const uint32_t *store, size_t store_length);
+
+/* daxfolin_change and daxfolin_midi of the lead, whose notes the voices follow. */
+uint32_t daxfolin_choir_change(daxfolin_choir *choir, daxfolin_settings settings);
+uint32_t daxfolin_choir_midi(daxfolin_choir *choir, const uint8_t *bytes, size_t length);
+
+/* daxfolin_list_block, and each chosen voice writes as many samples as the lead. A block that is given again gives all outputs again. */
+daxfolin_list_answer daxfolin_choir_block(daxfolin_choir *choir, uint16_t number, const int16_t *samples, size_t samples_length,
+                                          int16_t *out, size_t out_length, int16_t *first, size_t first_length, int16_t *second,
+                                          size_t second_length, int16_t *third, size_t third_length, uint32_t *store, size_t store_length);
+
+/* daxfolin_list_night, likewise: all outputs are those of daxfolin_choir_block called for one block after the other. */
+daxfolin_list_night_answer daxfolin_choir_night(daxfolin_choir *choir, uint16_t number, size_t size, const int16_t *samples,
+                                                size_t samples_length, int16_t *out, size_t out_length, int16_t *first,
+                                                size_t first_length, int16_t *second, size_t second_length, int16_t *third,
+                                                size_t third_length, uint32_t *store, size_t store_length);
+
+/* daxfolin_meter of the lead. */
+daxfolin_shown daxfolin_choir_meter(const daxfolin_choir *choir);
 
 /* What the meter shows: searching; or locking; or pitched; or refused, of a record that the other calls answer 9. */
 daxfolin_shown daxfolin_meter(const daxfolin_record *record);

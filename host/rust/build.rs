@@ -14,7 +14,7 @@ fn main() {
             .join("../../target/staticlib"),
     };
     println!("cargo:rustc-link-search=native={}", folder.display());
-    for name in ["hostlist", "host", "files"] {
+    for name in ["hostchoir", "hostlist", "host", "files"] {
         let archive = folder.join(format!("lib{name}.a"));
         assert!(
             archive.is_file(),

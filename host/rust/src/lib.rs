@@ -22,10 +22,11 @@
 use std::fmt;
 use std::mem::offset_of;
 
+pub mod choir;
 pub mod wave;
 
 /// The version of the calls.
-pub const VERSION: u32 = 10;
+pub const VERSION: u32 = 11;
 /// The number of the record's layout, which stands first in it.
 pub const LAYOUT: u64 = 20_006;
 /// The most samples of a block.
@@ -78,7 +79,7 @@ pub const MODE_UNKNOWN: u32 = 15;
 /// The sample rate is neither [`CD`] nor [`FILM`]. A start alone is answered this, before its settings are looked at.
 pub const RATE_UNKNOWN: u32 = 16;
 /// The store has under three numbers, and so no room for one row. A start and a reset that lend a store are answered this, after all
-/// others, and nothing is changed.
+/// before it, and nothing is changed. (The numbers of a start that chooses voices stand in [`choir`].)
 pub const STORE_WITHOUT_ROOM: u32 = 17;
 
 /// A mode: the nearest note of the scale is wanted.
@@ -331,19 +332,51 @@ pub fn cut(recording: &[i16], k: usize) -> &[i16] {
     &recording[stretch.from..][..stretch.count]
 }
 
+/// Nothing that is not of this version is called.
+fn linked() {
+    let right = version() == VERSION;
+    assert!(right, "an archive of another version is linked");
+}
+
+/// Words as bytes, low byte first, the same on every machine.
+fn bytes_of<const BYTES: usize>(words: &[u64]) -> [u8; BYTES] {
+    let mut bytes = [0; BYTES];
+    for (part, word) in bytes.chunks_exact_mut(8).zip(words) {
+        part.copy_from_slice(&word.to_le_bytes());
+    }
+    bytes
+}
+
+/// And back.
+fn words_of<const WORDS: usize>(bytes: &[u8]) -> [u64; WORDS] {
+    let mut words = [0; WORDS];
+    for (word, part) in words.iter_mut().zip(bytes.chunks_exact(8)) {
+        *word = u64::from_le_bytes(part.try_into().expect("eight bytes"));
+    }
+    words
+}
+
+impl Meter {
+    fn of(shown: archive::Shown) -> Meter {
+        match shown.state {
+            0 => Meter::Searching,
+            1 => Meter::Locking(shown.lag),
+            2 => Meter::Pitched {
+                period: shown.period,
+                wanted: shown.wanted,
+                rate: shown.rate,
+            },
+            _ => Meter::Refused,
+        }
+    }
+}
+
 impl Record {
     /// The bytes of a record.
     pub const SIZE: usize = 6976;
 
     fn blank() -> Record {
-        assert_eq!(
-            version(),
-            VERSION,
-            "an archive of another version is linked"
-        );
-        Record {
-            words: [0; Record::SIZE / 8],
-        }
+        Record::from_bytes(&[0; Record::SIZE])
     }
 
     /// A fresh tuner at this sample rate, [`CD`] or [`FILM`], with these settings, and 0; or the default tuner, at 44,100, beside 16 or
@@ -529,17 +562,7 @@ impl Record {
 
     pub fn meter(&self) -> Meter {
         // SAFETY: the record is a reference's, and may hold any bytes.
-        let shown = unsafe { archive::daxfolin_meter(self) };
-        match shown.state {
-            0 => Meter::Searching,
-            1 => Meter::Locking(shown.lag),
-            2 => Meter::Pitched {
-                period: shown.period,
-                wanted: shown.wanted,
-                rate: shown.rate,
-            },
-            _ => Meter::Refused,
-        }
+        Meter::of(unsafe { archive::daxfolin_meter(self) })
     }
 
     /// The number of the record's layout: where it is not [`LAYOUT`], a version with another layout left the record (or it is
@@ -550,20 +573,15 @@ impl Record {
 
     /// The record as bytes, to be stored or sent: low byte first, the same on every machine.
     pub fn to_bytes(&self) -> [u8; Record::SIZE] {
-        let mut bytes = [0; Record::SIZE];
-        for (part, word) in bytes.chunks_exact_mut(8).zip(self.words) {
-            part.copy_from_slice(&word.to_le_bytes());
-        }
-        bytes
+        bytes_of(&self.words)
     }
 
     /// The record with these bytes, whatever they are.
     pub fn from_bytes(bytes: &[u8; Record::SIZE]) -> Record {
-        let mut record = Record::blank();
-        for (word, part) in record.words.iter_mut().zip(bytes.chunks_exact(8)) {
-            *word = u64::from_le_bytes(part.try_into().expect("eight bytes"));
+        linked();
+        Record {
+            words: words_of(bytes),
         }
-        record
     }
 }
 

@@ -3,6 +3,8 @@
 //! leaves it.
 #![cfg(target_arch = "x86_64")]
 
+mod rows;
+
 use daxfolin::{
     ListAnswer, Listing, Record, Settings, CD, FILM, GIVEN_AGAIN, KEYBOARD_MODE, MOST_ROWS,
     NUMBER_NEITHER, RATE_UNKNOWN, RECORD_OUT_OF_RANGE, ROW, SCALE_OUT_OF_RANGE, STORE_WITHOUT_ROOM,
@@ -12,8 +14,7 @@ use independent::generator::cases::sung;
 use independent::list::List;
 use independent::statistics::Statistics;
 use independent::tuner::Tuner;
-
-const FILL: u32 = 0xA5A5_A5A5;
+use rows::{holds, FILL};
 
 /// The list of a take, by the independent program.
 fn right(hertz: u32, take: &[i16], room: usize) -> List {
@@ -29,13 +30,6 @@ fn begun(hertz: u32, store: &[u32]) -> (Record, Listing) {
     let answer = record.list_start(&mut list, hertz, Settings::default(), store);
     assert_eq!(answer.answer.number, TAKEN);
     (record, list)
-}
-
-/// The rows in a store, and that it is otherwise as it was.
-fn holds(store: &[u32], list: &List) {
-    let numbers = list.numbers();
-    assert_eq!(store[..numbers.len()], numbers);
-    assert!(store[numbers.len()..].iter().all(|&number| number == FILL));
 }
 
 #[test]

@@ -4,6 +4,8 @@
 //! many calls, DAXFOLIN_SEED which.
 #![cfg(target_arch = "x86_64")]
 
+mod theirs;
+
 use daxfolin::{
     cut, Answer, Listing, Meter, NightAnswer, Record, Settings, CD, CHANNEL_OUT_OF_RANGE,
     DECAY_OUT_OF_RANGE, EPS_OUT_OF_RANGE, FILM, FLOOR_OUT_OF_RANGE, KEYBOARD_MODE, LAYOUT,
@@ -13,6 +15,7 @@ use independent::generator::cases::Cases;
 use independent::generator::edges::fresh_of_version_2;
 use independent::record::{made, Call, Left};
 use std::fmt::Debug;
+use theirs::settings;
 
 const GUARD: usize = 64;
 const FILL: i16 = -23_131;
@@ -45,17 +48,6 @@ fn played<R>(
     let (said, sent) = over(samples, FILL, |sung| over(out, FILL, |out| call(sung, out)));
     assert_eq!(sent, samples, "the samples in were touched");
     said
-}
-
-fn settings(of: &independent::settings::Settings) -> Settings {
-    Settings {
-        scale: of.scale,
-        eps: of.eps,
-        decay: of.decay,
-        floor: of.floor,
-        mode: of.mode,
-        channel: of.channel,
-    }
 }
 
 fn answer(left: &mut Left, of: Answer) {
