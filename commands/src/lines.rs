@@ -1,7 +1,7 @@
-//! The line program's input, for the list of the notes sung: lines are read here, by the rules of documents 01 and 02, and what they ask
-//! for are proved calls. Lines that cannot be read and calls that are refused change nothing.
+//! The line program's input, for the list of the notes sung and for backing voices: lines are read here, by the rules of documents 01 and
+//! 02, and what they ask for are proved calls. Lines that cannot be read and calls that are refused change nothing.
 
-use daxfolin::{Listing, Record, Settings, CD, LONGEST_BLOCK, MOST_ROWS, ROW, SCALE_MODE, TAKEN};
+use daxfolin::{Listing, Record, Settings, CD, LONGEST_BLOCK, MOST_ROWS, ROW, TAKEN};
 use std::io::{self, BufRead};
 
 /// The most bytes of a line before its end.
@@ -42,47 +42,71 @@ pub fn each<E>(
 
 /// What a line asks for.
 #[derive(Debug, PartialEq)]
-enum Asked {
-    /// Scale, eps, decay and floor, and the sample rate.
-    Start([u32; 4], u32),
-    Change([u32; 4]),
-    Mode(u32),
-    Channel(u32),
+pub enum Asked {
+    /// With these settings, at this sample rate.
+    Start(Settings, u32),
+    /// To these settings: a change, a mode or a channel.
+    Change(Settings),
     Midi(Vec<u8>),
     Block(u16, Vec<i16>),
     Reset,
 }
 
-/// None of a line that cannot be read.
-fn asked(line: &[u8]) -> Option<Asked> {
-    if line.len() > LONGEST {
-        return None;
-    }
+/// The word of a line and the fields behind it. None of a line that is too long.
+fn parted(line: &[u8]) -> Option<(&[u8], Vec<&[u8]>)> {
     let mut fields = line.split(|&byte| byte == b'\t');
     let word = fields.next()?;
-    let fields: Vec<&[u8]> = fields.collect();
+    (line.len() <= LONGEST).then(|| (word, fields.collect()))
+}
+
+/// What a line asks for while these settings are in force. None of one that cannot be read.
+pub fn asked(line: &[u8], now: Settings) -> Option<Asked> {
+    let (word, fields) = parted(line)?;
     let numbers = || fields.iter().map(|field| number(field));
     match (word, fields.len()) {
         (b"start" | b"change", 4) | (b"start", 5) => {
             let numbers = numbers().collect::<Option<Vec<u32>>>()?;
-            let settings = [numbers[0], numbers[1], numbers[2], numbers[3]];
+            let unless = match word {
+                b"start" => Settings::default(),
+                _ => now,
+            };
+            let settings = Settings {
+                scale: numbers[0],
+                eps: numbers[1],
+                decay: numbers[2],
+                floor: numbers[3],
+                ..unless
+            };
             Some(match word {
                 b"start" => Asked::Start(settings, *numbers.get(4).unwrap_or(&CD)),
                 _ => Asked::Change(settings),
             })
         }
-        (b"mode", 1) => Some(Asked::Mode(number(fields[0])?)),
-        (b"channel", 1) => Some(Asked::Channel(number(fields[0])?)),
+        (b"mode", 1) => Some(Asked::Change(Settings {
+            mode: number(fields[0])?,
+            ..now
+        })),
+        (b"channel", 1) => Some(Asked::Change(Settings {
+            channel: number(fields[0])?,
+            ..now
+        })),
         (b"midi", 1..) => {
             let bytes = numbers().map(|number| u8::try_from(number?).ok());
             Some(Asked::Midi(bytes.collect::<Option<_>>()?))
         }
         (b"block", 1..) => {
             let place = u16::try_from(number(fields[0])?).ok()?;
-            let samples = fields[1..].iter().map(|field| sample(field));
-            Some(Asked::Block(place, samples.collect::<Option<_>>()?))
+            Some(Asked::Block(place, samples(&fields[1..])?))
         }
         (b"reset", 0) => Some(Asked::Reset),
+        _ => None,
+    }
+}
+
+/// The intervals of voices on a line of its own word, `voices`. None of another line, and of one that cannot be read.
+pub fn intervals(line: &[u8]) -> Option<Vec<i32>> {
+    match parted(line)? {
+        (b"voices", fields) => Some(samples(&fields)?.into_iter().map(i32::from).collect()),
         _ => None,
     }
 }
@@ -95,6 +119,10 @@ fn number(field: &[u8]) -> Option<u32> {
         true => format!("0{}", text.trim_start_matches('0')).parse().ok(),
         false => None,
     }
+}
+
+fn samples(fields: &[&[u8]]) -> Option<Vec<i16>> {
+    fields.iter().map(|field| sample(field)).collect()
 }
 
 /// A minus may stand before the digits of a sample.
@@ -129,7 +157,7 @@ impl Default for Takes {
 impl Takes {
     /// Takes a line. Where it begins another take, the rows of the one that ended.
     pub fn line(&mut self, line: &[u8]) -> Option<String> {
-        match asked(line)? {
+        match asked(line, self.settings)? {
             Asked::Start(settings, hertz) => self.start(settings, hertz),
             Asked::Reset => {
                 let rows = self.rows();
@@ -146,34 +174,17 @@ impl Takes {
                 self.tuner.midi(&bytes);
                 None
             }
-            Asked::Change([scale, eps, decay, floor]) => self.change(Settings {
-                scale,
-                eps,
-                decay,
-                floor,
-                ..self.settings
-            }),
-            Asked::Mode(mode) => self.change(Settings {
-                mode,
-                ..self.settings
-            }),
-            Asked::Channel(channel) => self.change(Settings {
-                channel,
-                ..self.settings
-            }),
+            Asked::Change(settings) => {
+                if self.tuner.change(settings) == TAKEN {
+                    self.settings = settings;
+                }
+                None
+            }
         }
     }
 
     /// A start that is refused leaves the old tuner, as the line program does.
-    fn start(&mut self, [scale, eps, decay, floor]: [u32; 4], hertz: u32) -> Option<String> {
-        let settings = Settings {
-            scale,
-            eps,
-            decay,
-            floor,
-            mode: SCALE_MODE,
-            channel: 0,
-        };
+    fn start(&mut self, settings: Settings, hertz: u32) -> Option<String> {
         let (mut tuner, mut listing) = (Record::default(), Listing::default());
         let answer = tuner.list_start(&mut listing, hertz, settings, &self.store);
         if answer.answer.number != TAKEN {
@@ -182,13 +193,6 @@ impl Takes {
         let rows = self.rows();
         (self.tuner, self.settings, self.listing) = (tuner, settings, listing);
         Some(rows)
-    }
-
-    fn change(&mut self, settings: Settings) -> Option<String> {
-        if self.tuner.change(settings) == TAKEN {
-            self.settings = settings;
-        }
-        None
     }
 
     /// The rows of the take so far, a line each, and a line that counts them.
@@ -206,20 +210,37 @@ impl Takes {
 mod tests {
     use super::*;
 
+    /// In force: scale, eps, decay, floor, mode and channel.
+    const NOW: Settings = settings([5, 6, 7, 8, 1, 9]);
+
+    const fn settings([scale, eps, decay, floor, mode, channel]: [u32; 6]) -> Settings {
+        Settings {
+            scale,
+            eps,
+            decay,
+            floor,
+            mode,
+            channel,
+        }
+    }
+
+    fn asked(line: &[u8]) -> Option<Asked> {
+        super::asked(line, NOW)
+    }
+
     #[test]
     fn lines_that_can_be_read() {
+        let start = |hertz| Asked::Start(settings([1, 2, 3, 4, 0, 0]), hertz);
+        let change = |to| Asked::Change(settings(to));
         for (line, right) in [
-            ("start\t1\t2\t3\t4", Asked::Start([1, 2, 3, 4], CD)),
-            (
-                "start\t1\t2\t3\t4\t48000",
-                Asked::Start([1, 2, 3, 4], 48_000),
-            ),
+            ("start\t1\t2\t3\t4", start(CD)),
+            ("start\t1\t2\t3\t4\t48000", start(48_000)),
             (
                 "change\t0\t4294967295\t0003\t4",
-                Asked::Change([0, u32::MAX, 3, 4]),
+                change([0, u32::MAX, 3, 4, 1, 9]),
             ),
-            ("mode\t1", Asked::Mode(1)),
-            ("channel\t16", Asked::Channel(16)),
+            ("mode\t0", change([5, 6, 7, 8, 0, 9])),
+            ("channel\t16", change([5, 6, 7, 8, 1, 16])),
             ("midi\t0\t255\t0144", Asked::Midi(vec![0, 255, 144])),
             ("block\t65535", Asked::Block(65_535, vec![])),
             (
@@ -231,7 +252,26 @@ mod tests {
             assert_eq!(asked(line.as_bytes()), Some(right), "{line}");
         }
         let zeros = format!("mode\t{}", "0".repeat(LONGEST - 5));
-        assert_eq!(asked(zeros.as_bytes()), Some(Asked::Mode(0)));
+        assert_eq!(asked(zeros.as_bytes()), Some(change([5, 6, 7, 8, 0, 9])));
+    }
+
+    #[test]
+    fn lines_of_voices() {
+        for (line, right) in [
+            ("voices", Some(vec![])),
+            ("voices\t12\t-012\t-0", Some(vec![12, -12, 0])),
+            ("voices\t-32768\t13\t1\t2", Some(vec![-32_768, 13, 1, 2])),
+            ("voices\t", None),
+            ("voices\t+4", None),
+            ("voices\t32768", None),
+            ("voice\t4", None),
+            ("block\t0\t4", None),
+        ] {
+            assert_eq!(intervals(line.as_bytes()), right, "{line}");
+            assert!(right.is_none() || asked(line.as_bytes()).is_none());
+        }
+        let long = format!("voices{}", "\t1".repeat(LONGEST / 2));
+        assert_eq!(intervals(long.as_bytes()), None);
     }
 
     #[test]

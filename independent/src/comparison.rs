@@ -1,6 +1,6 @@
 //! Another program, held to this one: a script of lines or cases of WAVE files to
 //! both, and the first answer that differs; or the first row of a list of the
-//! notes sung, or the first line of a report.
+//! notes sung, the first line of a report, or the first answer with voices.
 //!
 //! Threads of their own write the other's input and read its output, so that
 //! it never stands still for this program, nor this one for it.
@@ -9,6 +9,7 @@ use crate::generator::files::Files;
 use crate::lines::Program;
 use crate::list::List;
 use crate::takes::Disagreement;
+use crate::voice_lines::VoiceLines;
 use crate::waves::{Case, Independent};
 use std::fmt;
 use std::io::{self, Read, Write};
@@ -43,6 +44,8 @@ pub struct Equal {
     pub rows: u64,
     pub lists: u64,
     pub reports: u64,
+    /// Samples that voices wrote.
+    pub voices: u64,
 }
 
 impl Equal {
@@ -53,14 +56,19 @@ impl Equal {
         self.rows += other.rows;
         self.lists += other.lists;
         self.reports += other.reports;
+        self.voices += other.voices;
     }
 
     /// Written, repeated and dropped come before a block's samples.
     fn add_answer(&mut self, answer: &[u8]) {
-        let tabs = answer.iter().filter(|&&byte| byte == b'\t').count();
         self.lines += 1;
-        self.samples += tabs.saturating_sub(3) as u64;
+        self.samples += tabs(answer).saturating_sub(3);
     }
+}
+
+/// So many fields come behind the first.
+fn tabs(line: &[u8]) -> u64 {
+    line.iter().filter(|&&byte| byte == b'\t').count() as u64
 }
 
 impl fmt::Display for Equal {
@@ -71,6 +79,9 @@ impl fmt::Display for Equal {
         }
         if self.reports > 0 {
             write!(to, ", {} reports", self.reports)?;
+        }
+        if self.voices > 0 {
+            write!(to, ", {} samples of voices", self.voices)?;
         }
         match self.files {
             0 => Ok(()),
@@ -169,9 +180,7 @@ pub fn compare_lists(
     command: &[String],
     equal: &mut Equal,
 ) -> Result<(), Unequal> {
-    with_program(command, script, Host::Streaming, |go, mut answers| {
-        // A program that has ended is told by its answers.
-        let _ = go.send(());
+    with_stream(command, script, |mut answers| {
         let mut line = 1;
         for list in lists {
             for row in list.to_string().split_inclusive('\n') {
@@ -193,15 +202,34 @@ pub fn compare_report(
     command: &[String],
     equal: &mut Equal,
 ) -> Result<(), Unequal> {
-    with_program(command, script, Host::Streaming, |go, mut answers| {
-        // A program that has ended is told by its answers.
-        let _ = go.send(());
+    with_stream(command, script, |mut answers| {
         let lines = report.split_inclusive('\n');
         for (line, figures) in (1..).zip(lines.chain([""])) {
             answers.hold(line, b"", figures.as_bytes())?;
         }
         equal.reports += 1;
         Ok(())
+    })
+}
+
+/// Gives a script with voices to both programs, the other being this command, and
+/// counts what voices wrote alike.
+pub fn compare_voices(script: &[u8], command: &[String], equal: &mut Equal) -> Result<(), Unequal> {
+    with_stream(command, script, |mut answers| {
+        let mut program = VoiceLines::default();
+        let mut line = 1;
+        for input in script.split_inclusive(|&byte| byte == b'\n') {
+            let mut expected = Vec::new();
+            program.line(input.strip_suffix(b"\n").unwrap_or(input), &mut expected);
+            for answer in expected.split_inclusive(|&byte| byte == b'\n') {
+                answers.hold(line, input, answer)?;
+                if answer.starts_with(b"voice") {
+                    equal.voices += tabs(answer);
+                }
+            }
+            line += 1;
+        }
+        answers.hold(line, b"", b"").map(drop)
     })
 }
 
@@ -216,15 +244,26 @@ pub fn compare_files(
     let mut source = Files::seeded(seed);
     let cases: Vec<Case> = (0..cases).map(|_| source.case()).collect();
     let bytes: Vec<u8> = cases.iter().flat_map(Case::bytes).collect();
-    with_program(command, &bytes, Host::Streaming, |go, mut answers| {
-        // A program that has ended is told by its answers.
-        let _ = go.send(());
+    with_stream(command, &bytes, |mut answers| {
         for (line, case) in (1..).zip(&cases) {
             let expected = case.answer(&Independent) + "\n";
             answers.hold(line, &case.bytes(), expected.as_bytes())?;
             equal.files += 1;
         }
         answers.hold(cases.len() as u64 + 1, b"", b"").map(drop)
+    })
+}
+
+/// Runs a command on this input as fast as it takes it, and holds its answers.
+fn with_stream<T>(
+    command: &[String],
+    input: &[u8],
+    hold: impl FnOnce(Answers) -> Result<T, Unequal>,
+) -> Result<T, Unequal> {
+    with_program(command, input, Host::Streaming, |go, answers| {
+        // A program that has ended is told by its answers.
+        let _ = go.send(());
+        hold(answers)
     })
 }
 

@@ -23,6 +23,7 @@ pub mod table;
 pub mod takes;
 pub mod tuner;
 pub mod voice_lines;
+pub mod voice_statistics;
 pub mod voices;
 pub mod wave;
 pub mod waves;

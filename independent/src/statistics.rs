@@ -18,48 +18,31 @@ pub const ANSWERS: usize = 17;
 const RATES: [u32; 2] = [CD, FILM];
 const END_KEYS: [usize; 6] = [32, 33, 100, 101, 102, 103];
 
+/// A struct of counters, and beside them what is counted in another way.
 macro_rules! counters {
-    ($($(#[$meaning:meta])* $name:ident,)*) => {
+    ($name:ident: $($(#[$meaning:meta])* $counter:ident,)*; $($(#[$other:meta])* $field:ident: $type:ty,)*) => {
         #[derive(Clone, Debug, Default, PartialEq, Eq)]
-        pub struct Statistics {
-            $($(#[$meaning])* pub $name: u64,)*
-            /// Steps in keyboard mode, by rate and key.
-            pub end_keys: [[u64; END_KEYS.len()]; RATES.len()],
-            /// Answers by number.
-            pub answers: [u64; ANSWERS],
-            /// In 1/65536 sample, after repeats and drops.
-            pub largest_behind: i64,
+        pub struct $name {
+            $($(#[$meaning])* pub $counter: u64,)*
+            $($(#[$other])* pub $field: $type,)*
         }
 
-        impl Statistics {
-            /// Every counter with its name, the answers last.
-            pub fn counters(&self) -> Vec<(String, u64)> {
-                let branches = [$((stringify!($name).to_string(), self.$name),)*];
-                let mut counters = Vec::from(branches);
-                for (hertz, counts) in RATES.iter().zip(&self.end_keys) {
-                    let keys = END_KEYS.iter().zip(counts);
-                    counters.extend(keys.map(|(key, &count)| (format!("key_{key}_at_{hertz}"), count)));
-                }
-                let answers = self.answers.iter().enumerate();
-                counters.extend(answers.map(|(number, &count)| (format!("answer_{number}"), count)));
-                counters
+        impl $name {
+            /// The counters with their names.
+            fn named(&self) -> Vec<(String, u64)> {
+                vec![$((stringify!($counter).to_string(), self.$counter),)*]
             }
 
-            /// Adds what another run saw.
-            pub fn add(&mut self, other: &Statistics) {
-                $(self.$name += other.$name;)*
-                let numbered = self.end_keys.as_flattened_mut().iter_mut().chain(&mut self.answers);
-                let more = other.end_keys.as_flattened().iter().chain(&other.answers);
-                for (count, more) in numbered.zip(more) {
-                    *count += more;
-                }
-                self.largest_behind = self.largest_behind.max(other.largest_behind);
+            fn add_named(&mut self, other: &$name) {
+                $(self.$counter += other.$counter;)*
             }
         }
     };
 }
+pub(crate) use counters;
 
 counters! {
+    Statistics:
     searches_without_low,
     /// L1 < 55 and no L2.
     searches_without_second_low,
@@ -234,6 +217,13 @@ counters! {
     inputs_of_999_takes,
     inputs_of_1000_takes,
     inputs_of_1001_takes,
+    ;
+    /// Steps in keyboard mode, by rate and key.
+    end_keys: [[u64; END_KEYS.len()]; RATES.len()],
+    /// Answers by number.
+    answers: [u64; ANSWERS],
+    /// In 1/65536 sample, after repeats and drops.
+    largest_behind: i64,
 }
 
 /// After how many samples of a take something fell between two of them.
@@ -268,6 +258,29 @@ fn at_48000(hertz: u32) -> u64 {
 }
 
 impl Statistics {
+    /// Every counter with its name, the answers last.
+    pub fn counters(&self) -> Vec<(String, u64)> {
+        let mut counters = self.named();
+        for (hertz, counts) in RATES.iter().zip(&self.end_keys) {
+            let keys = END_KEYS.iter().zip(counts);
+            counters.extend(keys.map(|(key, &count)| (format!("key_{key}_at_{hertz}"), count)));
+        }
+        let answers = self.answers.iter().enumerate();
+        counters.extend(answers.map(|(number, &count)| (format!("answer_{number}"), count)));
+        counters
+    }
+
+    /// Adds what another run saw.
+    pub fn add(&mut self, other: &Statistics) {
+        self.add_named(other);
+        let ends = self.end_keys.as_flattened_mut().iter_mut();
+        let more = other.end_keys.as_flattened().iter().chain(&other.answers);
+        for (count, more) in ends.chain(&mut self.answers).zip(more) {
+            *count += more;
+        }
+        self.largest_behind = self.largest_behind.max(other.largest_behind);
+    }
+
     pub fn search(&mut self, lows: &[Low], finding: Finding) {
         let level = lows.iter().filter(|low| low.level_with_next).count();
         self.lows_level_with_next += level as u64;

@@ -7,8 +7,10 @@
 //! answered as by the line program, which has the lead.
 
 use crate::lines::{sample, Program, Record, LONGEST_LINE, UNREADABLE};
+use crate::settings::Settings;
 use crate::table::CD;
 use crate::tuner::Answer;
+use crate::voice_statistics::VoiceStatistics;
 use crate::voices::Ensemble;
 
 #[derive(Default)]
@@ -17,6 +19,7 @@ pub struct VoiceLines {
     intervals: Vec<i32>,
     /// Those of the next start.
     next: Vec<i32>,
+    pub statistics: VoiceStatistics,
 }
 
 impl VoiceLines {
@@ -28,24 +31,36 @@ impl VoiceLines {
             return;
         }
         let record = Record::on(line);
-        if let Some(Record::Start(hertz, settings)) = record {
-            let next = std::mem::take(&mut self.next);
-            let hertz = hertz.unwrap_or(CD);
-            match Ensemble::answer_to_start(hertz, &settings, None, &next) {
-                Answer::Taken => self.intervals = next,
-                // Refused: the old ones stay, the lead too.
-                answer => {
-                    answers.extend(format!("{}\n", answer.number()).bytes());
-                    return;
-                }
-            }
+        let refused = match &record {
+            Some(Record::Start(hertz, settings)) => self.start(hertz.unwrap_or(CD), settings),
+            _ => None,
+        };
+        if let Some(number) = refused {
+            answers.extend(format!("{number}\n").bytes());
+            return;
+        }
+        if record == Some(Record::Reset) {
+            let lead = self.lead.tuner().lead();
+            self.statistics.reset(&lead, &self.intervals);
         }
         let before = answers.len();
         self.lead.read(&[line, b"\n"].concat(), answers);
         if let Some(Record::Block(_, samples)) = record {
-            let given = [b"0\t", b"1\t"].contains(&&[answers[before], answers[before + 1]]);
-            self.voices(if given { samples.len() } else { 0 }, answers);
+            self.voices(answers[before], samples.len(), answers);
         }
+    }
+
+    /// Takes the voices of a start, or gives the number that refuses it: the old
+    /// ones stay then, the lead too.
+    fn start(&mut self, hertz: u32, settings: &Settings) -> Option<usize> {
+        let next = std::mem::take(&mut self.next);
+        let answer = Ensemble::answer_to_start(hertz, settings, None, &next);
+        self.statistics.start(answer, next.len());
+        if answer != Answer::Taken {
+            return Some(answer.number());
+        }
+        self.intervals = next;
+        None
     }
 
     fn choose(&mut self, line: &[u8]) -> usize {
@@ -61,12 +76,17 @@ impl VoiceLines {
         }
     }
 
-    /// What each voice wrote at so many newest samples.
-    fn voices(&self, written: usize, answers: &mut Vec<u8>) {
+    /// What each voice wrote at a block of so many samples that was answered with
+    /// this digit.
+    fn voices(&mut self, digit: u8, length: usize, answers: &mut Vec<u8>) {
         let tuner = self.lead.tuner();
+        let written = if digit <= b'1' { length } else { 0 };
+        let (lead, from) = (tuner.lead(), tuner.count() - written);
         for &interval in &self.intervals {
+            let voice = lead.voice(interval, from);
+            self.statistics.block(digit, &lead, interval, from, &voice);
             answers.extend(b"voice");
-            for sung in tuner.lead().voice(interval, tuner.count() - written) {
+            for sung in voice {
                 answers.extend(format!("\t{}", sung.out).bytes());
             }
             answers.push(b'\n');
@@ -74,12 +94,12 @@ impl VoiceLines {
     }
 }
 
-/// All answers to an input.
-pub fn answers_with_voices(input: &[u8]) -> Vec<u8> {
+/// All answers to an input, and what was seen of the voices on the way.
+pub fn answers_with_voices(input: &[u8]) -> (Vec<u8>, VoiceStatistics) {
     let mut program = VoiceLines::default();
     let mut answers = Vec::new();
     for line in input.split_inclusive(|&byte| byte == b'\n') {
         program.line(line.strip_suffix(b"\n").unwrap_or(line), &mut answers);
     }
-    answers
+    (answers, program.statistics)
 }

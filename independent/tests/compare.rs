@@ -6,6 +6,7 @@ use std::process::{Command, Output};
 const LINES: &str = env!("CARGO_BIN_EXE_lines");
 const NOTES: &str = env!("CARGO_BIN_EXE_notes");
 const REPORT: &str = env!("CARGO_BIN_EXE_report");
+const VOICES: &str = env!("CARGO_BIN_EXE_voices");
 const WAVES: &str = env!("CARGO_BIN_EXE_waves");
 
 fn compare(arguments: &[&str]) -> Output {
@@ -24,12 +25,23 @@ fn compare_with(shell: &str, switches: &[&str]) -> (Option<i32>, String) {
     (output.status.code(), said)
 }
 
+/// Compares another program too, the one behind this switch.
+fn beside(switch: &str, program: &str, samples: &str) -> (Option<i32>, String) {
+    let output = compare(&[switch, program, "7", "1", samples, "--", LINES]);
+    let said = String::from_utf8(output.stdout).unwrap();
+    (output.status.code(), said)
+}
+
+fn assert_says(said: &str, parts: &[&str]) {
+    for part in parts {
+        assert!(said.contains(part), "no {part:?} in\n{said}");
+    }
+}
+
 fn assert_unequal(shell: &str, parts: &[&str]) {
     let (status, said) = compare_with(shell, &[]);
     assert_eq!(status, Some(1), "{shell}");
-    for part in parts {
-        assert!(said.contains(part), "{shell}: no {part:?} in\n{said}");
-    }
+    assert_says(&said, parts);
 }
 
 #[test]
@@ -132,20 +144,13 @@ fn files_are_compared_too() {
         "\n  got       10\\n\n",
         "\n  script    files 7 3000\n",
     ];
-    for part in parts {
-        assert!(said.contains(part), "no {part:?} in\n{said}");
-    }
+    assert_says(&said, &parts);
 }
 
 /// The list of each take of every script is held too.
 #[test]
 fn notes_are_compared_too() {
-    let with_notes = |program: &str| {
-        let words = ["--notes", program, "7", "1", "3000", "--", LINES];
-        let output = compare(&words);
-        let said = String::from_utf8(output.stdout).unwrap();
-        (output.status.code(), said)
-    };
+    let with_notes = |program: &str| beside("--notes", program, "3000");
     let (status, said) = with_notes(NOTES);
     assert_eq!(status, Some(0), "{said}");
     let rows: Vec<&str> = said.lines().next().unwrap().split(", ").collect();
@@ -159,20 +164,13 @@ fn notes_are_compared_too() {
         "\n  input     nothing\n",
         "\n  script    generate opening 7 3000\n",
     ];
-    for part in parts {
-        assert!(said.contains(part), "no {part:?} in\n{said}");
-    }
+    assert_says(&said, &parts);
 }
 
 /// And the report of every script.
 #[test]
 fn reports_are_compared_too() {
-    let with_report = |words: &str| {
-        let words = ["--report", words, "7", "1", "2000", "--", LINES];
-        let output = compare(&words);
-        let said = String::from_utf8(output.stdout).unwrap();
-        (output.status.code(), said)
-    };
+    let with_report = |words: &str| beside("--report", words, "2000");
     let (status, said) = with_report(REPORT);
     assert_eq!(status, Some(0), "{said}");
     assert!(said.contains(", 43 reports; 43 kinds, "), "{said}");
@@ -183,9 +181,27 @@ fn reports_are_compared_too() {
         "\n  got       [package]\\n\n",
         "\n  script    generate opening 7 2000\n",
     ];
-    for part in parts {
-        assert!(said.contains(part), "no {part:?} in\n{said}");
-    }
+    assert_says(&said, &parts);
+}
+
+/// And every script with voices.
+#[test]
+fn voices_are_compared_too() {
+    let with_voices = |program: &str| beside("--voices", program, "2000");
+    let (status, said) = with_voices(VOICES);
+    assert_eq!(status, Some(0), "{said}");
+    let parts: Vec<&str> = said.lines().next().unwrap().split(", ").collect();
+    let voices = parts[2].strip_suffix(" samples of voices").unwrap();
+    assert!(voices.parse::<u64>().unwrap() > 100_000, "{said}");
+    let (status, said) = with_voices(LINES);
+    assert_eq!(status, Some(1));
+    let parts = [
+        "not equal: voices of kind tones, seed 7, line 1, from byte 1 ",
+        "\n  input     voices\\t",
+        "\n  expected  0\\n\n  got       10\\n\n",
+        "\n  script    voices --script tones 7 2000\n",
+    ];
+    assert_says(&said, &parts);
 }
 
 #[test]
@@ -208,6 +224,10 @@ fn wrong_arguments_are_refused() {
         &["--hasty", "1", "1", "100", "--", LINES],
         &["--files", "1", "1", "100", "--", LINES],
         &["--notes", "1", "1", "100", "--", LINES],
+        &["--voices", "1", "1", "100", "--", LINES],
+        &[
+            "--voices", VOICES, "--notes", NOTES, "1", "1", "100", "--", LINES,
+        ],
         &["--report", "1", "1", "100", "--", LINES],
         &["--report", " ", "1", "1", "100", "--", LINES],
         &["--files", "many", WAVES, "1", "1", "100", "--", LINES],

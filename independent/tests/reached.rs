@@ -1,13 +1,16 @@
 //! Every branch of documents 01 and 02 is reached by the scripts of some kind,
-//! and by the night.
+//! those of voices by scripts with voices, and all others by the night.
 
 use independent::generator::kinds::{kind_named, KINDS};
 use independent::generator::night::{write_night, NIGHT};
 use independent::generator::script::{script, write_script};
+use independent::generator::voices::script_with_voices;
 use independent::lines::{answers_to, Program, Record};
 use independent::statistics::Statistics;
 use independent::table::{is_rate, notes_at, period_of, CD, FILM};
 use independent::tuner::Meter;
+use independent::voice_lines::answers_with_voices;
+use independent::voice_statistics::VoiceStatistics;
 use std::collections::{HashMap, HashSet};
 
 /// Samples in each script.
@@ -236,6 +239,29 @@ fn the_night_reaches_every_branch() {
         let unreached = NEVER.iter().chain(&NOT_IN_THE_NIGHT);
         let reachable = !unreached.into_iter().any(|other| *other == name);
         assert_eq!(count > 0, reachable, "{name}: {count}");
+    }
+}
+
+/// Kinds and seeds whose scripts with voices reach between them whatever a voice
+/// may do: every interval, keys far from low and high tones and outside the table,
+/// losses, starts, resets and repeats at either rate, and full-scale sounds.
+const VOICED: [(&str, u64); 5] = [
+    ("takes", 1),
+    ("ends", 1),
+    ("cuts", 1),
+    ("outside", 2),
+    ("squares", 1),
+];
+
+#[test]
+fn every_branch_of_voices_is_reached() {
+    let mut all = VoiceStatistics::default();
+    for (kind, seed) in VOICED {
+        let script = script_with_voices(kind_named(kind).unwrap(), seed, 70_000);
+        all.add(&answers_with_voices(&script).1);
+    }
+    for (name, count) in all.counters() {
+        assert!(count > 0, "{name}");
     }
 }
 

@@ -16,7 +16,7 @@ fn text(answers: Vec<u8>) -> String {
 
 /// Tabs are shown as spaces.
 fn lines_answered(input: &str) -> String {
-    let answers = answers_with_voices(input.replace(' ', "\t").as_bytes());
+    let answers = answers_with_voices(input.replace(' ', "\t").as_bytes()).0;
     text(answers).replace('\t', " ")
 }
 
@@ -77,8 +77,11 @@ fn lines_that_choose_voices() {
     let bad = "voices 13\nstart 0 200 0 100\nvoices 13\nstart 1 1 0 1 1\nvoices 13\n";
     assert_eq!(lines_answered(bad), "0\n8\n0\n16\n0\n");
     let long = format!("voices{}", "\t1".repeat(4_094));
-    assert_eq!(text(answers_with_voices(&long.as_bytes()[..8_192])), "0\n");
-    assert_eq!(text(answers_with_voices(long.as_bytes())), "10\n");
+    assert_eq!(
+        text(answers_with_voices(&long.as_bytes()[..8_192]).0),
+        "0\n"
+    );
+    assert_eq!(text(answers_with_voices(long.as_bytes()).0), "10\n");
 }
 
 /// A line, its answer, and what each voice wrote.
@@ -117,7 +120,7 @@ fn the_lead_is_the_line_programs() {
     let mut met: BTreeMap<String, usize> = BTreeMap::new();
     for kind in KINDS {
         let voiced = script_with_voices(kind, 5, 2_000);
-        let answers = text(answers_with_voices(&voiced));
+        let answers = text(answers_with_voices(&voiced).0);
         let (mut input, mut right) = (Vec::new(), String::new());
         let (mut voices, mut next) = (0, 0);
         for Answered {
@@ -167,7 +170,7 @@ fn cuttings_agree() {
         }
         voiced.extend(line);
     }
-    let answers = text(answers_with_voices(&voiced));
+    let answers = text(answers_with_voices(&voiced).0);
     for place in 0..3 {
         // As if the voice were the lead, so that takes can be told.
         let mut alone = String::new();

@@ -1,30 +1,35 @@
-//! `compare [--waiting] [--report WORDS] [--notes PROGRAM] [--files CASES PROGRAM]
-//! FIRST_SEED SEEDS SAMPLES -- COMMAND ARG..`: holds another line program to this
-//! one, by a script of each kind for each seed; and its answers to the cuttings of
-//! a take to one another. With `--report` also the command of these words, parted
-//! by blanks, to `report`, by the same scripts, and with `--notes` PROGRAM to
-//! `notes`. With `--files` then PROGRAM to `waves`, by so many cases of WAVE files
-//! for each seed.
+//! `compare [--waiting] [--report WORDS] [--notes PROGRAM] [--voices PROGRAM]
+//! [--files CASES PROGRAM] FIRST_SEED SEEDS SAMPLES -- COMMAND ARG..`: holds
+//! another line program to this one, by a script of each kind for each seed; and
+//! its answers to the cuttings of a take to one another. With `--report` also the
+//! command of these words, parted by blanks, to `report`, by the same scripts, and
+//! with `--notes` PROGRAM to `notes`. With `--voices` PROGRAM to `voices`, by the
+//! same scripts with voices for their starts. With `--files` then PROGRAM to
+//! `waves`, by so many cases of WAVE files for each seed.
 
 use independent::comparison::{
-    compare, compare_files, compare_lists, compare_report, Equal, Host, Unequal,
+    compare, compare_files, compare_lists, compare_report, compare_voices, Equal, Host, Unequal,
 };
 use independent::generator::cuts::CUTTINGS;
 use independent::generator::kinds::{Kind, KINDS};
 use independent::generator::script::script;
+use independent::generator::voices::script_with_voices;
 use independent::takes::hold_cuttings;
 use independent::words::{words, wrong};
 use std::ops::RangeInclusive;
 use std::process::ExitCode;
+use std::slice::from_ref;
 use std::time::Instant;
 
-const USAGE: &str = "compare [--waiting] [--report WORDS] [--notes PROGRAM] \
+const USAGE: &str = "compare [--waiting] [--report WORDS] [--notes PROGRAM] [--voices PROGRAM] \
                      [--files CASES PROGRAM] FIRST_SEED SEEDS SAMPLES -- COMMAND ARG..";
 
 struct Task {
     host: Host,
     /// The program that is to print the list of the notes sung in each take.
     notes: Option<String>,
+    /// The line program with voices.
+    voices: Option<String>,
     /// The command that is to print the report.
     report: Option<Vec<String>>,
     /// So many cases of WAVE files, and the program that is to answer them.
@@ -47,10 +52,8 @@ fn task(arguments: &[String]) -> Option<Task> {
         }
         _ => (None, arguments),
     };
-    let (notes, arguments) = match arguments {
-        [switch, program, rest @ ..] if switch == "--notes" => (Some(program.clone()), rest),
-        _ => (None, arguments),
-    };
+    let (notes, arguments) = program("--notes", arguments);
+    let (voices, arguments) = program("--voices", arguments);
     let (files, arguments) = match arguments {
         [switch, cases, program, rest @ ..] if switch == "--files" => {
             (Some((cases.parse().ok()?, program.clone())), rest)
@@ -64,6 +67,7 @@ fn task(arguments: &[String]) -> Option<Task> {
             Some(Task {
                 host,
                 notes,
+                voices,
                 report,
                 files,
                 seeds: first..=first.checked_add(more)?,
@@ -72,6 +76,14 @@ fn task(arguments: &[String]) -> Option<Task> {
             })
         }
         _ => None,
+    }
+}
+
+/// The program behind this switch, if that stands first, and what is left.
+fn program<'a>(switch: &str, arguments: &'a [String]) -> (Option<String>, &'a [String]) {
+    match arguments {
+        [first, program, rest @ ..] if first == switch => (Some(program.clone()), rest),
+        _ => (None, arguments),
     }
 }
 
@@ -106,15 +118,24 @@ type Difference = (String, String, Unequal);
 fn compare_kinds(seed: u64, task: &Task, equal: &mut Equal) -> Result<(), Difference> {
     for kind in KINDS {
         let (name, samples) = (kind.name, task.samples);
+        let words = format!("{name} {seed} {samples}");
         compare_kind(kind, seed, task, equal).map_err(|(of, unequal)| {
-            let made = format!("generate {name} {seed} {samples}");
-            (format!("{of}kind {name}"), made, unequal)
+            let what = format!("{of}kind {name}");
+            (what, format!("generate {words}"), unequal)
+        })?;
+        let Some(program) = &task.voices else {
+            continue;
+        };
+        let script = script_with_voices(kind, seed, samples);
+        compare_voices(&script, from_ref(program), equal).map_err(|unequal| {
+            let what = format!("voices of kind {name}");
+            (what, format!("voices --script {words}"), unequal)
         })?;
     }
     let Some((cases, program)) = &task.files else {
         return Ok(());
     };
-    compare_files(seed, *cases, std::slice::from_ref(program), equal).map_err(|unequal| {
+    compare_files(seed, *cases, from_ref(program), equal).map_err(|unequal| {
         let made = format!("files {seed} {cases}");
         ("files".to_string(), made, unequal)
     })
@@ -135,7 +156,7 @@ fn compare_kind(
             .map_err(|disagreement| ("", Unequal::Cutting(disagreement)))?;
     }
     if let Some(program) = &task.notes {
-        compare_lists(&script, &held.lists, std::slice::from_ref(program), equal)
+        compare_lists(&script, &held.lists, from_ref(program), equal)
             .map_err(|unequal| ("notes of ", unequal))?;
     }
     let Some(command) = &task.report else {
