@@ -5,6 +5,7 @@
 pub mod lines;
 pub mod options;
 
+use daxfolin::choir::{INTERVAL_OUT_OF_RANGE, TOO_MANY_VOICES};
 use daxfolin::wave::{
     self, Seek, Take, FILE_TOO_LONG, FMT_WRONG, NOT_RIFF_WAVE, NO_DATA, NO_DATA_REACHED, NO_FMT,
     NO_GOOD_FMT, RUNS_PAST,
@@ -46,6 +47,8 @@ fn meaning(number: u32) -> &'static str {
         EPS_OUT_OF_RANGE => "eps is 0 to 409",
         DECAY_OUT_OF_RANGE => "decay is 0 to 255",
         FLOOR_OUT_OF_RANGE => "floor is 1 to 1000000",
+        INTERVAL_OUT_OF_RANGE => "an interval is -12 to 12 semitones",
+        TOO_MANY_VOICES => "there are three voices at most",
         NOT_RIFF_WAVE => "this is no RIFF WAVE file",
         NO_FMT => "there is no fmt chunk before the data or the end",
         FMT_WRONG => "the fmt chunk does not say PCM, one channel, 16 bits, 44,100 or 48,000 a second, or the data size is odd",
@@ -122,12 +125,14 @@ pub fn seconds(samples: u64, hertz: u32) -> String {
     format!("{}.{:03}", thousandths / 1000, thousandths % 1000)
 }
 
-/// What a start said to the settings.
+/// What a start said to the settings and the voices.
 pub fn started(number: u32) -> Result<(), End> {
-    match number {
-        TAKEN => Ok(()),
-        _ => Err(End::Refused("the settings".to_string(), number)),
-    }
+    let what = match number {
+        TAKEN => return Ok(()),
+        INTERVAL_OUT_OF_RANGE | TOO_MANY_VOICES => "the voices",
+        _ => "the settings",
+    };
+    Err(End::Refused(what.to_string(), number))
 }
 
 /// A file and what failed with it.

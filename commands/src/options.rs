@@ -71,10 +71,13 @@ impl Words {
 
     /// The value of an option; where it is given twice, the last.
     pub fn value(&self, name: &str) -> Option<&str> {
-        let mut given = self.options.iter().rev();
-        given
-            .find(|(other, _)| *other == name)
-            .map(|(_, value)| value.as_str())
+        self.values(name).last().copied()
+    }
+
+    /// All values of an option, in their order.
+    fn values(&self, name: &str) -> Vec<&str> {
+        let given = self.options.iter().filter(|option| option.0 == name);
+        given.map(|(_, value)| value.as_str()).collect()
     }
 
     /// The value of an option as a whole number. One past the largest that a call takes is refused as that is.
@@ -122,6 +125,20 @@ pub fn settings(words: &Words) -> Result<Settings, End> {
     })
 }
 
+/// The option for a voice, with its interval behind it.
+pub const VOICE: &str = "--voice";
+
+/// The intervals of the voices that the options say, in semitones, for a start to judge.
+pub fn intervals(words: &Words) -> Result<Vec<i32>, End> {
+    let read = |text| match interval(text) {
+        Some(interval) => Ok(interval),
+        None => usage(format!(
+            "{VOICE} is a whole number of semitones like +4 or -3, not '{text}'"
+        )),
+    };
+    words.values(VOICE).into_iter().map(read).collect()
+}
+
 fn usage<T>(why: String) -> Result<T, End> {
     Err(End::Usage(why))
 }
@@ -129,6 +146,16 @@ fn usage<T>(why: String) -> Result<T, End> {
 fn whole(text: &str) -> Option<u32> {
     let digits = !text.is_empty() && text.bytes().all(|byte| byte.is_ascii_digit());
     digits.then(|| text.parse().unwrap_or(u32::MAX))
+}
+
+/// A sign may stand before the digits. What is past the farthest interval that a call takes is refused as that is.
+fn interval(text: &str) -> Option<i32> {
+    let (sign, digits) = match text.split_at_checked(1) {
+        Some(("+", digits)) => (1, digits),
+        Some(("-", digits)) => (-1, digits),
+        _ => (1, text),
+    };
+    Some(sign * i32::try_from(whole(digits)?).unwrap_or(i32::MAX))
 }
 
 /// The line of the help whose option is nearest: one that begins so, or the one with the fewest letters to alter.
@@ -364,6 +391,41 @@ mod tests {
         ] {
             assert_eq!(whole(text), number, "{text}");
         }
+    }
+
+    #[test]
+    fn intervals_up_and_down() {
+        for (text, number) in [
+            ("0", Some(0)),
+            ("4", Some(4)),
+            ("+4", Some(4)),
+            ("-3", Some(-3)),
+            ("+012", Some(12)),
+            ("-0", Some(0)),
+            ("13", Some(13)),
+            ("4294967295", Some(i32::MAX)),
+            ("-99999999999999999999", Some(-i32::MAX)),
+            ("", None),
+            ("+", None),
+            ("-", None),
+            ("+-4", None),
+            ("--4", None),
+            (" 4", None),
+            ("4 ", None),
+            ("4.5", None),
+            ("third", None),
+            ("♯4", None),
+            ("+٣", None),
+        ] {
+            assert_eq!(interval(text), number, "{text}");
+        }
+    }
+
+    #[test]
+    fn an_option_that_is_given_again() {
+        let words = parted(&["--decay=1", "a", "--decay", "-2", "--scale", "C"]).unwrap();
+        assert_eq!(words.values("--decay"), ["1", "-2"]);
+        assert!(words.values("-f").is_empty());
     }
 
     #[test]
