@@ -112,7 +112,7 @@ fn among(s: &[i16], at: usize, u: u32) -> i16
 }
 
 // The output, read 5 samples before a position that lies so far behind the newest of the first m samples.
-fn read(s: &[i16], m: usize, behind: u32) -> i16
+pub fn read(s: &[i16], m: usize, behind: u32) -> i16
     requires { ⌜ (m ≤ length (now s)) × (1006 ≤ m) × (behind ≤ rules.farthest) ⌝ }
     ensures { λ r. ⌜ ((n : ℕ) → r ≡ rules.reading (ago (now (s .entry)) m) n (rules.inputAt n -ℤ pos behind)) ⌝ }
 {

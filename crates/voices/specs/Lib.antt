@@ -1,3 +1,4 @@
 pub mod Voices
 pub mod Singing
 pub mod Accompanying
+pub mod Worked

@@ -4,22 +4,22 @@ use mathlib.Core.Path.{_≡_, refl, sym, ap, _∙_, subst, transport}
 use mathlib.Core.Bool.{Bool, true, false, cond, _&&_, _||_}
 use mathlib.Core.List.{List, [], _∷_, _++_}
 use Prim.Native.Nat.{ℕ, zero, suc, _+_, _-_, _*_, _/_, _≤_, _<_}
-use native.Mathlib.Nat.{add-zero, add-suc, mul-le-mul-right, div-lt-iff-lt-mul, le-div-iff-mul-le}
+use native.Mathlib.Nat.{add-zero, add-suc, mul-suc, mul-le-mul-right, div-lt-iff-lt-mul, le-div-iff-mul-le}
 use native.Mathlib.Omega.{arith}
 use native.Mathlib.Numerals.{add-one}
 use borrow.Author.Tests.{leb-true, ltb-true, ltb-false, lt-ltb, le-ltb, eq-eqb, ne-eqb}
 use lib.Dec.{leb, ltb}
 use lib.IntN.{ℤ, pos, _-ℤ_, +ℤ-idr}
-use lib.ListN.{length, getD, set, drop, length-append}
+use lib.ListN.{length, getD, set, drop, length-append, length-set}
 use Rattle.whole.specs.Tests.{by, cond-yes, cond-no, and-left, and-right, and-no, yes-and-no}
-use Rattle.rules.specs.Rules.{noNote, table, firstNote, cdTable, filmTable, notePeriod, leastPeriod, greatestPeriod, farthest, inputAt, growth, reading, rawRate, wantedPeriod}
+use Rattle.rules.specs.Rules.{longestBlock, noNote, table, firstNote, cdTable, filmTable, notePeriod, leastPeriod, greatestPeriod, farthest, inputAt, growth, reading, rawRate, wantedPeriod}
 use Rattle.rules.specs.Facts.{SampleRate, OfTable}
 use Rattle.rules.specs.Table.{at-each-note}
 use Rattle.rules.specs.Notes.{end, period-of-table, period-below, period-above}
-use Rattle.rules.specs.Position.{Paced}
+use Rattle.rules.specs.Position.{Paced, growth-keeps}
 use Rattle.ages.specs.Ages.{ago}
 use Rattle.reading.specs.declared.Growth.{Growth as Moved}
-use Rattle.reading.specs.Gliding.{Grown, one-more}
+use Rattle.reading.specs.Gliding.{Grown, grown, one-more}
 use Rattle.voices.specs.Voices.{unison, voiceNote, voicePeriod, voiceRate, Voiced, voiced}
 
 -- ---- what the parts promise
@@ -41,6 +41,22 @@ Kept rate p = 0 < rate → Paced rate p
 -- what a voice keeps beside the period p and the wanted note n: the entry of its note where there is a period, and its rate
 abbrev pub Reckoned : (hertz interval p n entry rate : ℕ) → Type 0
 Reckoned hertz interval p n entry rate = (0 < p → entry ≡ voicePeriod hertz interval n) × (rate ≡ voiceRate hertz interval p n)
+
+-- so many samples in a row at this rate, from so far behind on, without a cycle
+unfoldable pub Smooth : (rate n behind : ℕ) → Type 0
+Smooth rate zero behind = Unit {0}
+Smooth rate (suc n) behind = (rate ≤ behind + 65536) × (behind + 65536 - rate ≤ farthest) × Smooth rate n (behind + 65536 - rate)
+
+-- a voice so far behind, at this rate beside this period and note, which are those of the sample that is next, of b
+pub record Sings (behind rate p n : ℕ) (periods notes : List ℕ) (s : List ℤ) (m from b : ℕ) : Type 0 where
+  pub near : behind ≤ farthest
+  pub kept : Kept rate p
+  pub stored : m + b ≤ length s
+  pub enough : 1005 ≤ m
+  pub most : b ≤ longestBlock
+  pub some : from < b
+  pub period : p ≡ getD periods from 0
+  pub note : n ≡ getD notes from 0
 
 -- one sample, whatever its number: the voice that lay so far behind lies r behind, and its output is at place i
 pub record Sounded (behind rate p : ℕ) (s : List ℤ) (m i : ℕ) (outs outs′ : List ℤ) (r : ℕ) : Type 0 where
@@ -68,6 +84,12 @@ pub record Sang (hertz interval behind : ℕ) (periods notes : List ℕ) (s : Li
   pub near : r ≤ farthest
   pub position : (n : ℕ) → singAfter hertz interval n (inputAt n -ℤ pos behind) periods notes s m b ≡ inputAt (n + b) -ℤ pos r
   pub out : (n : ℕ) → outs′ ≡ singOuts hertz interval n (inputAt n -ℤ pos behind) periods notes s m b ++ drop b outs
+
+-- the samples up to `at` are sung at one rate, after those up to `from`, whatever came before
+pub record SangTo (rate p n behind : ℕ) (periods notes : List ℕ) (s : List ℤ) (m from : ℕ) (out out′ : List ℤ) (at r : ℕ) : Type 0 where
+  pub near : r ≤ farthest
+  pub same : length out′ ≡ length out
+  pub sang : (hertz interval first : ℕ) (outs : List ℤ) → length outs ≡ longestBlock → rate ≡ voiceRate hertz interval p n → Sang hertz interval first periods notes s m from outs out behind → Sang hertz interval first periods notes s m at outs out′ r
 
 -- ---- the note
 
@@ -153,6 +175,9 @@ module _ {hertz : ℕ} (known : SampleRate hertz) (interval : ℕ) {p n : ℕ} (
       let e = entry-range known _ (s .1) in
       subst RateIn (sym (rate-is hertz interval p n (s .0) (s .1))) (over-range p _ (k .from (s .0)) (k .upto) (e .0) (e .1))
 
+  pub rate-upto : voiceRate hertz interval p n ≤ 3556721
+  rate-upto = let r = voiceRate hertz interval p n in by (ltb 0 r) (λ e. rate-range (ltb-true 0 r e) .upto) (λ e. omega (arith, ltb-false 0 r e))
+
   pub rate-kept : Kept (voiceRate hertz interval p n) p
   rate-kept h =
       let s = sounding h in
@@ -214,8 +239,62 @@ module _ (hertz interval behind : ℕ) (periods notes : List ℕ) (s : List ℤ)
       } in
       subst (λ (k : ℕ). Sang hertz interval behind periods notes s m k outs outs₂ r) (sym z) whole
 
-  -- and one at the rate of a stretch: beside the same period p and the same note n
-  pub sang-on : {i rate p n : ℕ} {outs₁ outs₂ : List ℤ} {b r : ℕ} → i < length outs → rate ≡ voiceRate hertz interval p n → p ≡ getD periods i 0 → n ≡ getD notes i 0 → Sang hertz interval behind periods notes s m i outs outs₁ b
-      → Sounded b rate p s (m + i + 1) i outs₁ outs₂ r → Sang hertz interval behind periods notes s m (i + 1) outs outs₂ r
-  sang-on {i} {outs₁ = outs₁} {outs₂} {b} {r} l e same same-note a d =
-      sang-more l a (transport (λ j. Sounded b ((e ∙ (λ k. voiceRate hertz interval (same k) (same-note k))) j) (same j) s (m + i + 1) i outs₁ outs₂ r) d)
+-- and those of a stretch, which have one rate: none yet, and one more beside the same period and note
+module _ {rate p n behind : ℕ} {periods notes : List ℕ} {s : List ℤ} {m from : ℕ} {out : List ℤ} where
+  pub sang-to-none : behind ≤ farthest → SangTo rate p n behind periods notes s m from out out from behind
+  sang-to-none near = record { near = near; same = refl; sang = λ hertz interval first outs l e sang. sang }
+
+  pub sang-to-more : {i b r : ℕ} {out₁ out₂ : List ℤ} → i < longestBlock → p ≡ getD periods i 0 → n ≡ getD notes i 0 → SangTo rate p n behind periods notes s m from out out₁ i b → Sounded b rate p s (m + i + 1) i out₁ out₂ r
+      → SangTo rate p n behind periods notes s m from out out₂ (i + 1) r
+  sang-to-more {i} {b} {r} {out₁} {out₂} l same same-note a d =
+      record {
+        near = d .near;
+        same = ap length (d .out 0) ∙ length-set out₁ i _ ∙ a .same;
+        sang =
+            λ hertz interval first outs k e sang. sang-more hertz interval first periods notes s m outs (omega (arith, k, l)) (a .sang hertz interval first outs k e sang)
+            (transport (λ j. Sounded b ((e ∙ (λ h. voiceRate hertz interval (same h) (same-note h))) j) (same j) s (m + i + 1) i out₁ out₂ r) d);
+      }
+
+-- ---- without a cycle
+
+-- at a rate of one or less it falls behind, at more it comes nearer
+pub smooth-slow : (rate n behind : ℕ) → rate ≤ 65536 → behind + (65536 - rate) * n ≤ farthest → Smooth rate n behind
+unfolding Smooth
+smooth-slow rate zero behind h k = tt
+smooth-slow rate (suc n) behind h k =
+    let d = 65536 - rate in
+    let k′ : behind + (d * n + d) ≤ farthest = subst (λ (z : ℕ). behind + z ≤ farthest) (mul-suc d n) k in
+    (omega (arith, h), omega (arith, h, k′), smooth-slow rate n (behind + 65536 - rate) h (omega (arith, h, k′)))
+
+pub smooth-fast : (rate n behind : ℕ) → 65536 < rate → (rate - 65536) * n ≤ behind → behind ≤ farthest → Smooth rate n behind
+unfolding Smooth
+smooth-fast rate zero behind h k near = tt
+smooth-fast rate (suc n) behind h k near =
+    let d = rate - 65536 in
+    let k′ : d * n + d ≤ behind = subst (λ (z : ℕ). z ≤ behind) (mul-suc d n) k in
+    (omega (arith, h, k′), omega (arith, h, k′, near), smooth-fast rate n (behind + 65536 - rate) h (omega (arith, h, k′)) (omega (arith, h, k′, near)))
+
+-- and so over fewer
+pub smooth-fewer : (rate k n behind : ℕ) → k ≤ n → Smooth rate n behind → Smooth rate k behind
+unfolding Smooth
+smooth-fewer rate zero n behind l h = tt
+smooth-fewer rate (suc k) zero behind l h = absurd (omega (arith, l))
+smooth-fewer rate (suc k) (suc n) behind l h = (h .0, h .1, smooth-fewer rate k n (behind + 65536 - rate) (omega (arith, l)) (h .2))
+
+-- the next of them
+abbrev pub SmoothNext : (rate i b behind : ℕ) → Type 0
+SmoothNext rate i b behind = (rate ≤ behind + 65536) × (behind + 65536 - rate ≤ farthest) × Smooth rate (b - (i + 1)) (behind + 65536 - rate)
+
+pub smooth-next : (rate i b behind : ℕ) → i < b → Smooth rate (b - i) behind → SmoothNext rate i b behind
+unfolding Smooth
+smooth-next rate i b behind l h = subst (λ (k : ℕ). Smooth rate k behind) (step l) h
+  where
+    step : i < b → b - i ≡ suc (b - (i + 1))
+    step l = omega (arith, l)
+
+-- what a voice that sounds makes of a sample then
+pub voiced-smooth : {behind rate p m i : ℕ} {s outs outs′ : List ℤ} → 0 < rate → rate ≤ behind + 65536 → behind + 65536 - rate ≤ farthest → ((n : ℕ) → outs′ ≡ set outs i (reading (ago s m) n (inputAt n -ℤ pos (behind + 65536 - rate)))) → Sounded behind rate p s m i outs outs′ (behind + 65536 - rate)
+voiced-smooth {behind} {rate} {p} h l k o =
+    let g : Moved = record { behind = behind; repeated = 0; dropped = 0 } in
+    let r : Moved = record { behind = behind + 65536 - rate; repeated = 0; dropped = 0 } in
+    voiced-sounds rate {g = g} {r = r} h refl (grown [] [] k refl refl (omega arith, omega arith) (λ n. growth-keeps n behind rate p refl l k)) o

@@ -3,15 +3,14 @@ use reading::Growth;
 use rules::LONGEST_BLOCK;
 use rules::NO_NOTE;
 ghost use mathlib.Core.Path.{_≡_};
-ghost use mathlib.Core.List.{List};
-ghost use Prim.Native.Nat.{ℕ, _+_, _≤_, _<_};
-ghost use lib.IntN.{ℤ};
+ghost use mathlib.Core.Bool.{true};
+ghost use Prim.Native.Nat.{ℕ, _+_, _-_, _≤_, _<_};
 ghost use lib.ListN.{length, getD};
 ghost use Rattle.whole.specs.Tests.{Decides};
 ghost use Rattle.rules.specs.Rules.{longestBlock, noNote, farthest, leastPeriod, greatestPeriod};
 ghost use Rattle.rules.specs.Facts.{SampleRate};
 ghost use Rattle.voices.specs.Voices.{IntervalIn, voiceNote, voicePeriod, voiceRate};
-ghost use Rattle.voices.specs.Singing.{Tracked, TrackedAll, Kept, Reckoned, Sounded, Sang};
+ghost use Rattle.voices.specs.Singing.{Tracked, TrackedAll, Kept, Reckoned, Smooth, Sings, Sounded, Sang, SangTo};
 
 // Intervals of -12 to 12 semitones are kept as 0 to 24; this is none.
 pub const UNISON: u32 = 12;
@@ -82,11 +81,16 @@ fn voice_rate(period: u32, entry: u32) -> u32
     notes::raw_rate(period, entry)
 }
 
-// The same voice beside this period and this wanted note.
+// The same voice beside this period and this wanted note: reckoned anew only where they are others.
 fn beside(v: Singer, hertz: u32, interval: u32, period: u32, note: u32) -> Singer
     requires { ⌜ SampleRate hertz × IntervalIn interval × Tracked period note × Reckoned hertz interval (v .period) (v .note) (v .entry) (v .rate) ⌝ }
     ensures { λ r. ⌜ (r .behind ≡ v .behind) × (r .period ≡ period) × (r .note ≡ note) × Reckoned hertz interval period note (r .entry) (r .rate) ⌝ }
 {
+    if v.period == period {
+        if v.note == note {
+            return v;
+        }
+    }
     if period == 0 {
         return Singer {
             behind: v.behind,
@@ -132,6 +136,17 @@ fn sound(
     r.behind
 }
 
+// Where the longest stretch from a sample on, of b, ends.
+fn end_of(from: usize, b: usize) -> usize
+    requires { ⌜ from < b ⌝ }
+    ensures { λ r. ⌜ (from < r) × (r ≤ b) × (r ≤ from + 8) ⌝ }
+{
+    if b - from < 8 {
+        return b;
+    }
+    from + 8
+}
+
 // Sample i, of b, is one beside this period and this note.
 fn goes_on(
     period: u32,
@@ -153,7 +168,48 @@ fn goes_on(
     note == notes[i]
 }
 
-// The samples of the store after the first m from this one on, of b, as long as the lead has the voice's period and note: they are sung at one rate.
+// So far behind, a voice that sounds at this rate needs no cycle for the longest stretch.
+fn is_smooth(behind: u32, rate: u32) -> bool
+    requires { ⌜ (behind ≤ farthest) × (rate ≤ 3556721) ⌝ }
+    ensures { λ r. ⌜ (r ≡ true → Smooth rate 8 behind) ⌝ }
+{
+    if rate <= 65536 {
+        return behind + (65536 - rate) * 8 <= rules::FARTHEST;
+    }
+    (rate - 65536) * 8 <= behind
+}
+
+// The samples of the store after the first m from this one on, up to b, as long as the lead has the voice's period and note: it sounds, and needs no cycle.
+fn smooth(
+    v: Singer,
+    periods: &[u32; LONGEST_BLOCK],
+    notes: &[u32; LONGEST_BLOCK],
+    s: &[i16],
+    m: usize,
+    from: usize,
+    b: usize,
+    out: &mut [i16; LONGEST_BLOCK],
+) -> Sung
+    requires { ⌜ Sings (v .behind) (v .rate) (v .period) (v .note) (now periods) (now notes) (now s) m from b × (length (now out) ≡ longestBlock) × (0 < v .rate) × Smooth (v .rate) (b - from) (v .behind) ⌝ }
+    ensures { λ r. ⌜ (from < r .at) × (r .at ≤ b) × SangTo (v .rate) (v .period) (v .note) (v .behind) (now (periods .entry)) (now (notes .entry)) (now (s .entry)) m from (now (out .entry)) (now (out .exit)) (r .at) (r .behind) ⌝ }
+{
+    let rate = v.rate;
+    let period = v.period;
+    let note = v.note;
+    let mut behind = v.behind;
+    let mut i = from;
+    while goes_on(period, note, periods, notes, i, b) {
+        behind = behind + 65536 - rate;
+        out[i] = reading::read(s, m + i + 1, behind);
+        i += 1;
+    }
+    Sung {
+        at: i,
+        behind: behind,
+    }
+}
+
+// The samples from this one on, of b, that are sung at one rate: some where no cycle is near, else this one alone.
 fn stretch(
     v: Singer,
     periods: &[u32; LONGEST_BLOCK],
@@ -164,20 +220,18 @@ fn stretch(
     b: usize,
     out: &mut [i16; LONGEST_BLOCK],
 ) -> Sung
-    requires { ⌜ (v .behind ≤ farthest) × Kept (v .rate) (v .period) × (m + b ≤ length (now s)) × (1005 ≤ m) × (b ≤ longestBlock) × (length (now out) ≡ longestBlock) × (from < b) × (v .period ≡ getD (now periods) from 0) × (v .note ≡ getD (now notes) from 0) ⌝ }
-    ensures { λ r. ⌜ (from < r .at) × (r .at ≤ b) × (length (now (out .exit)) ≡ length (now (out .entry))) × ((hertz interval behind : ℕ) (outs : List ℤ) → length outs ≡ longestBlock → v .rate ≡ voiceRate hertz interval (v .period) (v .note) → Sang hertz interval behind (now (periods .entry)) (now (notes .entry)) (now (s .entry)) m from outs (now (out .entry)) (v .behind) → Sang hertz interval behind (now (periods .entry)) (now (notes .entry)) (now (s .entry)) m (r .at) outs (now (out .exit)) (r .behind)) ⌝ }
+    requires { ⌜ Sings (v .behind) (v .rate) (v .period) (v .note) (now periods) (now notes) (now s) m from b × (length (now out) ≡ longestBlock) × (v .rate ≤ 3556721) ⌝ }
+    ensures { λ r. ⌜ (from < r .at) × (r .at ≤ b) × SangTo (v .rate) (v .period) (v .note) (v .behind) (now (periods .entry)) (now (notes .entry)) (now (s .entry)) m from (now (out .entry)) (now (out .exit)) (r .at) (r .behind) ⌝ }
 {
-    let rate = v.rate;
-    let period = v.period;
-    let note = v.note;
-    let mut behind = v.behind;
-    let mut i = from;
-    while goes_on(period, note, periods, notes, i, b) {
-        behind = sound(behind, rate, period, s, m + i + 1, out, i);
-        i += 1;
+    if v.rate != 0 {
+        if is_smooth(v.behind, v.rate) {
+            let to = end_of(from, b);
+            return smooth(v, periods, notes, s, m, from, to, out);
+        }
     }
+    let behind = sound(v.behind, v.rate, v.period, s, m + from + 1, out, from);
     Sung {
-        at: i,
+        at: from + 1,
         behind: behind,
     }
 }

@@ -4,7 +4,7 @@ use mathlib.Core.Path.{_≡_, refl, sym, subst, _∙_, transport}
 use Prim.Native.Nat.{ℕ, _-_, _≤_}
 use native.Mathlib.Omega.{arith}
 use lib.ListN.{length}
-use Rattle.voices.specs.Singing.{Reckoned, Kept, Sang, rate-none, rate-kept, sang-none}
+use Rattle.voices.specs.Singing.{Reckoned, Kept, Sang, rate-none, rate-kept, rate-upto, sang-none}
 use Rattle.voices.proofs.sing.Statement.{statement}
 use Rattle.voices.proofs.sing.Tie as tie
 
@@ -44,16 +44,20 @@ stretch-requires c κs =
     let p = l .before .pre in
     let v = l .loop .inv in
     let t = c .before .before .before .before .loop-test .taken in
-    let e = c .before .beside .ensures in (
-      omega (arith, e .0, v .3 .near),
-      transport (λ j. Kept (sym (e .3 .1) j) (sym (e .1) j)) (rate-kept (p .1) (l .before .args .interval) (p .3 .each (l .loop .i) t)),
-      p .4,
-      p .5,
-      p .6,
+    let e = c .before .beside .ensures in
+    let k = p .3 .each (l .loop .i) t in (
+      record {
+        near = omega (arith, e .0, v .3 .near);
+        kept = transport (λ j. Kept (sym (e .3 .1) j) (sym (e .1) j)) (rate-kept (p .1) (l .before .args .interval) k);
+        stored = p .4;
+        enough = p .5;
+        most = p .6;
+        some = t;
+        period = e .1;
+        note = e .2;
+      },
       v .1 ∙ p .7,
-      t,
-      e .1,
-      e .2,
+      omega (arith, e .3 .1, rate-upto (p .1) (l .before .args .interval) k),
     )
 
 loop-less : tie.Need-loop-less Inv-loop μ-loop
@@ -70,7 +74,7 @@ loop-again c =
     let d = c .stretch .ensures in
     let known : Reckoned (a .hertz) (a .interval) (r .period) (r .note) (r .entry) (r .rate) = transport (λ j. Reckoned (a .hertz) (a .interval) (sym (e .1) j) (sym (e .2) j) (r .entry) (r .rate)) (e .3) in
     let here = subst (λ (k : ℕ). Sang (a .hertz) (a .interval) (a .behind) (a .periods .now) (a .notes .now) (a .s .now) (a .m) (l .loop .i) (a .out .now) (l .loop .out) k) (sym (e .0)) (v .3) in
-    (d .1, d .2 ∙ v .1, known, d .3 (a .hertz) (a .interval) (a .behind) (a .out .now) (l .before .pre .7) (known .1) here)
+    (d .1, d .2 .same ∙ v .1, known, d .2 .sang (a .hertz) (a .interval) (a .behind) (a .out .now) (l .before .pre .7) (known .1) here)
 
 returns : tie.Need-returns Inv-loop μ-loop
 returns c =
