@@ -88,7 +88,7 @@ fn held(z: i64) -> i16
 }
 
 // Through neighbours p, a, b and q with u of 4096: rounded down once, then held. The sample a is a whole number, and waits until then.
-fn through(p: i16, a: i16, b: i16, q: i16, u: u32) -> i16
+pub fn through(p: i16, a: i16, b: i16, q: i16, u: u32) -> i16
     requires { ⌜ u ≤ 4096 ⌝ }
     ensures { λ r. ⌜ r ≡ rules.through p a b q u ⌝ }
 {
@@ -112,13 +112,13 @@ fn among(s: &[i16], at: usize, u: u32) -> i16
 }
 
 // The output, read 5 samples before a position that lies so far behind the newest of the first m samples.
-pub fn read(s: &[i16], m: usize, behind: u32) -> i16
+fn read(s: &[i16], m: usize, behind: u32) -> i16
     requires { ⌜ (m ≤ length (now s)) × (1006 ≤ m) × (behind ≤ rules.farthest) ⌝ }
     ensures { λ r. ⌜ ((n : ℕ) → r ≡ rules.reading (ago (now (s .entry)) m) n (rules.inputAt n -ℤ pos behind)) ⌝ }
 {
-    let place = rules::FARTHEST - behind;
-    let u = place % 65536 / 16;
-    let at = m - 1006 + (place / 65536) as usize;
+    let whole = (behind + 65535) / 65536;
+    let u = (whole * 65536 - behind) / 16;
+    let at = m - 6 - whole as usize;
     among(s, at, u)
 }
 

@@ -4,7 +4,7 @@ use mathlib.Core.Path.{_≡_, refl, sym, ap, _∙_, subst, transport}
 use mathlib.Core.Bool.{Bool, true, false, cond, _&&_, _||_}
 use mathlib.Core.List.{List, [], _∷_, _++_}
 use Prim.Native.Nat.{ℕ, zero, suc, _+_, _-_, _*_, _/_, _≤_, _<_}
-use native.Mathlib.Nat.{add-zero, add-suc, mul-suc, mul-le-mul-right, div-lt-iff-lt-mul, le-div-iff-mul-le}
+use native.Mathlib.Nat.{add-zero, add-suc, mul-le-mul-right, div-lt-iff-lt-mul, le-div-iff-mul-le}
 use native.Mathlib.Omega.{arith}
 use native.Mathlib.Numerals.{add-one}
 use borrow.Author.Tests.{leb-true, ltb-true, ltb-false, lt-ltb, le-ltb, eq-eqb, ne-eqb}
@@ -12,14 +12,13 @@ use lib.Dec.{leb, ltb}
 use lib.IntN.{ℤ, pos, _-ℤ_, +ℤ-idr}
 use lib.ListN.{length, getD, set, drop, length-append, length-set}
 use Rattle.whole.specs.Tests.{by, cond-yes, cond-no, and-left, and-right, and-no, yes-and-no}
-use Rattle.rules.specs.Rules.{longestBlock, noNote, table, firstNote, cdTable, filmTable, notePeriod, leastPeriod, greatestPeriod, farthest, inputAt, growth, reading, rawRate, wantedPeriod}
+use Rattle.rules.specs.Rules.{longestBlock, noNote, table, firstNote, cdTable, filmTable, notePeriod, leastPeriod, greatestPeriod, farthest, inputAt, Growth, growth, reading, rawRate, wantedPeriod}
 use Rattle.rules.specs.Facts.{SampleRate, OfTable}
 use Rattle.rules.specs.Table.{at-each-note}
 use Rattle.rules.specs.Notes.{end, period-of-table, period-below, period-above}
-use Rattle.rules.specs.Position.{Paced, growth-keeps}
+use Rattle.rules.specs.Position.{Paced, growth-keeps, growth-drops, growth-repeats}
 use Rattle.ages.specs.Ages.{ago}
-use Rattle.reading.specs.declared.Growth.{Growth as Moved}
-use Rattle.reading.specs.Gliding.{Grown, grown, one-more}
+use Rattle.reading.specs.Gliding.{one-more}
 use Rattle.voices.specs.Voices.{unison, voiceNote, voicePeriod, voiceRate, Voiced, voiced}
 
 -- ---- what the parts promise
@@ -42,10 +41,10 @@ Kept rate p = 0 < rate → Paced rate p
 abbrev pub Reckoned : (hertz interval p n entry rate : ℕ) → Type 0
 Reckoned hertz interval p n entry rate = (0 < p → entry ≡ voicePeriod hertz interval n) × (rate ≡ voiceRate hertz interval p n)
 
--- so many samples in a row at this rate, from so far behind on, without a cycle
-unfoldable pub Smooth : (rate n behind : ℕ) → Type 0
-Smooth rate zero behind = Unit {0}
-Smooth rate (suc n) behind = (rate ≤ behind + 65536) × (behind + 65536 - rate ≤ farthest) × Smooth rate n (behind + 65536 - rate)
+-- after one sample more, whatever its number, a position so far behind lies r behind
+pub record Moved (behind rate p r : ℕ) : Type 0 where
+  pub near : r ≤ farthest
+  pub position : (n : ℕ) → growth (suc n) rate p (inputAt n -ℤ pos behind) .position ≡ inputAt (suc n) -ℤ pos r
 
 -- a voice so far behind, at this rate beside this period and note, which are those of the sample that is next, of b
 pub record Sings (behind rate p n : ℕ) (periods notes : List ℕ) (s : List ℤ) (m from b : ℕ) : Type 0 where
@@ -175,9 +174,6 @@ module _ {hertz : ℕ} (known : SampleRate hertz) (interval : ℕ) {p n : ℕ} (
       let e = entry-range known _ (s .1) in
       subst RateIn (sym (rate-is hertz interval p n (s .0) (s .1))) (over-range p _ (k .from (s .0)) (k .upto) (e .0) (e .1))
 
-  pub rate-upto : voiceRate hertz interval p n ≤ 3556721
-  rate-upto = let r = voiceRate hertz interval p n in by (ltb 0 r) (λ e. rate-range (ltb-true 0 r e) .upto) (λ e. omega (arith, ltb-false 0 r e))
-
   pub rate-kept : Kept (voiceRate hertz interval p n) p
   rate-kept h =
       let s = sounding h in
@@ -193,17 +189,26 @@ voiced-silent zero e = record { near = omega arith; position = λ n. sym (+ℤ-i
 voiced-silent (suc r) e = absurd (omega arith)
 
 -- or as its position grows and it reads
-pub voiced-sounds : {behind p m i : ℕ} (rate : ℕ) {s outs outs′ : List ℤ} {g r : Moved} → 0 < rate → g .behind ≡ behind → Grown g rate p r → ((n : ℕ) → outs′ ≡ set outs i (reading (ago s m) n (inputAt n -ℤ pos (r .behind)))) → Sounded behind rate p s m i outs outs′ (r .behind)
+pub voiced-sounds : {behind p m i r : ℕ} (rate : ℕ) {s outs outs′ : List ℤ} → 0 < rate → Moved behind rate p r → ((n : ℕ) → outs′ ≡ set outs i (reading (ago s m) n (inputAt n -ℤ pos r))) → Sounded behind rate p s m i outs outs′ r
 unfolding voiced
-voiced-sounds zero h e d o = absurd (omega arith)
-voiced-sounds {behind} {p} {m} {i} (suc k) {s} {outs} {outs′} {g} {r} h e d o =
-    let stands : (n : ℕ) → growth (suc n) (suc k) p (inputAt n -ℤ pos behind) .position ≡ inputAt (suc n) -ℤ pos (r .behind) =
-    λ n. ap (λ (b : ℕ). growth (suc n) (suc k) p (inputAt n -ℤ pos b) .position) (sym e) ∙ d .position n in
-    record {
-      near = d .near;
-      position = stands;
-      out = λ n. o (suc n) ∙ ap (λ (z : ℤ). set outs i (reading (ago s m) (suc n) z)) (sym (stands n));
-    }
+voiced-sounds zero h d o = absurd (omega arith)
+voiced-sounds {m = m} {i} (suc k) {s} {outs} h d o = record { near = d .near; position = d .position; out = λ n. o (suc n) ∙ ap (λ (z : ℤ). set outs i (reading (ago s m) (suc n) z)) (sym (d .position n)) }
+
+-- the three ways of a growth
+moved-to : {behind rate p r : ℕ} {again gone : List ℕ} → r ≤ farthest → ((n : ℕ) → growth (suc n) rate p (inputAt n -ℤ pos behind) ≡ record { position = inputAt (suc n) -ℤ pos r; repeats = again; drops = gone }) → Moved behind rate p r
+moved-to near is = record { near = near; position = λ n. ap (λ (g : Growth). g .position) (is n) }
+
+module _ (behind rate p : ℕ) where
+  pub moved-on : rate ≤ behind + 65536 → behind + 65536 - rate ≤ farthest → Moved behind rate p (behind + 65536 - rate)
+  moved-on l k = moved-to k (λ n. growth-keeps n behind rate p refl l k)
+
+  pub moved-back : Paced rate p → behind + 65536 < rate → Moved behind rate p (behind + 65536 + 256 * p - rate)
+  moved-back r l = moved-to (omega (arith, l, r .fast, r .upto)) (λ n. growth-repeats n behind rate p refl l (r .fast) (r .upto))
+
+  pub moved-forward : behind ≤ farthest → Paced rate p → rate ≤ behind + 65536 → farthest < behind + 65536 - rate → Moved behind rate p (behind + 65536 - (256 * p + rate))
+  moved-forward near r l k =
+      let e : behind + 65536 - rate - 256 * p ≡ behind + 65536 - (256 * p + rate) = omega (arith, l) in
+      subst (Moved behind rate p) e (moved-to (omega (arith, k, r .slow, r .upto, near)) (λ n. growth-drops n behind rate p refl k (r .upto)))
 
 -- ---- one after the other
 
@@ -254,47 +259,3 @@ module _ {rate p n behind : ℕ} {periods notes : List ℕ} {s : List ℤ} {m fr
             λ hertz interval first outs k e sang. sang-more hertz interval first periods notes s m outs (omega (arith, k, l)) (a .sang hertz interval first outs k e sang)
             (transport (λ j. Sounded b ((e ∙ (λ h. voiceRate hertz interval (same h) (same-note h))) j) (same j) s (m + i + 1) i out₁ out₂ r) d);
       }
-
--- ---- without a cycle
-
--- at a rate of one or less it falls behind, at more it comes nearer
-pub smooth-slow : (rate n behind : ℕ) → rate ≤ 65536 → behind + (65536 - rate) * n ≤ farthest → Smooth rate n behind
-unfolding Smooth
-smooth-slow rate zero behind h k = tt
-smooth-slow rate (suc n) behind h k =
-    let d = 65536 - rate in
-    let k′ : behind + (d * n + d) ≤ farthest = subst (λ (z : ℕ). behind + z ≤ farthest) (mul-suc d n) k in
-    (omega (arith, h), omega (arith, h, k′), smooth-slow rate n (behind + 65536 - rate) h (omega (arith, h, k′)))
-
-pub smooth-fast : (rate n behind : ℕ) → 65536 < rate → (rate - 65536) * n ≤ behind → behind ≤ farthest → Smooth rate n behind
-unfolding Smooth
-smooth-fast rate zero behind h k near = tt
-smooth-fast rate (suc n) behind h k near =
-    let d = rate - 65536 in
-    let k′ : d * n + d ≤ behind = subst (λ (z : ℕ). z ≤ behind) (mul-suc d n) k in
-    (omega (arith, h, k′), omega (arith, h, k′, near), smooth-fast rate n (behind + 65536 - rate) h (omega (arith, h, k′)) (omega (arith, h, k′, near)))
-
--- and so over fewer
-pub smooth-fewer : (rate k n behind : ℕ) → k ≤ n → Smooth rate n behind → Smooth rate k behind
-unfolding Smooth
-smooth-fewer rate zero n behind l h = tt
-smooth-fewer rate (suc k) zero behind l h = absurd (omega (arith, l))
-smooth-fewer rate (suc k) (suc n) behind l h = (h .0, h .1, smooth-fewer rate k n (behind + 65536 - rate) (omega (arith, l)) (h .2))
-
--- the next of them
-abbrev pub SmoothNext : (rate i b behind : ℕ) → Type 0
-SmoothNext rate i b behind = (rate ≤ behind + 65536) × (behind + 65536 - rate ≤ farthest) × Smooth rate (b - (i + 1)) (behind + 65536 - rate)
-
-pub smooth-next : (rate i b behind : ℕ) → i < b → Smooth rate (b - i) behind → SmoothNext rate i b behind
-unfolding Smooth
-smooth-next rate i b behind l h = subst (λ (k : ℕ). Smooth rate k behind) (step l) h
-  where
-    step : i < b → b - i ≡ suc (b - (i + 1))
-    step l = omega (arith, l)
-
--- what a voice that sounds makes of a sample then
-pub voiced-smooth : {behind rate p m i : ℕ} {s outs outs′ : List ℤ} → 0 < rate → rate ≤ behind + 65536 → behind + 65536 - rate ≤ farthest → ((n : ℕ) → outs′ ≡ set outs i (reading (ago s m) n (inputAt n -ℤ pos (behind + 65536 - rate)))) → Sounded behind rate p s m i outs outs′ (behind + 65536 - rate)
-voiced-smooth {behind} {rate} {p} h l k o =
-    let g : Moved = record { behind = behind; repeated = 0; dropped = 0 } in
-    let r : Moved = record { behind = behind + 65536 - rate; repeated = 0; dropped = 0 } in
-    voiced-sounds rate {g = g} {r = r} h refl (grown [] [] k refl refl (omega arith, omega arith) (λ n. growth-keeps n behind rate p refl l k)) o

@@ -1,16 +1,20 @@
 // A voice beside the lead: its note, its rate, and what its own read head makes of a block's samples.
-use reading::Growth;
+use rules::FARTHEST;
 use rules::LONGEST_BLOCK;
 use rules::NO_NOTE;
 ghost use mathlib.Core.Path.{_≡_};
-ghost use mathlib.Core.Bool.{true};
-ghost use Prim.Native.Nat.{ℕ, _+_, _-_, _≤_, _<_};
+ghost use Prim.Native.Nat.{ℕ, _+_, _≤_, _<_};
+ghost use lib.IntN.{pos, _-ℤ_};
 ghost use lib.ListN.{length, getD};
 ghost use Rattle.whole.specs.Tests.{Decides};
 ghost use Rattle.rules.specs.Rules.{longestBlock, noNote, farthest, leastPeriod, greatestPeriod};
+ghost use Rattle.rules.specs.Rules as rules;
 ghost use Rattle.rules.specs.Facts.{SampleRate};
+ghost use Rattle.rules.specs.Position.{Paced};
+ghost use Rattle.ages.specs.Ages.{ago};
+ghost use Rattle.reading.specs.Gliding.{amongFour};
 ghost use Rattle.voices.specs.Voices.{IntervalIn, voiceNote, voicePeriod, voiceRate};
-ghost use Rattle.voices.specs.Singing.{Tracked, TrackedAll, Kept, Reckoned, Smooth, Sings, Sounded, Sang, SangTo};
+ghost use Rattle.voices.specs.Singing.{Tracked, TrackedAll, Kept, Reckoned, Moved, Sings, Sounded, Sang, SangTo};
 
 // Intervals of -12 to 12 semitones are kept as 0 to 24; this is none.
 pub const UNISON: u32 = 12;
@@ -81,16 +85,11 @@ fn voice_rate(period: u32, entry: u32) -> u32
     notes::raw_rate(period, entry)
 }
 
-// The same voice beside this period and this wanted note: reckoned anew only where they are others.
+// The same voice beside this period and this wanted note.
 fn beside(v: Singer, hertz: u32, interval: u32, period: u32, note: u32) -> Singer
     requires { ⌜ SampleRate hertz × IntervalIn interval × Tracked period note × Reckoned hertz interval (v .period) (v .note) (v .entry) (v .rate) ⌝ }
     ensures { λ r. ⌜ (r .behind ≡ v .behind) × (r .period ≡ period) × (r .note ≡ note) × Reckoned hertz interval period note (r .entry) (r .rate) ⌝ }
 {
-    if v.period == period {
-        if v.note == note {
-            return v;
-        }
-    }
     if period == 0 {
         return Singer {
             behind: v.behind,
@@ -110,6 +109,45 @@ fn beside(v: Singer, hertz: u32, interval: u32, period: u32, note: u32) -> Singe
     }
 }
 
+// How far behind a voice lies after one sample more; a cycle is repeated or dropped.
+fn grown(behind: u32, rate: u32, period: u32) -> u32
+    requires { ⌜ (behind ≤ farthest) × Paced rate period ⌝ }
+    ensures { λ r. ⌜ Moved behind rate period r ⌝ }
+{
+    let b = behind + 65536;
+    if b < rate {
+        return b + 256 * period - rate;
+    }
+    let k = b - rate;
+    if FARTHEST < k {
+        return b - (256 * period + rate);
+    }
+    k
+}
+
+// Through the four samples from a place on, with u of 4096.
+fn among(s: &[i16], at: usize, u: u32) -> i16
+    requires { ⌜ (at + 4 ≤ length (now s)) × (u ≤ 4096) ⌝ }
+    ensures { λ r. ⌜ r ≡ amongFour (now (s .entry)) at u ⌝ }
+{
+    let p = s[at];
+    let a = s[at + 1];
+    let b = s[at + 2];
+    let q = s[at + 3];
+    reading::through(p, a, b, q, u)
+}
+
+// The output, read 5 samples before a position that lies so far behind the newest of the first m samples.
+fn read(s: &[i16], m: usize, behind: u32) -> i16
+    requires { ⌜ (m ≤ length (now s)) × (1006 ≤ m) × (behind ≤ farthest) ⌝ }
+    ensures { λ r. ⌜ ((n : ℕ) → r ≡ rules.reading (ago (now (s .entry)) m) n (rules.inputAt n -ℤ pos behind)) ⌝ }
+{
+    let place = FARTHEST - behind;
+    let u = place % 65536 / 16;
+    let at = m - 1006 + (place / 65536) as usize;
+    among(s, at, u)
+}
+
 // One sample, the newest of the first m: the output goes to place i. Silent, it is 0, and the position is put level with the input.
 fn sound(
     behind: u32,
@@ -127,24 +165,10 @@ fn sound(
         out[i] = 0;
         return LEVEL;
     }
-    let g = Growth {
-        behind: behind,
-        repeated: 0,
-        dropped: 0,
-    };
-    let r = reading::turn(g, rate, period, s, m, out, i);
-    r.behind
-}
-
-// Where the longest stretch from a sample on, of b, ends.
-fn end_of(from: usize, b: usize) -> usize
-    requires { ⌜ from < b ⌝ }
-    ensures { λ r. ⌜ (from < r) × (r ≤ b) × (r ≤ from + 8) ⌝ }
-{
-    if b - from < 8 {
-        return b;
-    }
-    from + 8
+    let r = grown(behind, rate, period);
+    let o = read(s, m, r);
+    out[i] = o;
+    r
 }
 
 // Sample i, of b, is one beside this period and this note.
@@ -168,48 +192,7 @@ fn goes_on(
     note == notes[i]
 }
 
-// So far behind, a voice that sounds at this rate needs no cycle for the longest stretch.
-fn is_smooth(behind: u32, rate: u32) -> bool
-    requires { ⌜ (behind ≤ farthest) × (rate ≤ 3556721) ⌝ }
-    ensures { λ r. ⌜ (r ≡ true → Smooth rate 8 behind) ⌝ }
-{
-    if rate <= 65536 {
-        return behind + (65536 - rate) * 8 <= rules::FARTHEST;
-    }
-    (rate - 65536) * 8 <= behind
-}
-
-// The samples of the store after the first m from this one on, up to b, as long as the lead has the voice's period and note: it sounds, and needs no cycle.
-fn smooth(
-    v: Singer,
-    periods: &[u32; LONGEST_BLOCK],
-    notes: &[u32; LONGEST_BLOCK],
-    s: &[i16],
-    m: usize,
-    from: usize,
-    b: usize,
-    out: &mut [i16; LONGEST_BLOCK],
-) -> Sung
-    requires { ⌜ Sings (v .behind) (v .rate) (v .period) (v .note) (now periods) (now notes) (now s) m from b × (length (now out) ≡ longestBlock) × (0 < v .rate) × Smooth (v .rate) (b - from) (v .behind) ⌝ }
-    ensures { λ r. ⌜ (from < r .at) × (r .at ≤ b) × SangTo (v .rate) (v .period) (v .note) (v .behind) (now (periods .entry)) (now (notes .entry)) (now (s .entry)) m from (now (out .entry)) (now (out .exit)) (r .at) (r .behind) ⌝ }
-{
-    let rate = v.rate;
-    let period = v.period;
-    let note = v.note;
-    let mut behind = v.behind;
-    let mut i = from;
-    while goes_on(period, note, periods, notes, i, b) {
-        behind = behind + 65536 - rate;
-        out[i] = reading::read(s, m + i + 1, behind);
-        i += 1;
-    }
-    Sung {
-        at: i,
-        behind: behind,
-    }
-}
-
-// The samples from this one on, of b, that are sung at one rate: some where no cycle is near, else this one alone.
+// The samples of the store after the first m from this one on, of b, as long as the lead has the voice's period and note: they are sung at one rate.
 fn stretch(
     v: Singer,
     periods: &[u32; LONGEST_BLOCK],
@@ -220,18 +203,20 @@ fn stretch(
     b: usize,
     out: &mut [i16; LONGEST_BLOCK],
 ) -> Sung
-    requires { ⌜ Sings (v .behind) (v .rate) (v .period) (v .note) (now periods) (now notes) (now s) m from b × (length (now out) ≡ longestBlock) × (v .rate ≤ 3556721) ⌝ }
+    requires { ⌜ Sings (v .behind) (v .rate) (v .period) (v .note) (now periods) (now notes) (now s) m from b × (length (now out) ≡ longestBlock) ⌝ }
     ensures { λ r. ⌜ (from < r .at) × (r .at ≤ b) × SangTo (v .rate) (v .period) (v .note) (v .behind) (now (periods .entry)) (now (notes .entry)) (now (s .entry)) m from (now (out .entry)) (now (out .exit)) (r .at) (r .behind) ⌝ }
 {
-    if v.rate != 0 {
-        if is_smooth(v.behind, v.rate) {
-            let to = end_of(from, b);
-            return smooth(v, periods, notes, s, m, from, to, out);
-        }
+    let rate = v.rate;
+    let period = v.period;
+    let note = v.note;
+    let mut behind = v.behind;
+    let mut i = from;
+    while goes_on(period, note, periods, notes, i, b) {
+        behind = sound(behind, rate, period, s, m + i + 1, out, i);
+        i += 1;
     }
-    let behind = sound(v.behind, v.rate, v.period, s, m + from + 1, out, from);
     Sung {
-        at: from + 1,
+        at: i,
         behind: behind,
     }
 }

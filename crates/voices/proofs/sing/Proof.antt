@@ -4,7 +4,7 @@ use mathlib.Core.Path.{_≡_, refl, sym, subst, _∙_, transport}
 use Prim.Native.Nat.{ℕ, _-_, _≤_}
 use native.Mathlib.Omega.{arith}
 use lib.ListN.{length}
-use Rattle.voices.specs.Singing.{Reckoned, Kept, Sang, rate-none, rate-kept, rate-upto, sang-none}
+use Rattle.voices.specs.Singing.{Reckoned, Kept, Sang, rate-none, rate-kept, sang-none}
 use Rattle.voices.proofs.sing.Statement.{statement}
 use Rattle.voices.proofs.sing.Tie as tie
 
@@ -57,7 +57,6 @@ stretch-requires c κs =
         note = e .2;
       },
       v .1 ∙ p .7,
-      omega (arith, e .3 .1, rate-upto (p .1) (l .before .args .interval) k),
     )
 
 loop-less : tie.Need-loop-less Inv-loop μ-loop

@@ -1,8 +1,11 @@
--- `voices::sound` meets its contract: silent it is put level and writes 0; else it is the lead's own turn, at its rate.
+-- `voices::sound` meets its contract: silent it is put level and writes 0; else its position grows by its rate, and it reads there.
 -- Assumes nothing.
-use mathlib.Core.Path.{_≡_, refl}
+use mathlib.Core.Path.{ap, _∙_}
 use native.Mathlib.Omega.{arith}
-use borrow.Author.Needs.{needs}
+use borrow.Author.Needs.{needs, sfits-of}
+use mir.Syntax.{w16}
+use mir.Facts.{toZ-ofZ}
+use lib.ListN.{set}
 use Rattle.voices.specs.Singing.{voiced-silent, voiced-sounds}
 use Rattle.voices.proofs.sound.Statement.{statement}
 use Rattle.voices.proofs.sound.Tie as tie
@@ -16,16 +19,32 @@ element-set-of-out c = search needs
 returns : tie.Need-returns
 returns c = voiced-silent (c .before .args .rate) (c .if1 .taken)
 
-turn-requires : tie.Need-turn-requires
-turn-requires c κs =
-    let s = c .before .before in
-    let p = s .pre in
-    (p .0, omega arith, omega arith, p .1 (omega (arith, c .before .if1 .left)), p .2, p .3, p .4)
+grown-requires : tie.Need-grown-requires
+grown-requires c κs = let p = c .before .pre in (p .0, p .1 (omega (arith, c .if1 .left)))
+
+read-requires : tie.Need-read-requires
+read-requires c κs = search needs
+
+mul-o : tie.Need-mul-o
+mul-o c = search needs
+
+element-set-from-o : tie.Need-element-set-from-o
+element-set-from-o c = search needs
 
 returns-2 : tie.Need-returns-2
 returns-2 c =
     let s = c .before .before .before in
-    voiced-sounds (s .args .rate) (omega (arith, c .before .before .if1 .left)) refl (c .turn .ensures .0) (c .turn .ensures .1)
+    voiced-sounds (s .args .rate) (omega (arith, c .before .before .if1 .left)) (c .before .grown .ensures) (λ n. ap (set (s .args .out .now) (s .args .i)) (toZ-ofZ {w = w16} (sfits-of (c .read .ok)) ∙ c .read .ensures n))
 
 pub sound-spec : {M : Type 1} → statement M
-sound-spec = tie.close (tie.spec mul-out element-set-of-out returns turn-requires returns-2)
+sound-spec =
+    tie.close
+    (tie.spec
+    mul-out
+    element-set-of-out
+    returns
+    grown-requires
+    read-requires
+    mul-o
+    element-set-from-o
+    returns-2)

@@ -1,70 +1,85 @@
--- `voices::stretch` meets its contract: up to eight samples without a cycle, or one.
+-- `voices::stretch` meets its contract: every sample of the stretch has the same period and note, so it is sung at the same rate; the first has them, so one at least is sung.
 -- Assumes nothing.
-use mathlib.Core.Path.{refl}
+use mathlib.Core.Path.{_≡_, ap, _∙_}
+use Prim.Native.Nat.{ℕ, _-_, _≤_, _<_}
 use native.Mathlib.Omega.{arith}
-use borrow.Author.Needs.{needs}
-use Rattle.voices.specs.Singing.{sang-to-none, sang-to-more, smooth-fewer}
+use borrow.Author.Tests.{ltb-true, ltb-false}
+use lib.Dec.{ltb}
+use lib.ListN.{getD}
+use Rattle.whole.specs.Tests.{by}
+use Rattle.voices.specs.Singing.{SangTo, sang-to-none, sang-to-more}
 use Rattle.voices.proofs.stretch.Statement.{statement}
 use Rattle.voices.proofs.stretch.Tie as tie
 
-is-smooth-requires : tie.Need-is-smooth-requires
-is-smooth-requires c κs = search needs
+abbrev Inv-loop : tie.InvT-loop
+Inv-loop periods notes s m from b out₀ rate period note behind₀ i₀ out behind i = (from ≤ i) × (i ≤ b) × SangTo rate period note behind₀ periods notes s m from out₀ out i behind
 
-end-of-requires : tie.Need-end-of-requires
-end-of-requires c κs = search needs
+abbrev μ-loop : tie.MeasureT-loop
+μ-loop periods notes s m from b out₀ rate period note behind₀ i₀ out behind i = b - i
 
-smooth-requires : tie.Need-smooth-requires
-smooth-requires c κs =
-    let e = c .before .end-of .ensures in
+loop-holds : tie.Need-loop-holds Inv-loop μ-loop
+loop-holds c = (omega arith, omega (arith, c .pre .0 .some), sang-to-none (c .pre .0 .near))
+
+goes-on-requires : tie.Need-goes-on-requires Inv-loop μ-loop
+goes-on-requires c κs = c .before .pre .0 .most
+
+-- sample i is one of the stretch
+here : (c : tie.Then1 Inv-loop μ-loop) → c .before .before .loop .i < c .before .before .before .args .b
+here c = c .before .goes-on .ensures .yes (c .if1 .taken) .0
+
+add-sound : tie.Need-add-sound Inv-loop μ-loop
+add-sound c = omega (arith, here c, c .before .before .before .pre .0 .stored)
+
+add-sound-2 : tie.Need-add-sound-2 Inv-loop μ-loop
+add-sound-2 c = omega (arith, here c, c .before .before .before .pre .0 .stored)
+
+sound-requires : tie.Need-sound-requires Inv-loop μ-loop
+sound-requires c κs =
+    let t = c .before in
+    let l = t .before .before in
+    let p = l .before .pre .0 in
+    let v = l .loop .inv .2 in
+    (v .near, p .kept, omega (arith, here t, p .stored), omega (arith, p .enough), omega (arith, here t, p .most), v .same ∙ l .before .pre .1)
+
+add-i : tie.Need-add-i Inv-loop μ-loop
+add-i c = omega (arith, here (c .before .before))
+
+loop-less : tie.Need-loop-less Inv-loop μ-loop
+loop-less c = omega (arith, here (c .before .before))
+
+loop-again : tie.Need-loop-again Inv-loop μ-loop
+loop-again c =
     let t = c .before .before in
-    let s = t .before .before .before .before in
-    let p = s .pre .0 in (
-      record {
-        near = p .near;
-        kept = p .kept;
-        stored = omega (arith, p .stored, e .1);
-        enough = p .enough;
-        most = omega (arith, p .most, e .1);
-        some = e .0;
-        period = p .period;
-        note = p .note;
-      },
-      s .pre .1,
-      omega (arith, t .before .before .if1 .taken),
-      smooth-fewer (s .args .v .rate) _ 8 (s .args .v .behind) (omega (arith, e .2)) (t .before .is-smooth .ensures (t .if2 .taken)),
-    )
+    let l = t .before .before in
+    let v = l .loop .inv in
+    let test = t .before .goes-on .ensures .yes (t .if1 .taken) in
+    (omega (arith, v .0), omega (arith, test .0), sang-to-more (omega (arith, test .0, l .before .pre .0 .most)) (test .1) (test .2) (v .2) (c .sound .ensures))
 
-returns : tie.Need-returns
-returns c = let e = c .before .before .end-of .ensures in let d = c .smooth .ensures in (d .0, omega (arith, d .1, e .1), d .2)
-
-add-sound : tie.Need-add-sound
-add-sound c = search needs
-
-add-sound-2 : tie.Need-add-sound-2
-add-sound-2 c = search needs
-
-sound-requires : tie.Need-sound-requires
-sound-requires c κs = search needs
-
-add-t14 : tie.Need-add-t14
-add-t14 c = search needs
-
-returns-2 : tie.Need-returns-2
-returns-2 c =
-    let s = c .before .before .before .before in
-    let p = s .pre .0 in
-    (omega arith, omega (arith, p .some), sang-to-more (omega (arith, p .some, p .most)) (p .period) (p .note) (sang-to-none (p .near)) (c .sound .ensures))
+returns : tie.Need-returns Inv-loop μ-loop
+returns c =
+    let g = c .before in
+    let l = g .before in
+    let a = l .before .args in
+    let p = l .before .pre .0 in
+    let v = l .loop .inv in
+    let i = l .loop .i in
+    let on : a .from < i = by (ltb (a .from) i) (λ e. ltb-true (a .from) i e)
+    (λ e. let same : a .from ≡ i = omega (arith, v .0, ltb-false (a .from) i e) in
+    absurd (g .goes-on .ensures .no (c .if1 .left) (omega (arith, p .some, same), p .period ∙ ap (λ (k : ℕ). getD (a .periods .now) k 0) same, p .note ∙ ap (λ (k : ℕ). getD (a .notes .now) k 0) same))) in
+    (on, v .1, v .2)
 
 pub stretch-spec : {M : Type 1} → statement M
 stretch-spec =
     tie.close
     (tie.spec
-    is-smooth-requires
-    end-of-requires
-    smooth-requires
-    returns
+    Inv-loop
+    μ-loop
+    loop-holds
+    goes-on-requires
     add-sound
     add-sound-2
     sound-requires
-    add-t14
-    returns-2)
+    add-i
+    loop-less
+    loop-again
+    returns)
