@@ -4,15 +4,17 @@
 //! this program's own tuner is made of it, makes the call, and is turned into a
 //! record again. Every sum is reckoned directly.
 
+use crate::choir;
 use crate::history::History;
 use crate::keyboard::Keyboard;
-use crate::list::{room, Listing, Note};
+use crate::list::{room, Listing};
 use crate::night::Night;
 use crate::rules::*;
 use crate::settings::Settings;
 use crate::statistics::Statistics;
 use crate::table::{is_rate, CD};
 use crate::tuner::*;
+use crate::voices::MOST_VOICES;
 
 pub const STORED: usize = 1_764;
 pub const EIGHTHS: usize = 224;
@@ -91,6 +93,25 @@ pub enum Call {
         store: Vec<u32>,
         call: Box<Call>,
     },
+    /// A call over the record of a tuner with voices: to a start the intervals,
+    /// to a block or a night the outputs of the voices, and where a list begins
+    /// or goes on a store.
+    Voiced {
+        intervals: Vec<i32>,
+        voices: [Vec<i16>; MOST_VOICES],
+        store: Vec<u32>,
+        call: Box<Call>,
+    },
+}
+
+impl Call {
+    /// It without its list and its voices.
+    pub fn plain(&self) -> &Call {
+        match self {
+            Call::Listed { call, .. } | Call::Voiced { call, .. } => call,
+            _ => self,
+        }
+    }
 }
 
 /// What a call answers and leaves. What it has no word on is 0 and empty.
@@ -112,26 +133,31 @@ pub struct Left {
     pub stretch: [u64; 2],
     pub record: Vec<u8>,
     pub out: Vec<i16>,
+    /// Of a call over a record with voices, their outputs.
+    pub voices: [Vec<i16>; MOST_VOICES],
     /// Of a call with a list, the rows and those left out that it answers, the
-    /// listing's four numbers and the store.
+    /// listing's four numbers, which a record with voices has in itself, and the
+    /// store.
     pub list: [u32; 2],
     pub listing: [u32; 4],
     pub store: Vec<u32>,
 }
 
 impl Left {
-    /// Refused with this number before anything was done.
-    fn refused(bytes: &[u8; SIZE], number: u32, call: &Call) -> Left {
-        let out = match call {
-            Call::Block { out, .. } | Call::Night { out, .. } => out.clone(),
-            _ => vec![],
-        };
-        Left {
-            number,
-            record: bytes.to_vec(),
-            out,
+    /// Refused with this answer before anything was done.
+    pub(crate) fn refused(record: Vec<u8>, answer: Answer, call: &Call) -> Left {
+        let mut left = Left {
+            record,
             ..Left::default()
+        };
+        match call {
+            Call::Meter => left.state = answer.number() as u32,
+            _ => left.number = answer.number() as u32,
         }
+        if let Call::Block { out, .. } | Call::Night { out, .. } = call {
+            left.out.clone_from(out);
+        }
+        left
     }
 
     /// With this listing, its counts answered, and this store.
@@ -207,8 +233,9 @@ macro_rules! in_order {
 }
 
 impl Record {
-    /// The record with these bytes, low byte first; any are one.
-    pub fn of_bytes(bytes: &[u8; SIZE]) -> Record {
+    /// The record with these bytes, low byte first; any are one. A record with
+    /// voices begins with all the numbers of one without.
+    pub fn of_bytes(bytes: &[u8]) -> Record {
         let mut record = Record::default_start();
         let mut at = 0;
         macro_rules! read {
@@ -279,8 +306,13 @@ impl Record {
         }
     }
 
-    /// This layout, and document 01's condition in its order, read with document 02.
+    /// This layout, and a tuner behind it.
     pub fn is_good(&self) -> bool {
+        self.layout == LAYOUT && self.holds_a_tuner()
+    }
+
+    /// Document 01's condition in its order, read with document 02; whatever the layout.
+    pub(crate) fn holds_a_tuner(&self) -> bool {
         let kept = History::of(&self.store);
         let eighths = History::of(&self.eighths);
         let before = |stored: &[i16], count: u64| {
@@ -307,8 +339,7 @@ impl Record {
                     && (32_768..=131_072).contains(&self.rate)
             }
         };
-        self.layout == LAYOUT
-            && self.tracking <= 1
+        self.tracking <= 1
             && self.settings.in_range()
             && u32::try_from(self.hertz).is_ok_and(is_rate)
             && self.keyboard().is_some_and(|keyboard| keyboard.is_good())
@@ -380,7 +411,7 @@ impl Record {
     }
 
     /// A count with both phases of the record's, the same if the take is short: what is older than the kept samples is never heard.
-    fn short_count(&self) -> usize {
+    pub(crate) fn short_count(&self) -> usize {
         match self.count as usize {
             count if count < 4_000 => count,
             count => 2_000 + (count - 2_000) % 40,
@@ -482,55 +513,75 @@ fn keep(history: &History, to: &mut [i16]) {
 }
 
 /// What a call over these bytes answers and leaves.
-pub fn made(bytes: &[u8; SIZE], call: &Call) -> Left {
+pub fn made(bytes: &[u8], call: &Call) -> Left {
     match call {
         Call::Listed {
             listing,
             store,
             call,
-        } => made_listed(bytes, *listing, store, call),
-        _ => made_plain(bytes, call).0,
+        } => made_listed(&Record::of_bytes(bytes), *listing, store, call).0,
+        Call::Voiced {
+            intervals,
+            voices,
+            store,
+            call,
+        } => choir::made(bytes, intervals, voices, store, call),
+        _ => made_plain(&Record::of_bytes(bytes), call).0,
+    }
+}
+
+/// Whether the record that the call is made over is good.
+pub fn over_a_good_record(bytes: &[u8], call: &Call) -> bool {
+    match call {
+        Call::Voiced { .. } => choir::Choir::of_bytes(bytes).is_good(),
+        _ => Record::of_bytes(bytes).is_good(),
     }
 }
 
 /// The plain call, and what it makes of the list: 9 also where the listing is
 /// out of its ranges, and 17 where a list would begin in a store without room
-/// for a row.
-fn made_listed(bytes: &[u8; SIZE], listing: Listing, store: &[u32], call: &Call) -> Left {
-    const NO_ROOM: u32 = Answer::StoreWithoutRoom as u32;
+/// for a row. Beside it the tuner after a block or a night.
+pub(crate) fn made_listed(
+    record: &Record,
+    listing: Listing,
+    store: &[u32],
+    call: &Call,
+) -> (Left, Option<Tuner>) {
     let has_room = room(store.len()) > 0;
-    let (left, notes) = made_plain(bytes, call);
+    let refused = |answer| Left::refused(record.bytes(), answer, call).listed(listing, store);
+    let (left, tuner) = made_plain(record, call);
     if let Call::Start(..) = call {
-        if left.number == 0 && !has_room {
+        let left = match left.number == 0 && !has_room {
             // Of the list that did not begin there are no rows.
-            let list = [0, 0];
-            let left = Left::refused(bytes, NO_ROOM, call).listed(listing, store);
-            return Left { list, ..left };
-        }
-        return left.listed(Listing::FRESH, store);
+            true => Left {
+                list: [0, 0],
+                ..refused(Answer::StoreWithoutRoom)
+            },
+            false => left.listed(Listing::FRESH, store),
+        };
+        return (left, None);
     }
-    let record = Record::of_bytes(bytes);
     if !(record.is_good() && listing.is_good(record.count)) {
-        let number = Answer::RecordOutOfRange.number() as u32;
-        return Left::refused(bytes, number, call).listed(listing, store);
+        return (refused(Answer::RecordOutOfRange), None);
     }
     if let Call::Reset = call {
-        return match has_room {
+        let left = match has_room {
             true => left.listed(Listing::FRESH, store),
-            false => Left::refused(bytes, NO_ROOM, call).listed(listing, store),
+            false => refused(Answer::StoreWithoutRoom),
         };
+        return (left, None);
     }
     let (mut listing, mut store) = (listing, store.to_vec());
-    listing.go_on(record.tuner().note(), record.count, &notes, &mut store);
-    left.listed(listing, &store)
+    let notes = tuner.as_ref().map_or(&[][..], |tuner| &tuner.notes);
+    listing.go_on(record.tuner().note(), record.count, notes, &mut store);
+    (left.listed(listing, &store), tuner)
 }
 
-/// A call without a list; and the notes of the samples that it took.
-fn made_plain(bytes: &[u8; SIZE], call: &Call) -> (Left, Vec<Note>) {
-    let record = Record::of_bytes(bytes);
-    let mut notes = Vec::new();
+/// A call without a list; and after a block or a night the tuner, with notes
+/// and periods of the samples that it took.
+pub(crate) fn made_plain(record: &Record, call: &Call) -> (Left, Option<Tuner>) {
     let mut left = Left {
-        record: bytes.to_vec(),
+        record: record.bytes(),
         ..Left::default()
     };
     match call {
@@ -541,19 +592,29 @@ fn made_plain(bytes: &[u8; SIZE], call: &Call) -> (Left, Vec<Note>) {
             let from = (u128::from(*k) * LONGEST_BLOCK as u128).min(u128::from(*length)) as u64;
             left.stretch = [from, (length - from).min(LONGEST_BLOCK as u64)];
         }
-        Call::Change(settings) if record.is_good() => {
+        Call::Listed { .. } | Call::Voiced { .. } => unreachable!("a list has plain calls"),
+        _ if !record.is_good() => {
+            return (
+                Left::refused(left.record, Answer::RecordOutOfRange, call),
+                None,
+            )
+        }
+        Call::Change(settings) => {
             let mut tuner = record.tuner();
             left.number = tuner.change(*settings).number() as u32;
             let settings = tuner.settings;
-            let record = Record { settings, ..record };
+            let record = Record {
+                settings,
+                ..record.clone()
+            };
             left.record = record.with_keyboard(&tuner.keyboard).bytes();
         }
-        Call::Midi(bytes) if record.is_good() => {
+        Call::Midi(bytes) => {
             let mut tuner = record.tuner();
             left.number = tuner.midi(bytes, &mut Statistics::default()).number() as u32;
-            left.record = record.with_keyboard(&tuner.keyboard).bytes();
+            left.record = record.clone().with_keyboard(&tuner.keyboard).bytes();
         }
-        Call::Reset if record.is_good() => {
+        Call::Reset => {
             let mut tuner = record.tuner();
             left.number = tuner.reset().number() as u32;
             left.record = Record::fresh(tuner.hertz, tuner.settings).bytes();
@@ -562,7 +623,7 @@ fn made_plain(bytes: &[u8; SIZE], call: &Call) -> (Left, Vec<Note>) {
             number,
             samples,
             out,
-        } if record.is_good() => {
+        } => {
             let (mut tuner, mut seen) = (record.tuner(), Statistics::default());
             left.out.clone_from(out);
             let (answer, counts) = tuner.block(*number, samples, &mut left.out, &mut seen);
@@ -571,14 +632,14 @@ fn made_plain(bytes: &[u8; SIZE], call: &Call) -> (Left, Vec<Note>) {
             if answer == Answer::Taken {
                 left.record = record.after(&tuner, &seen).bytes();
             }
-            notes = tuner.notes;
+            return (left, Some(tuner));
         }
         Call::Night {
             first,
             size,
             samples,
             out,
-        } if record.is_good() => {
+        } => {
             let (mut tuner, mut seen) = (record.tuner(), Statistics::default());
             left.out.clone_from(out);
             let night = tuner.night(*first, *size as usize, samples, &mut left.out, &mut seen);
@@ -586,9 +647,9 @@ fn made_plain(bytes: &[u8; SIZE], call: &Call) -> (Left, Vec<Note>) {
             if night.taken > 0 {
                 left.record = record.after(&tuner, &seen).bytes();
             }
-            notes = tuner.notes;
+            return (left, Some(tuner));
         }
-        Call::Meter if record.is_good() => match record.tuner().meter() {
+        Call::Meter => match record.tuner().meter() {
             Meter::Searching => {}
             Meter::Locking(lag) => (left.state, left.figures[0]) = (1, lag),
             Meter::Pitched(figures) => {
@@ -597,13 +658,6 @@ fn made_plain(bytes: &[u8; SIZE], call: &Call) -> (Left, Vec<Note>) {
             }
             Meter::Refused => unreachable!("a good record's meter is read"),
         },
-        Call::Meter => left.state = 9,
-        Call::Block { out, .. } | Call::Night { out, .. } => {
-            left.number = 9;
-            left.out.clone_from(out);
-        }
-        Call::Change(_) | Call::Midi(_) | Call::Reset => left.number = 9,
-        Call::Listed { .. } => unreachable!("a list has plain calls"),
     }
-    (left, notes)
+    (left, None)
 }

@@ -2,7 +2,6 @@
 //! the same tuner, and what holds them to one another finds where they do not.
 
 use independent::generator::cuts::CUTTINGS;
-use independent::generator::edges::bytes_of;
 use independent::generator::kinds::kind_named;
 use independent::generator::script::script;
 use independent::lines::{answers_to, Program, Record};
@@ -224,9 +223,9 @@ fn call(line: Record, now: Settings) -> Call {
 fn record_after(cutting: &[Answered]) -> record::Record {
     let mut left = record::Record::default_start();
     for record in cutting.iter().filter_map(|(line, _)| Record::on(line)) {
-        let made = made(&bytes_of(left.bytes()), &call(record, left.settings));
+        let made = made(&left.bytes(), &call(record, left.settings));
         if made.number == 0 {
-            left = record::Record::of_bytes(&bytes_of(made.record));
+            left = record::Record::of_bytes(&made.record);
         }
     }
     left

@@ -1,7 +1,7 @@
 //! Held notes over a record's bytes: the rate comes to its goal and stays, and
 //! what rounding cut off outlives what it should, and nothing else.
 
-use independent::generator::edges::{bytes_of, calls_over, edges};
+use independent::generator::edges::{calls_over, edges};
 use independent::record::{made, Call, Record};
 use independent::rules::{raw_rate_in_bounds, smoothed_rate, wanted_period};
 use independent::settings::{Settings, KEYBOARD};
@@ -38,9 +38,9 @@ impl Take {
     }
 
     fn make(&mut self, call: &Call) {
-        let left = made(&bytes_of(self.record.bytes()), call);
+        let left = made(&self.record.bytes(), call);
         assert_eq!(left.number, 0, "{call:?}");
-        self.record = Record::of_bytes(&bytes_of(left.record));
+        self.record = Record::of_bytes(&left.record);
         assert!(self.record.is_good());
     }
 
@@ -206,11 +206,11 @@ fn what_is_kept_in_any_record() {
         if !good || record.kept == 0 {
             continue;
         }
-        let left = made(&bytes_of(record.bytes()), &calls_over(&record)[0]);
+        let left = made(&record.bytes(), &calls_over(&record)[0]);
         if left.number != 0 {
             continue;
         }
-        let after = Record::of_bytes(&bytes_of(left.record));
+        let after = Record::of_bytes(&left.record);
         let state = |record: &Record| (record.tracking, record.period > 0);
         match (state(&record), state(&after)) {
             ((0, _), (1, _)) => {

@@ -3,13 +3,12 @@
 
 use independent::generator::cases::{sung, Cases};
 use independent::generator::cuts::CUTTINGS;
-use independent::generator::edges::bytes_of;
 use independent::generator::kinds::{kind_named, KINDS};
 use independent::generator::lists::{list_choices, listed, BAD, GOOD};
 use independent::generator::script::script;
 use independent::lines::{lists_of, Program};
 use independent::list::{room, runs, List, Listing, Note, Row, MOST_ROWS, NO_PLACE, ROW};
-use independent::record::{made, Call, Record, SIZE};
+use independent::record::{made, Call, Record};
 use independent::settings::Settings;
 use independent::statistics::Statistics;
 use independent::table::CD;
@@ -281,7 +280,7 @@ fn a_take_over_a_record() {
     tuner.night(0, 512, &take, &mut out, &mut Statistics::default());
     for numbers in [3, 8, 90] {
         let list = List::of(tuner.notes(), room(numbers));
-        let mut bytes = bytes_of(Record::default_start().bytes());
+        let mut bytes = Record::default_start().bytes();
         let (mut listing, mut store) = (Listing::FRESH, vec![7; numbers]);
         for (number, samples) in (0..).zip(take.chunks(300)) {
             let block = Call::Block {
@@ -300,7 +299,7 @@ fn a_take_over_a_record() {
             assert_eq!(left.out, plain.out);
             assert_eq!(left.list, left.listing[..2]);
             (listing, store) = (Listing::of(left.listing), left.store);
-            bytes = bytes_of(left.record);
+            bytes = left.record;
         }
         let mut right = list.numbers();
         right.resize(numbers, 7);
@@ -313,11 +312,11 @@ fn a_take_over_a_record() {
 /// What each refusal leaves: 17 after a start's own, and after 9.
 #[test]
 fn refusals_with_a_list() {
-    let good = bytes_of(Record::default_start().bytes());
-    let mut bad = good;
+    let good = Record::default_start().bytes();
+    let mut bad = good.clone();
     bad[0] ^= 1;
     let other = Listing::of([1, 0, 0, 0]);
-    let start = |bytes: &[u8; SIZE], hertz, scale, numbers| {
+    let start = |bytes: &[u8], hertz, scale, numbers| {
         let settings = Settings::of([scale, 100, 0, 100]);
         made(bytes, &listed(other, numbers, Call::Start(hertz, settings)))
     };
@@ -334,7 +333,7 @@ fn refusals_with_a_list() {
     assert_eq!((&left.record[..], left.listing), (&bad[..], other.words()));
     let left = start(&bad, CD, 1, 3);
     assert_eq!((left.number, left.listing), (0, Listing::FRESH.words()));
-    let reset = |bytes: &[u8; SIZE], listing, numbers| {
+    let reset = |bytes: &[u8], listing, numbers| {
         let left = made(bytes, &listed(listing, numbers, Call::Reset));
         let same = left.record == bytes && left.listing == listing.words();
         assert!(left.number == 0 || same);
@@ -351,7 +350,7 @@ fn refusals_with_a_list() {
 fn calls_over_records_meet_lists() {
     let mut source = Cases::seeded(20_261_116);
     let chosen = list_choices().into_iter();
-    let chosen = chosen.map(|(record, call)| (bytes_of(record.bytes()), call));
+    let chosen = chosen.map(|(record, call)| (record.bytes(), call));
     let others = (0..20_000).map(|_| source.case());
     let mut met: BTreeMap<&str, usize> = BTreeMap::new();
     for (bytes, call) in chosen.chain(others) {

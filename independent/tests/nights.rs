@@ -1,10 +1,10 @@
 //! A night's blocks in one call are the single calls one by one; what refuses it,
 //! and what it then leaves.
 
+use independent::choir::Choir;
 use independent::generator::cases::{sung, Cases};
-use independent::generator::edges::bytes_of;
 use independent::night::Night;
-use independent::record::{made, Call, Left, Record, SIZE};
+use independent::record::{made, over_a_good_record, Call, Left};
 use independent::settings::Settings;
 use independent::statistics::Statistics;
 use independent::table::CD;
@@ -223,34 +223,83 @@ fn numbers_wrap_within_a_night() {
     assert_eq!(block(&mut tuner, 2, &[5]).0, Answer::GivenAgain);
 }
 
+/// A night over a record, with voices or without, that is refused before its
+/// first block.
+fn untouched(bytes: &[u8], call: &Call, number: u32) -> Left {
+    let mut left = Left {
+        number,
+        record: bytes.to_vec(),
+        ..Left::default()
+    };
+    if let Call::Night { out, .. } = call.plain() {
+        left.out.clone_from(out);
+    }
+    if let Call::Voiced { voices, store, .. } = call {
+        let list = Choir::of_bytes(bytes).list;
+        left.list = [list.rows, list.left];
+        (left.voices, left.store) = (voices.clone(), store.clone());
+    }
+    left
+}
+
+/// The call whose outputs begin where those of the night go on.
+fn going_on(call: &Call, left: &Left, from: usize, number: u16, samples: &[i16]) -> Call {
+    let part = |output: &Vec<i16>| output.get(from..).unwrap_or(&[]).to_vec();
+    let block = Call::Block {
+        number,
+        samples: samples.to_vec(),
+        out: part(&left.out),
+    };
+    match call {
+        Call::Voiced { .. } => Call::Voiced {
+            intervals: vec![],
+            voices: left.voices.each_ref().map(part),
+            store: left.store.clone(),
+            call: Box::new(block),
+        },
+        _ => block,
+    }
+}
+
+/// Every output of lead and chosen voices is as long as the recording.
+fn have_room(bytes: &[u8], call: &Call, length: usize) -> bool {
+    let voices = match call {
+        Call::Voiced { voices, .. } => &voices[..Choir::of_bytes(bytes).chosen()],
+        _ => &[],
+    };
+    let Call::Night { out, .. } = call.plain() else {
+        return false;
+    };
+    let mut outputs = voices.iter().chain([out]);
+    outputs.all(|output| output.len() >= length)
+}
+
 /// What the single calls over the record leave, one after the other; nothing where the night is refused before them.
-fn one_by_one(bytes: [u8; SIZE], call: &Call) -> Option<Left> {
+fn one_by_one(bytes: &[u8], call: &Call) -> Option<Left> {
     let Call::Night {
         first,
         size,
         samples,
-        out,
-    } = call
+        ..
+    } = call.plain()
     else {
         return None;
     };
-    let good = Record::of_bytes(&bytes).is_good();
-    if !good || !(1..=512).contains(size) || out.len() < samples.len() {
+    let good = over_a_good_record(bytes, call);
+    if !good || !(1..=512).contains(size) || !have_room(bytes, call, samples.len()) {
         return None;
     }
-    let mut left = Left {
-        record: bytes.to_vec(),
-        ..Left::default()
-    };
+    let mut left = untouched(bytes, call, 0);
     let (size, mut number) = (*size as usize, *first);
     for (place, samples) in samples.chunks(size).enumerate() {
-        let block = Call::Block {
-            number,
-            samples: samples.to_vec(),
-            out: out[place * size..].to_vec(),
-        };
-        let after = made(&bytes_of(left.record), &block);
-        left.record = after.record;
+        let from = place * size;
+        let block = going_on(call, &left, from, number, samples);
+        let after = made(&left.record, &block);
+        (left.record, left.list, left.store) = (after.record, after.list, after.store);
+        left.out.splice(from.., after.out);
+        for (output, given) in left.voices.iter_mut().zip(after.voices) {
+            output.splice(from.min(output.len()).., given);
+        }
         match after.number {
             0 => {
                 left.sums[0] += 1;
@@ -261,42 +310,57 @@ fn one_by_one(bytes: [u8; SIZE], call: &Call) -> Option<Left> {
             1 => left.again = (1, after.counts),
             refusal => {
                 (left.number, left.refused) = (refusal, number);
-                left.out.extend(&out[place * size..]);
                 return Some(left);
             }
         }
-        left.out.extend(&after.out[..samples.len()]);
         number = number.wrapping_add(1);
     }
-    left.out.extend(&out[samples.len()..]);
     Some(left)
 }
 
 /// Over records of every sort a night leaves what the single calls leave, and the cases go through all that can happen to one.
 #[test]
 fn nights_over_records_are_the_single_calls() {
-    let mut source = Cases::seeded(20_261_115);
+    let met = met_by_nights(20_261_115, 20_000, |call| call == call.plain());
+    assert_eq!(met.len(), 16, "{met:?}");
+    assert!(met.values().all(|&times| times > 5), "{met:?}");
+}
+
+/// So does one over records with voices.
+#[test]
+fn nights_with_voices_are_the_single_calls() {
+    let with_voices = |call: &Call| matches!(call, Call::Voiced { .. });
+    let met = met_by_nights(20_261_116, 20_000, with_voices);
+    assert_eq!(met.len(), 16, "{met:?}");
+}
+
+/// How often what happened to the nights of this sort among so many cases, each
+/// of them held to the single calls.
+fn met_by_nights(
+    seed: u64,
+    cases: usize,
+    sort: impl Fn(&Call) -> bool,
+) -> BTreeMap<&'static str, usize> {
+    let mut source = Cases::seeded(seed);
     let mut met: BTreeMap<&str, usize> = BTreeMap::new();
-    for case in 0..20_000 {
+    for case in 0..cases {
         let (bytes, call) = source.case();
         let Call::Night {
             first,
             size,
             samples,
-            out,
-        } = &call
+            ..
+        } = call.plain()
         else {
             continue;
         };
+        if !sort(&call) {
+            continue;
+        }
         let left = made(&bytes, &call);
-        let Some(right) = one_by_one(bytes, &call) else {
+        let Some(right) = one_by_one(&bytes, &call) else {
             assert!([3, 4, 9].contains(&left.number), "case {case}: {call:?}");
-            let untouched = Left {
-                number: left.number,
-                record: bytes.to_vec(),
-                out: out.clone(),
-                ..Left::default()
-            };
+            let untouched = untouched(&bytes, &call, left.number);
             assert_eq!(left, untouched, "case {case}: {call:?}");
             let what = match left.number {
                 9 => "record",
@@ -335,8 +399,7 @@ fn nights_over_records_are_the_single_calls() {
             *met.entry(what).or_default() += 1;
         }
     }
-    assert_eq!(met.len(), 16, "{met:?}");
-    assert!(met.values().all(|&times| times > 5), "{met:?}");
+    met
 }
 
 /// A night sent again whole is refused, as far as its numbers tell: of 65,536 blocks they end where they began.

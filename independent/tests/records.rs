@@ -3,7 +3,7 @@
 
 use independent::generator::cases::Cases;
 use independent::generator::edges::{
-    bytes_of, calls_over, choices, edges, fresh_of_version_2, BEGINNING_OF_OLD,
+    calls_over, choices, edges, fresh_of_version_2, BEGINNING_OF_OLD,
 };
 use independent::record::{made, Call, Record};
 use independent::settings::Settings;
@@ -24,7 +24,7 @@ fn assert_is_the_tuner_s(hertz: u32) {
         .map(|at| ((at % 101) * 90 + (at / 50 % 2) * 3_000 - 6_000) as i16)
         .collect();
     let (_, mut tuner) = Tuner::start(hertz, Settings::DEFAULT);
-    let mut bytes = bytes_of(Record::fresh(hertz, Settings::DEFAULT).bytes());
+    let mut bytes = Record::fresh(hertz, Settings::DEFAULT).bytes();
     let mut pitched = 0;
     for (number, samples) in (0..).zip(sung.chunks(173)) {
         let mut out = vec![7; samples.len() + 1];
@@ -38,7 +38,7 @@ fn assert_is_the_tuner_s(hertz: u32) {
         assert_eq!(left.number as usize, answer.number());
         assert_eq!(usize::from(left.counts[1]), counts.repeated);
         assert_eq!(left.out, out, "block {number}");
-        bytes = bytes_of(left.record);
+        bytes = left.record;
         assert!(Record::of_bytes(&bytes).is_good());
         assert_eq!(Record::of_bytes(&bytes).bytes(), bytes);
         let shown = made(&bytes, &Call::Meter);
@@ -60,7 +60,7 @@ fn assert_is_the_tuner_s(hertz: u32) {
 fn records_are_good_up_to_the_edges() {
     for (place, (record, good)) in edges().into_iter().enumerate() {
         assert_eq!(record.is_good(), good, "record {place}");
-        let bytes = bytes_of(record.bytes());
+        let bytes = record.bytes();
         assert!(Record::of_bytes(&bytes) == record);
         for call in calls_over(&record) {
             let left = made(&bytes, &call);
@@ -80,13 +80,13 @@ fn records_are_good_up_to_the_edges() {
 fn refused_settings_over_a_record() {
     let mut numbers = BTreeSet::new();
     for (record, call) in choices() {
-        let left = made(&bytes_of(record.bytes()), &call);
+        let left = made(&record.bytes(), &call);
         let (refused, hertz) = match &call {
             Call::Start(hertz, _) => (Record::default_start(), *hertz),
             _ => (record, FILM),
         };
         assert_eq!(left.number > 0, left.record == refused.bytes(), "{call:?}");
-        let after = Record::of_bytes(&bytes_of(left.record));
+        let after = Record::of_bytes(&left.record);
         let right = if left.number > 0 {
             refused.hertz
         } else {
@@ -139,7 +139,7 @@ fn calls_over_records_meet_something_kept() {
             continue;
         }
         let left = made(&bytes, &call);
-        let after = Record::of_bytes(&bytes_of(left.record));
+        let after = Record::of_bytes(&left.record);
         let moved = (after.rate, after.kept) != (record.rate, record.kept);
         let what = match (&call, left.number) {
             (Call::Start(..) | Call::StartDefault, 0) => "start",

@@ -1,169 +1,24 @@
-//! Calls over records, good, damaged, of other layouts and of any bytes,
-//! compared with the independent program: 9 and nothing changed, or the right
-//! answer; guards around every buffer stay as they were. DAXFOLIN_CASES says how
-//! many calls, DAXFOLIN_SEED which.
+//! Calls over records, with voices and without, good, damaged, of other layouts
+//! and of any bytes, compared with the independent program: 9 and nothing
+//! changed, or the right answer; guards around every buffer stay as they were.
+//! DAXFOLIN_CASES says how many calls, DAXFOLIN_SEED which.
 #![cfg(target_arch = "x86_64")]
 
+mod lent;
 mod theirs;
 
 use daxfolin::{
-    cut, Answer, Listing, Meter, NightAnswer, Record, Settings, CD, CHANNEL_OUT_OF_RANGE,
-    DECAY_OUT_OF_RANGE, EPS_OUT_OF_RANGE, FILM, FLOOR_OUT_OF_RANGE, KEYBOARD_MODE, LAYOUT,
-    MODE_UNKNOWN, RATE_UNKNOWN, RECORD_OUT_OF_RANGE, SCALE_OUT_OF_RANGE, TAKEN,
+    cut, Answer, Listing, Meter, Record, Settings, CD, CHANNEL_OUT_OF_RANGE, DECAY_OUT_OF_RANGE,
+    EPS_OUT_OF_RANGE, FILM, FLOOR_OUT_OF_RANGE, KEYBOARD_MODE, LAYOUT, MODE_UNKNOWN, RATE_UNKNOWN,
+    RECORD_OUT_OF_RANGE, SCALE_OUT_OF_RANGE, TAKEN,
 };
 use independent::generator::cases::Cases;
 use independent::generator::edges::fresh_of_version_2;
-use independent::record::{made, Call, Left};
-use std::fmt::Debug;
-use theirs::settings;
+use independent::record::{made, Call};
+use lent::left_by;
 
-const GUARD: usize = 64;
+/// What an output holds before a call.
 const FILL: i16 = -23_131;
-const NUMBER: u32 = 0xA5A5_A5A5;
-
-/// What is lent, between guards.
-fn guarded<T: Copy>(lent: &[T], fill: T) -> Vec<T> {
-    [&[fill; GUARD], lent, &[fill; GUARD]].concat()
-}
-
-/// What a call says over what is lent to it between guards; and that as it was left.
-fn over<T, R>(lent: &[T], fill: T, call: impl FnOnce(&mut [T]) -> R) -> (R, Vec<T>)
-where
-    T: Copy + Debug + PartialEq,
-{
-    let mut room = guarded(lent, fill);
-    let part = &mut room[GUARD..GUARD + lent.len()];
-    let said = call(part);
-    let left = part.to_vec();
-    assert_eq!(room, guarded(&left, fill), "the guards were touched");
-    (said, left)
-}
-
-/// The same over samples, which are as they were, and an output.
-fn played<R>(
-    samples: &[i16],
-    out: &[i16],
-    call: impl FnOnce(&[i16], &mut [i16]) -> R,
-) -> (R, Vec<i16>) {
-    let (said, sent) = over(samples, FILL, |sung| over(out, FILL, |out| call(sung, out)));
-    assert_eq!(sent, samples, "the samples in were touched");
-    said
-}
-
-fn answer(left: &mut Left, of: Answer) {
-    (left.number, left.counts) = (of.number, [of.written, of.repeated, of.dropped]);
-}
-
-fn night(left: &mut Left, of: NightAnswer) {
-    let again = of.again;
-    (left.number, left.refused) = (of.number, of.refused);
-    left.sums = [of.taken, of.written, of.repeated, of.dropped];
-    left.again = (again.number, [again.written, again.repeated, again.dropped]);
-}
-
-fn left_by(record: &mut Record, call: &Call) -> Left {
-    let mut left = Left::default();
-    match call {
-        Call::Start(hertz, with) => (left.number, *record) = Record::start(*hertz, settings(with)),
-        Call::StartDefault => (left.number, *record) = Record::start_default(),
-        Call::Change(to) => left.number = record.change(settings(to)),
-        Call::Midi(bytes) => left.number = record.midi(bytes),
-        Call::Reset => left.number = record.reset(),
-        Call::Block {
-            number,
-            samples,
-            out,
-        } => {
-            let said;
-            (said, left.out) = played(samples, out, |sung, out| record.block(*number, sung, out));
-            answer(&mut left, said);
-        }
-        Call::Night {
-            first,
-            size,
-            samples,
-            out,
-        } => {
-            let said;
-            (said, left.out) = played(samples, out, |sung, out| {
-                record.night(*first, *size as usize, sung, out)
-            });
-            night(&mut left, said);
-        }
-        Call::Meter => match record.meter() {
-            Meter::Searching => {}
-            Meter::Locking(lag) => (left.state, left.figures[0]) = (1, lag),
-            Meter::Pitched {
-                period,
-                wanted,
-                rate,
-            } => (left.state, left.figures) = (2, [0.0, period, wanted, rate]),
-            Meter::Refused => left.state = 9,
-        },
-        Call::Cut(..) => unreachable!("a recording has no such length"),
-        Call::Listed {
-            listing,
-            store,
-            call,
-        } => {
-            let [rows, missing, place, first] = listing.words();
-            let mut list = Listing {
-                rows,
-                left: missing,
-                place,
-                first,
-            };
-            (_, left.store) = over(store, NUMBER, |store| {
-                listed(record, &mut list, store, call, &mut left)
-            });
-            left.listing = [list.rows, list.left, list.place, list.first];
-        }
-    }
-    left.record = record.to_bytes().to_vec();
-    left
-}
-
-/// A call with a list, what it answers and the output that it leaves.
-fn listed(
-    record: &mut Record,
-    list: &mut Listing,
-    store: &mut [u32],
-    call: &Call,
-    left: &mut Left,
-) {
-    let said = match call {
-        Call::Start(hertz, with) => record.list_start(list, *hertz, settings(with), store),
-        Call::Reset => record.list_reset(list, store),
-        Call::Block {
-            number,
-            samples,
-            out,
-        } => {
-            let said;
-            (said, left.out) = played(samples, out, |sung, out| {
-                record.list_block(list, *number, sung, out, store)
-            });
-            said
-        }
-        Call::Night {
-            first,
-            size,
-            samples,
-            out,
-        } => {
-            let said;
-            (said, left.out) = played(samples, out, |sung, out| {
-                record.list_night(list, *first, *size as usize, sung, out, store)
-            });
-            night(left, said.night);
-            left.list = [said.rows, said.left];
-            return;
-        }
-        _ => unreachable!("a list has none of the other calls"),
-    };
-    answer(left, said.answer);
-    left.list = [said.rows, said.left];
-}
 
 #[test]
 fn calls_over_any_record_are_the_independent_program_s() {
@@ -176,7 +31,7 @@ fn calls_over_any_record_are_the_independent_program_s() {
             continue;
         }
         let right = made(&bytes, &call);
-        let left = left_by(&mut Record::from_bytes(&bytes), &call);
+        let left = left_by(&bytes, &call);
         assert!(
             left == right,
             "case {case}: {call:?}\nleft {left:?}\nright {right:?}"

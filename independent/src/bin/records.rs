@@ -7,7 +7,8 @@
 //! does.
 
 use independent::generator::cases::Cases;
-use independent::record::{made, Call, Left, Record, SIZE};
+use independent::record::{made, over_a_good_record, Call, Left, Record};
+use independent::settings::Settings;
 use independent::words::{words, wrong};
 use std::collections::BTreeMap;
 use std::io::{Read, Write};
@@ -18,110 +19,149 @@ const USAGE: &str = "records CASES SEED PROGRAM WORDS..";
 /// The bytes of what the other program says before the record.
 const SAID: usize = 136;
 
-/// What a call with a list has more in its number than the plain one.
-const LISTED: u32 = 16;
-
-fn asked(bytes: &[u8; SIZE], call: &Call) -> Vec<u8> {
-    let mut words = [0u32; 10];
-    let mut longs = [0u64; 2];
-    let (mut midi, mut samples, mut out): (&[u8], &[i16], &[i16]) = (&[], &[], &[]);
-    let (plain, listing, store): (&Call, [u32; 4], &[u32]) = match call {
-        Call::Listed {
-            listing,
-            store,
-            call,
-        } => (call, listing.words(), store),
-        _ => (call, [0; 4], &[]),
-    };
-    match plain {
-        Call::Start(_, settings) | Call::Change(settings) => {
-            // A start's sample rate stands in the place of a block's number.
-            (words[0], words[1]) = match plain {
-                Call::Start(hertz, _) => (0, *hertz),
-                _ => (2, 0),
-            };
-            words[4..].copy_from_slice(&[
-                settings.scale,
-                settings.eps,
-                settings.decay,
-                settings.floor,
-                settings.mode,
-                settings.channel,
-            ]);
-        }
-        Call::StartDefault => words[0] = 1,
-        Call::Block {
-            number,
-            samples: sent,
-            out: room,
-        } => {
-            words[..4].copy_from_slice(&[
-                3,
-                u32::from(*number),
-                sent.len() as u32,
-                room.len() as u32,
-            ]);
-            (samples, out) = (sent, room);
-        }
-        Call::Night {
-            first,
-            size,
-            samples: sent,
-            out: room,
-        } => {
-            words[..4].copy_from_slice(&[
-                9,
-                u32::from(*first),
-                sent.len() as u32,
-                room.len() as u32,
-            ]);
-            // The length of its blocks stands in the place of a recording's.
-            longs[0] = *size;
-            (samples, out) = (sent, room);
-        }
-        Call::Reset => words[0] = 4,
-        Call::Meter => words[0] = 5,
-        Call::Cut(length, k) => (words[0], longs) = (6, [*length, *k]),
-        Call::Midi(bytes) => {
-            (words[0], words[2]) = (8, bytes.len() as u32);
-            midi = bytes;
-        }
-        Call::Listed { .. } => unreachable!("a list has plain calls"),
+/// The number of the plain call and its name.
+fn plain(call: &Call) -> (u32, &'static str) {
+    match call.plain() {
+        Call::Start(..) => (0, "start"),
+        Call::StartDefault => (1, "start_default"),
+        Call::Change(_) => (2, "change"),
+        Call::Block { .. } => (3, "block"),
+        Call::Reset => (4, "reset"),
+        Call::Meter => (5, "meter"),
+        Call::Cut(..) => (6, "cut"),
+        Call::Midi(_) => (8, "midi"),
+        Call::Night { .. } => (9, "night"),
+        Call::Listed { .. } | Call::Voiced { .. } => unreachable!("a list has plain calls"),
     }
-    if plain != call {
-        words[0] += LISTED;
-    }
-    let mut asked = Vec::with_capacity(80 + SIZE + 4 * samples.len() + midi.len());
-    words
-        .iter()
-        .for_each(|word| asked.extend(word.to_le_bytes()));
-    longs
-        .iter()
-        .for_each(|long| asked.extend(long.to_le_bytes()));
-    listing
-        .iter()
-        .for_each(|word| asked.extend(word.to_le_bytes()));
-    asked.extend((store.len() as u64).to_le_bytes());
-    asked.extend(bytes);
-    asked.extend(midi);
-    samples
-        .iter()
-        .chain(out)
-        .for_each(|sample| asked.extend(sample.to_le_bytes()));
-    store
-        .iter()
-        .for_each(|number| asked.extend(number.to_le_bytes()));
-    asked
 }
 
-/// What the other program says that the call left, and whether it touched anything else.
-fn said(from: &mut impl Read, room: usize, numbers: usize) -> std::io::Result<(Left, bool)> {
-    let mut bytes = vec![0; SAID + SIZE + 2 * room + 4 * numbers];
+/// What a call with a list has more in its number than the plain one and before
+/// its name, and one over a record with voices.
+fn more(call: &Call) -> (u32, &'static str) {
+    match call {
+        Call::Listed { .. } => (16, "list_"),
+        Call::Voiced { .. } => (32, "choir_"),
+        _ => (0, ""),
+    }
+}
+
+fn bytes_of<T: Copy, const SIZE: usize>(numbers: &[T], bytes: fn(T) -> [u8; SIZE]) -> Vec<u8> {
+    numbers.iter().flat_map(|&number| bytes(number)).collect()
+}
+
+/// What is lent beside the record, and what a call is told.
+#[derive(Default)]
+struct Asked<'a> {
+    number: u32,
+    settings: [u32; 6],
+    longs: [u64; 2],
+    listing: [u32; 4],
+    /// Samples, bytes of a keyboard or intervals: how many, and as bytes.
+    length: usize,
+    sent: Vec<u8>,
+    /// The outputs of the lead and of the voices.
+    outs: [&'a [i16]; 4],
+    store: &'a [u32],
+}
+
+impl<'a> Asked<'a> {
+    fn of(call: &'a Call) -> Asked<'a> {
+        let mut asked = Asked::default();
+        match call {
+            Call::Listed { listing, store, .. } => {
+                (asked.listing, asked.store) = (listing.words(), store);
+            }
+            Call::Voiced {
+                intervals,
+                voices: [first, second, third],
+                store,
+                ..
+            } => {
+                asked.send(intervals, i32::to_le_bytes);
+                asked.outs = [&[], first, second, third];
+                asked.store = store;
+            }
+            _ => {}
+        }
+        asked.tell(call.plain());
+        asked
+    }
+
+    fn tell(&mut self, plain: &'a Call) {
+        match plain {
+            // A start's sample rate stands in the place of a block's number.
+            Call::Start(hertz, settings) => {
+                (self.number, self.settings) = (*hertz, in_order(settings));
+            }
+            Call::Change(settings) => self.settings = in_order(settings),
+            Call::Block {
+                number,
+                samples,
+                out,
+            } => self.play(*number, samples, out),
+            Call::Night {
+                first,
+                size,
+                samples,
+                out,
+            } => {
+                self.play(*first, samples, out);
+                // The length of its blocks stands in the place of a recording's.
+                self.longs[0] = *size;
+            }
+            Call::Cut(length, k) => self.longs = [*length, *k],
+            Call::Midi(bytes) => self.send(bytes, u8::to_le_bytes),
+            _ => {}
+        }
+    }
+
+    fn play(&mut self, number: u16, samples: &[i16], out: &'a [i16]) {
+        (self.number, self.outs[0]) = (number.into(), out);
+        self.send(samples, i16::to_le_bytes);
+    }
+
+    fn send<T: Copy, const SIZE: usize>(&mut self, numbers: &[T], bytes: fn(T) -> [u8; SIZE]) {
+        (self.length, self.sent) = (numbers.len(), bytes_of(numbers, bytes));
+    }
+
+    /// As the other program reads it, around these bytes of a record.
+    fn around(&self, record: &[u8], call: u32) -> Vec<u8> {
+        let lengths = [self.length, self.store.len()].map(|length| length as u32);
+        let rooms = self.outs.map(|out| out.len() as u32);
+        let words = [&[call, self.number][..], &lengths, &rooms, &self.settings];
+        [
+            bytes_of(&words.concat(), u32::to_le_bytes),
+            bytes_of(&self.longs, u64::to_le_bytes),
+            bytes_of(&self.listing, u32::to_le_bytes),
+            record.to_vec(),
+            self.sent.clone(),
+            bytes_of(&self.outs.concat(), i16::to_le_bytes),
+            bytes_of(self.store, u32::to_le_bytes),
+        ]
+        .concat()
+    }
+}
+
+/// In the order of a record.
+fn in_order(settings: &Settings) -> [u32; 6] {
+    [
+        settings.scale,
+        settings.eps,
+        settings.decay,
+        settings.floor,
+        settings.mode,
+        settings.channel,
+    ]
+}
+
+/// What the other program says that the call left, as long in every part as what is right, and whether it touched anything else.
+fn said(from: &mut impl Read, right: &Left) -> std::io::Result<(Left, bool)> {
+    let mut bytes = [0; SAID];
     from.read_exact(&mut bytes)?;
     let half = |at: usize| u16::from_le_bytes(bytes[at..at + 2].try_into().unwrap());
     let word = |at: usize| u32::from_le_bytes(bytes[at..at + 4].try_into().unwrap());
     let long = |at: usize| u64::from_le_bytes(bytes[at..at + 8].try_into().unwrap());
-    let left = Left {
+    let mut left = Left {
         number: word(0),
         counts: [4, 8, 12].map(|at| word(at) as u16),
         state: word(16),
@@ -131,39 +171,30 @@ fn said(from: &mut impl Read, room: usize, numbers: usize) -> std::io::Result<(L
         refused: half(60),
         sums: [64, 72, 80, 88].map(long),
         again: (word(96), [100, 102, 104].map(half)),
-        record: bytes[SAID..SAID + SIZE].to_vec(),
-        out: bytes[SAID + SIZE..][..2 * room]
-            .chunks_exact(2)
-            .map(|sample| i16::from_le_bytes([sample[0], sample[1]]))
-            .collect(),
         list: [112, 116].map(word),
         listing: [120, 124, 128, 132].map(word),
-        store: bytes[SAID + SIZE + 2 * room..]
-            .chunks_exact(4)
-            .map(|number| u32::from_le_bytes(number.try_into().unwrap()))
-            .collect(),
+        ..Left::default()
     };
+    left.record = part(from, right.record.len(), |[byte]| byte)?;
+    left.out = part(from, right.out.len(), i16::from_le_bytes)?;
+    for (voice, right) in left.voices.iter_mut().zip(&right.voices) {
+        *voice = part(from, right.len(), i16::from_le_bytes)?;
+    }
+    left.store = part(from, right.store.len(), u32::from_le_bytes)?;
     Ok((left, word(36) != 0))
 }
 
-fn name(call: &Call) -> &'static str {
-    match call {
-        Call::Start(..) => "start",
-        Call::StartDefault => "start_default",
-        Call::Change(_) => "change",
-        Call::Midi(_) => "midi",
-        Call::Block { .. } => "block",
-        Call::Night { .. } => "night",
-        Call::Reset => "reset",
-        Call::Meter => "meter",
-        Call::Cut(..) => "cut",
-        Call::Listed { call, .. } => match **call {
-            Call::Start(..) => "list_start",
-            Call::Block { .. } => "list_block",
-            Call::Night { .. } => "list_night",
-            _ => "list_reset",
-        },
-    }
+/// The next so many numbers.
+fn part<T, const SIZE: usize>(
+    from: &mut impl Read,
+    length: usize,
+    number: fn([u8; SIZE]) -> T,
+) -> std::io::Result<Vec<T>> {
+    let mut bytes = vec![0; length * SIZE];
+    from.read_exact(&mut bytes)?;
+    let numbers = bytes.chunks_exact(SIZE);
+    let numbers = numbers.map(|bytes| number(bytes.try_into().unwrap()));
+    Ok(numbers.collect())
 }
 
 fn main() {
@@ -181,16 +212,16 @@ fn main() {
         .expect("the other program starts");
     let mut to = other.stdin.take().expect("its standard input");
     let mut from = other.stdout.take().expect("its standard output");
-    let mut seen: BTreeMap<(&str, u32), u64> = BTreeMap::new();
+    let mut seen: BTreeMap<(String, u32), u64> = BTreeMap::new();
     let mut good = 0;
     for case in 0..cases {
         let (bytes, call) = source.case();
         let right = made(&bytes, &call);
-        to.write_all(&asked(&bytes, &call))
+        let ((plain, name), (more, before)) = (plain(&call), more(&call));
+        to.write_all(&Asked::of(&call).around(&bytes, plain + more))
             .expect("the call is sent");
         to.flush().expect("the call is sent");
-        let (left, touched) =
-            said(&mut from, right.out.len(), right.store.len()).expect("the call is answered");
+        let (left, touched) = said(&mut from, &right).expect("the call is answered");
         assert!(
             !touched,
             "case {case}: something else was touched by {call:?}"
@@ -201,13 +232,12 @@ fn main() {
                 Record::of_bytes(&bytes)
             );
         }
-        let answer = if call == Call::Meter {
-            right.state
-        } else {
-            right.number
+        let answer = match call.plain() {
+            Call::Meter => right.state,
+            _ => right.number,
         };
-        *seen.entry((name(&call), answer)).or_default() += 1;
-        good += u64::from(Record::of_bytes(&bytes).is_good());
+        *seen.entry((format!("{before}{name}"), answer)).or_default() += 1;
+        good += u64::from(over_a_good_record(&bytes, &call));
     }
     drop(to);
     assert!(other.wait().expect("the other program ends").success());

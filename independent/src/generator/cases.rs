@@ -1,12 +1,16 @@
 //! Calls over records, good, damaged and of any bytes, with blocks, numbers,
-//! lengths and buffers of every sort; the records at the edges come first.
+//! lengths and buffers of every sort; the records at the edges come first. One
+//! in five is over a record with voices.
 
-use super::edges::{bytes_of, calls_over, choices, edges, fresh_of_version_2, BEGINNING_OF_OLD};
+use super::choirs::{any_choir, choir_choices, reached_by};
+use super::edges::{calls_over, choices, edges, fresh_of_version_2, BEGINNING_OF_OLD};
 use super::lists::{any_listed, list_choices};
 use super::nights::{any_night, night_choices};
 use super::random::Random;
 use super::sound::{period_of_note, sing, Passage, Wave};
-use crate::record::{made, Call, Record, LAYOUT, SIZE};
+use super::voices::chosen;
+use crate::choir::Choir;
+use crate::record::{Call, Record, LAYOUT};
 use crate::rules::{LONGEST_BLOCK, TRACKED};
 use crate::settings::Settings;
 use crate::table::{CD, FILM};
@@ -17,29 +21,31 @@ pub const MOST: usize = 1_024;
 
 pub struct Cases {
     /// The calls over the records at the edges that are still to come.
-    first: std::vec::IntoIter<([u8; SIZE], Call)>,
+    first: std::vec::IntoIter<(Vec<u8>, Call)>,
     random: Random,
-    /// Records that calls from a start left.
-    reached: Vec<Record>,
+    /// Records with voices that calls from a start left. Their leads are records that the same calls without voices leave.
+    reached: Vec<Choir>,
 }
 
 impl Cases {
     pub fn seeded(seed: u64) -> Cases {
         let mut random = Random::seeded(seed);
-        let mut reached = vec![Record::default_start()];
+        let mut reached = vec![Choir::fresh(CD, Settings::DEFAULT, &[])];
         for _ in 0..40 {
             reach(&mut random, &mut reached);
         }
         let mut first = Vec::new();
         for (record, _) in edges() {
             let calls = calls_over(&record).into_iter();
-            first.extend(calls.map(|call| (bytes_of(record.bytes()), call)));
+            first.extend(calls.map(|call| (record.bytes(), call)));
         }
         let choices = choices().into_iter();
         let choices = choices.chain(night_choices()).chain(list_choices());
-        first.extend(choices.map(|(record, call)| (bytes_of(record.bytes()), call)));
-        let calls = calls_over(&reached[0]).into_iter();
-        first.extend(calls.map(|call| (fresh_of_version_2(), call)));
+        first.extend(choices.map(|(record, call)| (record.bytes(), call)));
+        let calls = calls_over(&Record::default_start()).into_iter();
+        first.extend(calls.map(|call| (fresh_of_version_2().to_vec(), call)));
+        let choices = choir_choices().into_iter();
+        first.extend(choices.map(|(choir, call)| (choir.bytes(), call)));
         Cases {
             first: first.into_iter(),
             random,
@@ -48,78 +54,99 @@ impl Cases {
     }
 
     /// A record's bytes, and a call over it.
-    pub fn case(&mut self) -> ([u8; SIZE], Call) {
+    pub fn case(&mut self) -> (Vec<u8>, Call) {
         if let Some(case) = self.first.next() {
             return case;
         }
-        let record = self.record();
         let random = &mut self.random;
-        let call = match random.whole(0, 99) {
-            0..=46 => block(random, &record),
-            47..=59 => any_night(random, &record),
-            60..=69 => Call::Midi(midi(random)),
-            70..=77 => Call::Change(change(random, &record)),
-            78..=84 => Call::Reset,
-            85..=93 => Call::Meter,
-            94..=96 => Call::Start(hertz(random), settings(random)),
-            97 => Call::StartDefault,
-            _ => Call::Cut(long(random), long(random) / 512),
+        let mut some = || &self.reached[random.whole(0, self.reached.len() - 1)];
+        let (reached, other) = (some(), some());
+        let (mut bytes, other, call) = if random.chance(200) {
+            let (choir, call) = any_choir(random, reached);
+            (choir.bytes(), other.bytes(), call)
+        } else {
+            let record = altered(random, reached.lead());
+            let call = any_plain_or_listed(random, &record);
+            (record.bytes(), other.lead().bytes(), call)
         };
-        let call = match call {
-            Call::Block { .. } | Call::Night { .. } | Call::Reset | Call::Start(..)
-                if random.chance(400) =>
-            {
-                any_listed(random, &record, call)
-            }
-            _ => call,
-        };
-        let mut bytes = bytes_of(record.bytes());
-        match random.whole(0, 19) {
-            0 | 1 => {
-                let bit = random.whole(0, 8 * SIZE - 1);
-                bytes[bit / 8] ^= 1 << (bit % 8);
-            }
-            2 => any_bytes(random, &mut bytes, SIZE),
-            3 => any_bytes(random, &mut bytes, 64),
-            4 => {
-                let from = random.whole(0, SIZE);
-                bytes[from..].fill(0);
-            }
-            5 => {
-                let other = random.whole(0, self.reached.len() - 1);
-                let from = random.whole(0, SIZE);
-                bytes[from..].copy_from_slice(&self.reached[other].bytes()[from..]);
-            }
-            // Without the layout's number.
-            6 => bytes.copy_within(8.., 0),
-            _ => {}
-        }
+        spoil(random, &mut bytes, &other);
         (bytes, call)
     }
+}
 
-    fn record(&mut self) -> Record {
-        let random = &mut self.random;
-        let mut record = self.reached[random.whole(0, self.reached.len() - 1)].clone();
-        if random.chance(150) && record.count >= 1_764 {
-            let near = TAKE_LIMIT - random.whole(0, 600);
-            record.count = (near - near % 40) as u64 + record.count % 40;
+/// Any of the plain calls.
+pub(super) fn any_call(random: &mut Random, record: &Record) -> Call {
+    match random.whole(0, 99) {
+        0..=46 => block(random, record),
+        47..=59 => any_night(random, record),
+        60..=69 => Call::Midi(midi(random)),
+        70..=77 => Call::Change(change(random, record)),
+        78..=84 => Call::Reset,
+        85..=93 => Call::Meter,
+        94..=96 => any_start(random),
+        97 => Call::StartDefault,
+        _ => Call::Cut(long(random), long(random) / 512),
+    }
+}
+
+pub(super) fn any_start(random: &mut Random) -> Call {
+    Call::Start(hertz(random), settings(random))
+}
+
+/// Two of five that may have a list have one.
+fn any_plain_or_listed(random: &mut Random, record: &Record) -> Call {
+    match any_call(random, record) {
+        call @ (Call::Block { .. } | Call::Night { .. } | Call::Reset | Call::Start(..))
+            if random.chance(400) =>
+        {
+            any_listed(random, record, call)
         }
-        if random.chance(100) {
-            noise(random, &mut record.store);
-            noise(random, &mut record.eighths);
-            record.count = record.count.max(1_800);
-            record = record.with_right_sums();
+        call => call,
+    }
+}
+
+/// Some bytes damaged, or those of another record in their place.
+fn spoil(random: &mut Random, bytes: &mut [u8], other: &[u8]) {
+    let size = bytes.len();
+    match random.whole(0, 19) {
+        0 | 1 => {
+            let bit = random.whole(0, 8 * size - 1);
+            bytes[bit / 8] ^= 1 << (bit % 8);
+        }
+        2 => any_bytes(random, bytes, size),
+        3 => any_bytes(random, bytes, 64),
+        4 => bytes[random.whole(0, size)..].fill(0),
+        5 => {
+            let from = random.whole(0, size);
+            bytes[from..].copy_from_slice(&other[from..]);
+        }
+        // Without the layout's number.
+        6 => bytes.copy_within(8.., 0),
+        _ => {}
+    }
+}
+
+/// The record, its take often near the limit, some of its samples noise, some of its numbers altered.
+pub(super) fn altered(random: &mut Random, mut record: Record) -> Record {
+    if random.chance(150) && record.count >= 1_764 {
+        let near = TAKE_LIMIT - random.whole(0, 600);
+        record.count = (near - near % 40) as u64 + record.count % 40;
+    }
+    if random.chance(100) {
+        noise(random, &mut record.store);
+        noise(random, &mut record.eighths);
+        record.count = record.count.max(1_800);
+        record = record.with_right_sums();
+    }
+    if random.chance(500) {
+        for _ in 0..random.whole(1, 3) {
+            alter(random, &mut record);
         }
         if random.chance(500) {
-            for _ in 0..random.whole(1, 3) {
-                alter(random, &mut record);
-            }
-            if random.chance(500) {
-                record = record.with_right_sums();
-            }
+            record = record.with_right_sums();
         }
-        record
     }
+    record
 }
 
 /// A short take: tones that are flat and sharp, each swinging, silence between them.
@@ -144,13 +171,15 @@ pub fn sung() -> Vec<i16> {
     take
 }
 
-/// Plays a take from a start and keeps records on the way.
-fn reach(random: &mut Random, reached: &mut Vec<Record>) {
+/// Plays a take from a start, with voices and a list, and keeps records on the way.
+fn reach(random: &mut Random, reached: &mut Vec<Choir>) {
     let mut allowed = settings(random);
     while !allowed.in_range() {
         allowed = settings(random);
     }
-    let mut record = Record::fresh(random.one_of(&[CD, FILM]), allowed);
+    let hertz = random.one_of(&[CD, FILM]);
+    let mut choir = Choir::fresh(hertz, allowed, &chosen(random));
+    let mut store = vec![0; random.one_of(&[0, 3, 6, 30, 300])];
     let (mut phase, mut number) = (0.0, 0);
     for _ in 0..random.whole(1, 8) {
         let period = random.one_of(&[17.3, 50.0, 100.2, 187.0, 330.5, 601.0, 870.0]);
@@ -171,21 +200,19 @@ fn reach(random: &mut Random, reached: &mut Vec<Record>) {
                 out: vec![0; samples.len()],
             };
             // A key of the table or beside it, and bytes that may release it.
-            let status = 144 + record.settings.channel as u8;
+            let status = 144 + allowed.channel as u8;
             let key = random.whole(28, 104) as u8;
             let struck = [vec![status, key, 100], midi(random)].concat();
             let played = random.one_of(&[0, 0, 3, struck.len()]);
             for call in [Call::Midi(struck[..played].to_vec()), block] {
-                let left = made(&bytes_of(record.bytes()), &call);
-                assert_eq!(left.number, 0, "a take that is played is taken");
-                record = Record::of_bytes(&bytes_of(left.record));
+                choir = reached_by(&choir, &mut store, call);
             }
             number = number.wrapping_add(1);
             if random.chance(150) {
-                reached.push(record.clone());
+                reached.push(choir.clone());
             }
         }
-        reached.push(record.clone());
+        reached.push(choir.clone());
     }
 }
 

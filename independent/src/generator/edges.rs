@@ -1,8 +1,8 @@
 //! Records with a number at the end of its range, and with one just past it,
 //! number by number as `docs/RANGES.md` lists them; and calls over each.
 
-use super::lists::lists_over;
-use super::nights::nights_over;
+use super::lists::{block, lists_over};
+use super::nights::{nights_over, square};
 use crate::record::{made, Call, Record, LAYOUT, SIZE};
 use crate::settings::Settings;
 use crate::table::{CD, FILM};
@@ -10,7 +10,7 @@ use crate::table::{CD, FILM};
 type Alter = fn(&mut Record);
 
 /// What a number of 32 bits would lose.
-const PAST_32_BITS: u64 = 1 << 32;
+pub(super) const PAST_32_BITS: u64 = 1 << 32;
 /// Versions 1 and 2 of the calls had no number of a layout: their records began with scale and eps.
 pub const BEGINNING_OF_OLD: u64 = 4_095 | 100 << 32;
 
@@ -279,19 +279,17 @@ fn alone(record: &mut Record, alter: Alter) {
 
 /// A record that is pitched, after 2,400 samples of a square wave, at decay 0: it is at its goal, and nothing was kept on the way.
 pub(super) fn pitched() -> Record {
-    let mut bytes = Record::fresh(CD, Settings::AT_ONCE).bytes();
-    let samples: Vec<i16> = (0..480).map(|at| 9_000 * (at / 48 % 2) - 4_500).collect();
-    for number in 0..5 {
-        let call = Call::Block {
-            number,
-            samples: samples.clone(),
-            out: vec![0; 480],
-        };
-        bytes = made(&bytes_of(bytes), &call).record;
-    }
-    let record = Record::of_bytes(&bytes_of(bytes));
+    let fresh = Record::fresh(CD, Settings::AT_ONCE).bytes();
+    let record = Record::of_bytes(&after_the_wave(fresh, |block| block));
     assert!(record.period > 0, "the wave is tracked");
     record
+}
+
+/// What these samples leave of a record, each block by the call that is made of it.
+pub(super) fn after_the_wave(fresh: Vec<u8>, call: impl Fn(Call) -> Call) -> Vec<u8> {
+    (0..5).fold(fresh, |bytes, number| {
+        made(&bytes, &call(block(number, &square(480)))).record
+    })
 }
 
 /// The fresh record of versions 1 and 2: settings, count, position, mode, period, note and rate, each of 32 bits, and then zeros. It
@@ -303,10 +301,6 @@ pub fn fresh_of_version_2() -> [u8; SIZE] {
         place.copy_from_slice(&number.to_le_bytes());
     }
     bytes
-}
-
-pub fn bytes_of(record: Vec<u8>) -> [u8; SIZE] {
-    record.try_into().expect("a record's bytes")
 }
 
 /// Every choice of values, one of each row.
@@ -372,11 +366,6 @@ pub fn edges() -> Vec<(Record, bool)> {
 /// Every call that reads the record: the next block and the last again, nights that begin with these, a block and a reset with a list,
 /// changes that are allowed and one that isn't, bytes of the keyboard, a reset, the meter.
 pub fn calls_over(record: &Record) -> Vec<Call> {
-    let block = |number, samples: &[i16]| Call::Block {
-        number,
-        samples: samples.to_vec(),
-        out: vec![77; samples.len() + 1],
-    };
     let [ones, again] = nights_over(record);
     let [with_list, anew] = lists_over(record);
     vec![

@@ -16,7 +16,7 @@ use crate::tuner::TAKE_LIMIT;
 pub const LONGEST_STORE: usize = ROW * MOST_ROWS + 20;
 
 /// Lengths of short stores: without room, and with room for few rows.
-const SHORT: [usize; 9] = [0, 1, 2, 3, 4, 5, 6, 9, 14];
+pub(super) const SHORT: [usize; 9] = [0, 1, 2, 3, 4, 5, 6, 9, 14];
 /// Lengths about that of the longest list.
 const LONG: [usize; 5] = [12_285, 12_287, 12_288, 12_290, 12_300];
 
@@ -52,7 +52,7 @@ pub const BAD: &[[u32; 4]] = &[
 ];
 
 /// A store of so many numbers, none of which is in a row.
-fn store(numbers: usize) -> Vec<u32> {
+pub(super) fn store(numbers: usize) -> Vec<u32> {
     (0..numbers as u32).map(|at| 0xABCD_0000 + at).collect()
 }
 
@@ -65,7 +65,7 @@ pub fn listed(listing: Listing, numbers: usize, call: Call) -> Call {
     }
 }
 
-fn block(number: u16, samples: &[i16]) -> Call {
+pub(super) fn block(number: u16, samples: &[i16]) -> Call {
     Call::Block {
         number,
         samples: samples.to_vec(),
@@ -174,6 +174,12 @@ fn glide() -> Vec<(Record, Call)> {
 /// The call with some listing and some store.
 pub fn any_listed(random: &mut Random, record: &Record, call: Call) -> Call {
     let listing = any_listing(random, record);
+    let numbers = any_length(random, &listing);
+    listed(listing, numbers, call)
+}
+
+/// A store's length, most often about that of the list.
+pub(super) fn any_length(random: &mut Random, listing: &Listing) -> usize {
     let rows = listing.rows.min(NO_PLACE) as usize;
     let numbers = match random.whole(0, 9) {
         0..=2 => random.one_of(&SHORT),
@@ -182,11 +188,11 @@ pub fn any_listed(random: &mut Random, record: &Record, call: Call) -> Call {
         8 => random.whole(0, 40),
         _ => random.one_of(&[&SHORT[..], &LONG].concat()),
     };
-    listed(listing, numbers.min(LONGEST_STORE), call)
+    numbers.min(LONGEST_STORE)
 }
 
 /// A listing, most often one that may stand beside the record.
-fn any_listing(random: &mut Random, record: &Record) -> Listing {
+pub(super) fn any_listing(random: &mut Random, record: &Record) -> Listing {
     let count = record.count.min(TAKE_LIMIT as u64) as usize;
     let most = random.one_of(&[3, 3, 3, 12, 12, 40, MOST_ROWS]);
     let rows = random.whole(0, most.min(count));

@@ -6,6 +6,7 @@
 
 pub mod cases;
 mod choices;
+pub mod choirs;
 pub mod cuts;
 pub mod edges;
 pub mod files;

@@ -16,18 +16,18 @@ pub fn script_with_voices(kind: &Kind, seed: u64, samples: usize) -> Vec<u8> {
     for line in script(kind, seed, samples).split_inclusive(|&byte| byte == b'\n') {
         if let Some(Record::Start(..)) = Record::on(line.strip_suffix(b"\n").unwrap_or(line)) {
             if random.chance(250) {
-                voiced.extend(refused(&mut random));
+                voiced.extend(line_of(&refused(&mut random)));
                 voiced.extend(line.strip_suffix(b"\n").unwrap_or(line));
                 voiced.push(b'\n');
             }
-            voiced.extend(chosen(&mut random));
+            voiced.extend(line_of(&chosen(&mut random)));
         }
         voiced.extend(line);
     }
     voiced
 }
 
-fn line(intervals: &[i32]) -> Vec<u8> {
+fn line_of(intervals: &[i32]) -> Vec<u8> {
     let fields = intervals.iter().map(|interval| format!("\t{interval}"));
     format!("voices{}\n", fields.collect::<String>()).into_bytes()
 }
@@ -52,23 +52,23 @@ fn intervals(random: &mut Random, voices: usize) -> Vec<i32> {
     intervals
 }
 
-fn chosen(random: &mut Random) -> Vec<u8> {
+pub(super) fn chosen(random: &mut Random) -> Vec<i32> {
     let voices = match random.whole(0, 19) {
         0 => 0,
         1..=3 => 1,
         4..=6 => 2,
         _ => MOST_VOICES,
     };
-    line(&intervals(random, voices))
+    intervals(random, voices)
 }
 
 /// An interval out of its range, a voice too many, or both.
-fn refused(random: &mut Random) -> Vec<u8> {
+pub(super) fn refused(random: &mut Random) -> Vec<i32> {
     let voices = random.whole(1, MOST_VOICES + 2);
     let mut intervals = intervals(random, voices);
     if voices <= MOST_VOICES || random.chance(500) {
         let place = random.whole(0, voices - 1);
         intervals[place] = random.one_of(&[-32_768, -13, 13, 24, 244, 32_767]);
     }
-    line(&intervals)
+    intervals
 }
