@@ -18,14 +18,18 @@ use Rattle.tuner.specs.Tuners.{forceOf, Changed, Keyed, Metered}
 use Rattle.lists.specs.declared.Listing.{Listing}
 use Rattle.listing.specs.declared.ListAnswer.{ListAnswer}
 use Rattle.listing.specs.Listings.{listTuner}
+use Rattle.nights.specs.declared.NightAnswer.{NightAnswer}
+use Rattle.listnights.specs.declared.ListNightAnswer.{ListNightAnswer}
 use Rattle.voices.specs.Voices.{IntervalIn, Voiced, voicedBy, voiceAfter, voiceOuts, voiceAccount, Since, sinceAfter}
 use Rattle.singers.specs.declared.Voice.{Voice}
 use Rattle.singers.specs.declared.Voices.{Voices}
 use Rattle.choir.specs.declared.Choir.{Choir}
 use Rattle.singers.specs.Singers.{Outs, chosenVoices, levelVoices}
 use Rattle.choir.specs.Choirs.{ChoirGood, standsAt, ChoirTook, ChoirStarted, ChoirReset}
+use Rattle.choirnights.specs.ChoirNights.{ChoirNighted, record-out-of-range, size-out-of-range, output-short, all-sung}
 use Rattle.account.specs.Account.{Call, start, change, block, midi, reset, meter, Received, courseOf, received, samplesOf, NeverNine}
 use Rattle.account.specs.Cutting.{SameTake, Alike}
+use Rattle.sung.specs.NightCalls.{nightCalls}
 use Rattle.sung.specs.Sung.{SungIs}
 
 -- ---- a voice beside the history of a take
@@ -57,8 +61,15 @@ sinceLevel interval r = sinceAfter (record { level = inputAt 0; gave = [] }) (vo
 
 -- ---- the calls
 
+-- the single calls of a night, the newest first: its lead's, and none where it is refused before its first block
+unfoldable pub choirNightCalls : {c c′ : Choir} {k size : ℕ} {xs ys ys′ : List ℤ} {o o′ : Outs} {store store′ : List ℕ} {a : ListNightAnswer} → ChoirNighted c k size xs ys o store c′ a ys′ o′ store′ → List Call
+choirNightCalls (record-out-of-range n u) = []
+choirNightCalls (size-out-of-range g s u) = []
+choirNightCalls (output-short g s m r u) = []
+choirNightCalls (all-sung g s m r p) = nightCalls (p .lead)
+
 -- any calls one after the other over a choir, the newest first, from a taken start on, with the store lent each time as it was left, but where a list begins: `began` is the store as it was there.
--- The calls are kept as the tuner's own; a start that is refused leaves the default tuner without voices, as a start with the defaults; a block whose output, the lead's or a voice's, is short, 4, and a reset that is refused for its store, 17, are none of them
+-- The calls are kept as the tuner's own, a night as its single calls; a start that is refused leaves the default tuner without voices, as a start with the defaults; a block whose output, the lead's or a voice's, is short, 4, and a reset that is refused for its store, 17, are none of them
 pub data ChoirSeries : List Call → Choir → (began store : List ℕ) → Type 0 where
   first-start : {hertz : ℕ} {s : Settings} {zs : List ℤ} {store : List ℕ} {c : Choir} {a : ListAnswer} → ChoirStarted hertz s zs store c a → a .answer .number ≡ 0 → ChoirSeries (start hertz s (a .answer) ∷ []) c store store
   then-start : {cs : List Call} {c c′ : Choir} {began store₀ store : List ℕ} {hertz : ℕ} {s : Settings} {zs : List ℤ} {a : ListAnswer}
@@ -71,6 +82,8 @@ pub data ChoirSeries : List Call → Choir → (began store : List ℕ) → Type
       → ChoirSeries cs c began store → ChoirTook c k xs ys o store c′ a ys′ o′ store′ → (a .answer .number ≡ 4 → ⊥) → ChoirSeries (block k xs ys (a .answer) ys′ ∷ cs) c′ began store′
   short-block : {cs : List Call} {c c′ : Choir} {began store store′ : List ℕ} {k : ℕ} {xs ys ys′ : List ℤ} {o o′ : Outs} {a : ListAnswer}
       → ChoirSeries cs c began store → ChoirTook c k xs ys o store c′ a ys′ o′ store′ → a .answer .number ≡ 4 → ChoirSeries cs c′ began store′
+  then-night : {cs : List Call} {c c′ : Choir} {began store store′ : List ℕ} {k size : ℕ} {xs ys ys′ : List ℤ} {o o′ : Outs} {a : ListNightAnswer}
+      → ChoirSeries cs c began store → (p : ChoirNighted c k size xs ys o store c′ a ys′ o′ store′) → ChoirSeries (choirNightCalls p ++ cs) c′ began store′
   then-change : {cs : List Call} {t t′ : Tuner} {l : Listing} {vs : Voices} {began store : List ℕ} {s : Settings} {a : Answer}
       → ChoirSeries cs (record { tuner = t; list = l; voices = vs }) began store → Changed t s t′ a → ChoirSeries (change s a ∷ cs) (record { tuner = t′; list = l; voices = vs }) began store
   then-midi : {cs : List Call} {t t′ : Tuner} {l : Listing} {vs : Voices} {began store bytes : List ℕ} {a : Answer}
@@ -108,6 +121,7 @@ pub data Chosen (vs : Voices) : Voice → Type 0 where
 -- no call on the choir is answered 9, nor is one on its tuner
 pub record ChoirNeverNine (c : Choir) : Type 0 where
   pub block : {k : ℕ} {xs ys ys′ : List ℤ} {o o′ : Outs} {store store′ : List ℕ} {c′ : Choir} {a : ListAnswer} → ChoirTook c k xs ys o store c′ a ys′ o′ store′ → a .answer .number ≡ 9 → ⊥
+  pub night : {k size : ℕ} {xs ys ys′ : List ℤ} {o o′ : Outs} {store store′ : List ℕ} {c′ : Choir} {a : ListNightAnswer} → ChoirNighted c k size xs ys o store c′ a ys′ o′ store′ → a .night .number ≡ 9 → ⊥
   pub reset : {store : List ℕ} {c′ : Choir} {a : ListAnswer} → ChoirReset c store c′ a → a .answer .number ≡ 9 → ⊥
   pub plain : NeverNine (c .tuner)
 
@@ -133,6 +147,7 @@ choseBy (then-reset h p z) = choseBy h
 choseBy (refused-reset h p z) = choseBy h
 choseBy (then-block h p n) = choseBy h
 choseBy (short-block h p z) = choseBy h
+choseBy (then-night h p) = choseBy h
 choseBy (then-change h p) = choseBy h
 choseBy (then-midi h p) = choseBy h
 choseBy (then-meter h p) = choseBy h
@@ -155,7 +170,11 @@ WrittenTheorem =
     (cs : List Call) (c c′ : Choir) (began store store′ : List ℕ) (k : ℕ) (xs ys ys′ : List ℤ) (o o′ : Outs) (a : ListAnswer)
     → ChoirSeries cs c began store → ChoirTook c k xs ys o store c′ a ys′ o′ store′ → a .answer .number ≤ 1 → WroteAll (length xs) (received (block k xs ys (a .answer) ys′ ∷ cs)) (c′ .voices) o o′
 
--- what the blocks taken since the last start or reset wrote of one of the outputs, one after the other
+-- what a night wrote of an output for the samples that it took: behind those of a first block that it gave again
+abbrev pub newOf : NightAnswer → List ℤ → List ℤ
+newOf a zs = take (a .written) (drop (a .again .written) zs)
+
+-- what the blocks taken since the last start or reset wrote of one of the outputs, one after the other, those of nights among them
 unfoldable pub wroteBy : (Outs → List ℤ) → {cs : List Call} {c : Choir} {began store : List ℕ} → ChoirSeries cs c began store → List ℤ
 wroteBy part (first-start p z) = []
 wroteBy part (then-start h p z) = []
@@ -164,6 +183,7 @@ wroteBy part (then-reset h p z) = []
 wroteBy part (refused-reset h p z) = wroteBy part h
 wroteBy part (then-block {o′ = o′} {a} h p n) = cond (eqb (a .answer .number) 0) (wroteBy part h ++ take (a .answer .written) (part o′)) (wroteBy part h)
 wroteBy part (short-block h p z) = wroteBy part h
+wroteBy part (then-night {o′ = o′} {a} h p) = wroteBy part h ++ newOf (a .night) (part o′)
 wroteBy part (then-change h p) = wroteBy part h
 wroteBy part (then-midi h p) = wroteBy part h
 wroteBy part (then-meter h p) = wroteBy part h

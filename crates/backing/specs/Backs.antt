@@ -1,33 +1,35 @@
 -- The proofs of the account of backing voices: after any calls the tuner is that of the same plain calls, list and voices are functions of what happened in the take (`Follows`), and the rest is read off that.
 use mathlib.Core.Path.{_≡_, refl, sym, ap, _∙_, subst, transport}
 use mathlib.Core.Bool.{Bool, cond}
-use mathlib.Core.List.{List, [], _∷_, _++_, map, map-append}
+use mathlib.Core.List.{List, [], _∷_, _++_, map}
 use Prim.Native.Nat.{ℕ, suc, _+_, _-_, _≤_, _<_}
 use native.Mathlib.Nat.{add-zero, zero-add}
 use native.Mathlib.Omega.{arith}
 use borrow.Author.Tests.{eq-eqb, ne-eqb, eqb-true, eqb-false}
 use lib.Dec.{eqb}
 use lib.IntN.{ℤ, pos, natAbs, _-ℤ_}
-use lib.ListN.{length, take, drop, replicate, length-replicate, length-drop}
+use lib.ListN.{length, take, drop, replicate, length-replicate, length-append, length-drop}
 use lib.Seq.{take-at}
 use Rattle.whole.specs.Tests.{by, cond-case, cond-yes, cond-no}
 use Rattle.rules.specs.declared.Settings.{Settings}
-use Rattle.rules.specs.Rules.{noNote, Given, startNumber, defaults, cdRate, inputAt, longestBlock}
+use Rattle.rules.specs.Rules.{noNote, startNumber, defaults, cdRate, inputAt, longestBlock}
 use Rattle.rules.specs.Ranges.{default-start}
 use Rattle.rules.specs.Position.{behind-one}
-use Rattle.history.specs.History.{sample, new-settings, byte, freshCourse, givenBy}
-use Rattle.history.specs.Courses.{givenBy-append}
+use Rattle.history.specs.History.{new-settings, byte, freshCourse, givenBy}
 use Rattle.lists.specs.Lists.{Sheet, sungNote, notesSung, lastNote, sheet, emptyListing, ListingIn, afterNote, afterNotes}
 use Rattle.lists.specs.Folds.{empty-in, afterNotes-in}
 use Rattle.lists.specs.Afresh.{Listed, listed-empty, listed-more, is-list}
 use Rattle.answers.specs.declared.Answer.{Answer}
 use Rattle.answers.specs.Numbering.{plain}
 use Rattle.tuner.specs.declared.Tuner.{Tuner}
-use Rattle.tuner.specs.Tuners.{Good, freshTuner, defaultTuner, Fits, Verdict, record-out-of-range, block-empty, block-over-512, output-short, number-neither, other-samples, given-again, take-full, taken, afterBlock, tunerBy, outBy, Took, withSettings, Changed, withBytes, Keyed, Started, Reset, record-good}
+use Rattle.tuner.specs.Tuners.{Good, freshTuner, defaultTuner, Fits, Verdict, record-out-of-range, block-empty, block-over-512, output-short, number-neither, other-samples, given-again, take-full, taken, heardAfter, afterBlock, tunerBy, outBy, Took, withSettings, Changed, withBytes, Keyed, Started, Reset, record-good}
 use Rattle.tuner.specs.Verdicts.{tuner-taken, tuner-kept, took-one, changed-one, keyed-one, reset-one}
 use Rattle.staying.specs.Staying.{Lengths, took-number}
 use Rattle.listing.specs.declared.ListAnswer.{ListAnswer}
 use Rattle.listing.specs.Listings.{ListedBy, goes-on, as-it-was, blockNotes}
+use Rattle.listnights.specs.declared.ListNightAnswer.{ListNightAnswer}
+use Rattle.listnights.specs.ListNights.{tookSamples}
+use Rattle.voices.specs.Voices.{Voiced, voiceOuts}
 use Rattle.singers.specs.declared.Voice.{Voice}
 use Rattle.choir.specs.declared.Choir.{Choir}
 use Rattle.singers.specs.Singers.{Outs, leastRoom, writtenBy, allInRange, chosenVoices}
@@ -36,14 +38,17 @@ use Rattle.singers.specs.Voicing.{all-fit, written-chosen, number-says}
 use Rattle.choir.specs.Parts.{voices-taken, voices-kept, outs-given}
 use Rattle.choir.specs.Beginnings.{own-zero}
 use Rattle.choir.specs.Goods.{intervals-in}
-use Rattle.account.specs.Account.{Call, start, change, block, midi, reset, Leaves, by-start, by-change, by-block, by-midi, by-reset, by-meter, Series, fresh-start, and-then, Received, begun, courseOf, withEvents, withBlock, ifTaken, plus, received, givenOf}
+use Rattle.choirnights.specs.ChoirNights.{Untouched, ChoirNighted, record-out-of-range as night-out-of-range, size-out-of-range, output-short as night-short, all-sung}
+use Rattle.account.specs.Account.{Call, start, change, block, midi, reset, Leaves, by-start, by-change, by-block, by-midi, by-reset, by-meter, Series, fresh-start, and-then, Received, begun, courseOf, withEvents, withBlock, ifTaken, plus, received}
 use Rattle.account.specs.Holds.{holds, never-nine, series-lengths, cutting-holds}
+use Rattle.account.specs.Nightly.{night-holds}
+use Rattle.sung.specs.NightCalls.{nightCalls}
+use Rattle.sung.specs.NightNotes.{More, block-receives, night-receives, night-series, night-left}
 use Rattle.sung.specs.Sung.{notesOf}
-use Rattle.sung.specs.Follows.{last-is, count-is, notes-are, change-notes, midi-notes, meter-notes, untaken-notes, start-notes, reset-notes}
-use Rattle.backing.specs.Backing.{ChoirSeries, first-start, then-start, refused-start, then-reset, refused-reset, then-block, short-block, then-change, then-midi, then-meter, voiceCourse, voicedIn, voiceOf, voicedOf, newestOut, keptOut, Chosen, the-first, the-second, the-third, BackingTheorem, WrittenTheorem, FurtherTheorem, CutTheorem}
-use Rattle.voices.specs.Voices.{voiceOuts}
+use Rattle.sung.specs.Follows.{last-is, count-is, notes-more, change-notes, midi-notes, meter-notes, untaken-notes, start-notes, reset-notes}
+use Rattle.backing.specs.Backing.{choirNightCalls, ChoirSeries, first-start, then-start, refused-start, then-reset, refused-reset, then-block, short-block, then-night, then-change, then-midi, then-meter, voiceCourse, voicedIn, voiceOf, voicedOf, newestOut, keptOut, Chosen, the-first, the-second, the-third, BackingTheorem, WrittenTheorem, FurtherTheorem, CutTheorem}
 use Rattle.backing.specs.Alongside.{voicedIn-length, outs-length}
-use Rattle.backing.specs.Steps.{VoiceKeeps, VoicesKeep, keep-right, chosen-keep, level-keep, SameBeside, beside-same, change-beside, bytes-beside, keep-on, voice-holds, sung-keep}
+use Rattle.backing.specs.Steps.{VoiceKeeps, VoicesKeep, keep-right, chosen-keep, level-keep, SameBeside, beside-same, change-beside, bytes-beside, keep-on, voice-holds, sung-keep, night-keep}
 
 -- ---- a block over a choir, as the tuner's own
 
@@ -173,36 +178,40 @@ follow-midi {cs} {c} {bytes = bytes} {a = a} f p =
     no-more f (and-then (f .series) (by-midi p)) (midi-notes cs bytes a) (either-beside a (received cs) (withEvents (received cs) (map byte bytes)) (bytes-beside (received cs) bytes))
     (count-left (c .tuner) (withBytes (c .tuner) bytes) (eqb (p .number) 0) (p .tuner) refl) (last-left (c .tuner) (withBytes (c .tuner) bytes) (eqb (p .number) 0) (p .tuner) refl)
 
+-- samples that are taken: their notes come behind those before them
+more-follows : {cs cs′ : List Call} {c c′ : Choir} {began store store′ : List ℕ} (xs : List ℤ) → Follows cs c began store → Series cs′ (c′ .tuner) → More (received cs) (received cs′) xs
+    → sheet (c′ .list) store′ ≡ afterNotes (sungNote (c .tuner .pitch .tone)) (c .tuner .heard .count) (sheet (c .list) store) (blockNotes (c .tuner) xs) → VoicesKeep (received cs′) (c′ .tuner) (c′ .voices) → Follows cs′ c′ began store′
+more-follows {cs} {c = c} {began = began} xs f h m e k =
+    let new = blockNotes (c .tuner) xs in
+    record {
+      series = h;
+      list =
+          e
+          ∙ (λ i. afterNotes (last-is (f .series) i) (count-is (f .series) i) (f .list i) new)
+          ∙ ap (λ (n : ℕ). afterNotes (lastNote noNote (notesOf cs)) n (listOf began cs) new) (sym (zero-add (length (notesOf cs))))
+          ∙ sym (afterNotes-append noNote 0 (sheet emptyListing began) (notesOf cs) new)
+          ∙ sym (ap (afterNotes noNote 0 (sheet emptyListing began)) (notes-more (f .series) xs m));
+      voices = k;
+    }
+
 -- ---- a block
 module _ {cs : List Call} {c c′ : Choir} {began store store′ : List ℕ} {k : ℕ} {xs ys ys′ : List ℤ} {o o′ : Outs} {a : ListAnswer} (f : Follows cs c began store) (d : Judged c k xs ys o store c′ a ys′ o′ store′) where
-  pub after-taken : a .answer .number ≡ 0 → received (block k xs ys (a .answer) ys′ ∷ cs) ≡ withBlock (received cs) xs (a .answer) ys′
-  unfolding received plus
-  after-taken z = cond-yes (withBlock (received cs) xs (a .answer) ys′) (received cs) (eq-eqb (a .answer .number) 0 z)
+  pub taken-more : a .answer .number ≡ 0 → More (received cs) (received (block k xs ys (a .answer) ys′ ∷ cs)) xs
+  taken-more z = subst (More (received cs) (received (block k xs ys (a .answer) ys′ ∷ cs))) (cond-yes xs [] (eq-eqb (a .answer .number) 0 z)) (block-receives cs k xs ys ys′ (a .answer))
 
   pub after-untaken : 0 < a .answer .number → received (block k xs ys (a .answer) ys′ ∷ cs) ≡ received cs
   unfolding received plus
   after-untaken h = cond-no (withBlock (received cs) xs (a .answer) ys′) (received cs) (ne-eqb (a .answer .number) 0 (λ z. omega arith))
 
   taken-follows : a .answer .number ≡ 0 → Series (block k xs ys (a .answer) ys′ ∷ cs) (c′ .tuner) → Follows (block k xs ys (a .answer) ys′ ∷ cs) c′ began store′
+  unfolding afterBlock heardAfter
   taken-follows z h =
       let zero-is : d .number ≡ 0 = sym (number-is d) ∙ z in
       let tuner = d .tuner ∙ tuner-taken (c .tuner) k xs zero-is in
       let voices = d .voices ∙ voices-taken (d .number) (c .tuner) xs (c .voices) zero-is in
-      let notes : notesOf (block k xs ys (a .answer) ys′ ∷ cs) ≡ notesOf cs ++ blockNotes (c .tuner) xs =
-      ap (λ (r : Received). notesSung (givenOf r)) (after-taken z)
-      ∙ ap notesSung (givenBy-append (freshCourse (received cs .hertz) (received cs .settings)) (received cs .events) (map sample xs))
-      ∙ map-append (λ (g : Given). sungNote (g .tone)) (givenOf (received cs)) (givenBy (courseOf (received cs)) (map sample xs))
-      ∙ ap (λ (l : List ℕ). notesOf cs ++ l) (notes-are (f .series) xs) in
-      record {
-        series = h;
-        list =
-            went-on d z
-            ∙ (λ i. afterNotes (last-is (f .series) i) (count-is (f .series) i) (f .list i) (blockNotes (c .tuner) xs))
-            ∙ ap (λ (m : ℕ). afterNotes (lastNote noNote (notesOf cs)) m (listOf began cs) (blockNotes (c .tuner) xs)) (sym (zero-add (length (notesOf cs))))
-            ∙ sym (afterNotes-append noNote 0 (sheet emptyListing began) (notesOf cs) (blockNotes (c .tuner) xs))
-            ∙ sym (ap (afterNotes noNote 0 (sheet emptyListing began)) notes);
-        voices = transport (λ i. VoicesKeep (sym (after-taken z) i) (sym tuner i) (sym voices i)) (sung-keep (f .series) (f .voices) k xs (a .answer) ys′);
-      }
+      more-follows xs f h (taken-more z) (went-on d z)
+      (subst (VoicesKeep (received (block k xs ys (a .answer) ys′ ∷ cs)) (c′ .tuner)) (sym voices)
+      (sung-keep (f .series) (f .voices) (taken-more z) (ap (λ (t : Tuner). t .heard .count) tuner) (ap (λ (t : Tuner). t .last .length) tuner)))
 
   untaken-follows : 0 < a .answer .number → Series (block k xs ys (a .answer) ys′ ∷ cs) (c′ .tuner) → Follows (block k xs ys (a .answer) ys′ ∷ cs) c′ began store′
   untaken-follows h s =
@@ -223,6 +232,21 @@ follow-short : {cs : List Call} {c c′ : Choir} {began store store′ : List �
     → Follows cs c began store → ChoirTook c k xs ys o store c′ a ys′ o′ store′ → a .answer .number ≡ 4 → Follows cs c′ began store′
 follow-short f (choir-out-of-range n e b w p q) z = absurd (n (good f))
 follow-short {cs} {began = began} f (by-number g d) z = let same = unmoved d (omega arith) in transport (λ i. Follows cs (sym (same .0) i) began (sym (same .1) i)) f
+
+-- ---- a night
+untouched-follows : {cs : List Call} {c c′ : Choir} {began store store′ : List ℕ} {v : ℕ} {ys ys′ : List ℤ} {o o′ : Outs} {a : ListNightAnswer} → Follows cs c began store → Untouched v c ys o store c′ a ys′ o′ store′ → Follows cs c′ began store′
+untouched-follows {cs} {began = began} f u = transport (λ i. Follows cs (sym (u .choir) i) began (sym (u .lent) i)) f
+
+follow-night : {cs : List Call} {c c′ : Choir} {began store store′ : List ℕ} {k size : ℕ} {xs ys ys′ : List ℤ} {o o′ : Outs} {a : ListNightAnswer}
+    → Follows cs c began store → (p : ChoirNighted c k size xs ys o store c′ a ys′ o′ store′) → Follows (choirNightCalls p ++ cs) c′ began store′
+unfolding choirNightCalls
+follow-night f (night-out-of-range n u) = absurd (n (good f))
+follow-night f (size-out-of-range g s u) = untouched-follows f u
+follow-night f (night-short g s m r u) = untouched-follows f u
+follow-night {cs} {c} {c′} {size = size} {xs} {a = a} f (all-sung g s m r p) =
+    let more = night-receives cs (p .lead) in
+    more-follows (tookSamples (a .night) size xs) f (night-series (f .series) (p .lead)) more (p .list)
+    (subst (VoicesKeep (received (nightCalls (p .lead) ++ cs)) (c′ .tuner)) (sym (p .voices)) (night-keep (f .series) (f .voices) more (night-left (p .lead))))
 
 -- ---- where a take begins
 
@@ -285,6 +309,7 @@ follows (then-reset h p z) = follow-reset (follows h) p z
 follows (refused-reset {cs} {began = began} {store₀} h p z) = subst (λ (c : Choir). Follows cs c began store₀) (sym (reset-left p z)) (follows h)
 follows (then-block h p n) = follow-block (follows h) p n
 follows (short-block h p z) = follow-short (follows h) p z
+follows (then-night h p) = follow-night (follows h) p
 follows (then-change h p) = follow-change (follows h) p
 follows (then-midi h p) = follow-midi (follows h) p
 follows (then-meter {cs} {m = m} h p) = let f = follows h in no-more f (and-then (f .series) (by-meter p)) (meter-notes cs m) (beside-same {r = received cs} refl) refl refl
@@ -293,6 +318,12 @@ follows (then-meter {cs} {m = m} h p) = let f = follows h in no-more f (and-then
 block-nine : {cs : List Call} {c c′ : Choir} {began store store′ rows : List ℕ} {k : ℕ} {xs ys ys′ : List ℤ} {o o′ : Outs} {a : ListAnswer} → Follows cs c began rows → ChoirTook c k xs ys o store c′ a ys′ o′ store′ → a .answer .number ≡ 9 → ⊥
 block-nine f (choir-out-of-range n e b w p q) z = n (good f)
 block-nine f (by-number g d) z = never-nine (f .series) .block (least-took d) z
+
+night-nine : {cs : List Call} {c c′ : Choir} {began store store′ rows : List ℕ} {k size : ℕ} {xs ys ys′ : List ℤ} {o o′ : Outs} {a : ListNightAnswer} → Follows cs c began rows → ChoirNighted c k size xs ys o store c′ a ys′ o′ store′ → a .night .number ≡ 9 → ⊥
+night-nine f (night-out-of-range n u) z = n (good f)
+night-nine f (size-out-of-range g s u) z = omega (arith, ap (λ (b : ListNightAnswer). b .night .number) (u .answer))
+night-nine f (night-short g s m r u) z = omega (arith, ap (λ (b : ListNightAnswer). b .night .number) (u .answer))
+night-nine {cs} {c} {c′} {k = k} {size} {xs} {ys} {ys′} {a = a} f (all-sung g s m r p) z = night-holds cs (c .tuner) (c′ .tuner) k size xs ys ys′ (a .night) (f .series) (p .lead) .neverNine z
 
 reset-nine : {cs : List Call} {c c′ : Choir} {began store rows : List ℕ} {a : ListAnswer} → Follows cs c began rows → ChoirReset c store c′ a → a .answer .number ≡ 9 → ⊥
 reset-nine f (reset-out-of-range n e b) z = n (good f)
@@ -306,7 +337,7 @@ backing-holds cs c began store h =
     let listed = subst (Listed began (notesOf cs)) (sym (f .list)) (listed-more began [] (notesOf cs) (sheet emptyListing began) (listed-empty began)) in
     record {
       good = good f;
-      neverNine = record { block = block-nine f; reset = reset-nine f; plain = never-nine (f .series) };
+      neverNine = record { block = block-nine f; night = night-nine f; reset = reset-nine f; plain = never-nine (f .series) };
       lead = record { series = f .series; list = is-list listed };
       voices = λ v q. voice-holds (f .series) (f .voices .each v q);
     }
@@ -328,14 +359,26 @@ last-is-this {t} {k = k} {xs} g l (given-again f a b) h e =
 last-is-this g l (take-full f a b c) h e = absurd (omega arith)
 last-is-this {t} {k = k} {xs} g l (taken f a b c) h e = ap (λ (u : Tuner). u .last .length) (e ∙ tuner-taken {v = 0} t k xs refl)
 
--- so the first places of a voice's kept output are what it gave for its samples
-kept-first : {cs : List Call} {t : Tuner} (n : ℕ) {v : Voice} → Series cs t → t .last .length ≡ n → VoiceKeeps (received cs) t v → take n (v .out) ≡ newestOut n (voicedOf (v .interval) (received cs))
-kept-first {cs} {t} n {v} h e k =
-    let vs = voicedOf (v .interval) (received cs) in
-    let account = holds cs t h in
-    let many : length (newestOut n vs) ≡ n =
-    omega (arith, length-drop (length vs - n) (voiceOuts vs), outs-length vs, voicedIn-length (v .interval) (freshCourse (received cs .hertz) (received cs .settings)) (inputAt 0) (received cs .events), account .count, account .good .last .within, e) in
-    ap (take n) (k .out ∙ ap (λ (m : ℕ). keptOut m vs) e) ∙ take-at (newestOut n vs) (drop n (replicate longestBlock (pos 0))) n many
+-- what is kept of a voice's output is as long as a block may be, and its first places are what it gave for the samples of the last block
+module _ {cs : List Call} {t : Tuner} (n : ℕ) {v : Voice} (h : Series cs t) (e : t .last .length ≡ n) (k : VoiceKeeps (received cs) t v) where
+  abbrev gave : List Voiced
+  gave = voicedOf (v .interval) (received cs)
+
+  newest-many : length (newestOut n gave) ≡ n
+  newest-many =
+      let account = holds cs t h in
+      omega (arith, length-drop (length gave - n) (voiceOuts gave), outs-length gave, voicedIn-length (v .interval) (freshCourse (received cs .hertz) (received cs .settings)) (inputAt 0) (received cs .events), account .count, account .good .last .within, e)
+
+  out-is : v .out ≡ keptOut n gave
+  out-is = k .out ∙ ap (λ (m : ℕ). keptOut m gave) e
+
+  pub out-long : length (v .out) ≡ longestBlock
+  out-long =
+      let zeros = replicate longestBlock (pos 0) in
+      omega (arith, ap length out-is, length-append (newestOut n gave) (drop n zeros), newest-many, length-drop n zeros, length-replicate longestBlock (pos 0), holds cs t h .good .last .length, e)
+
+  kept-first : take n (v .out) ≡ newestOut n gave
+  kept-first = ap (take n) out-is ∙ take-at (newestOut n gave) (drop n (replicate longestBlock (pos 0))) n newest-many
 
 pub written-holds : WrittenTheorem
 written-holds cs c c′ began store store′ k xs ys ys′ o o′ a h (choir-out-of-range n e b w p q) l = absurd (n (good (follows h)))

@@ -2,5 +2,5 @@ pub mod Backing
 pub mod Alongside
 pub mod Steps
 pub mod Backs
-pub mod Totals
 pub mod Stays
+pub mod Totals

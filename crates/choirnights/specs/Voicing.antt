@@ -31,7 +31,7 @@ use Rattle.choirnights.specs.Alike.{voice-alike, outs-append, outs-long}
 
 -- ---- by cases
 module _ (j chosen : ℕ) (t : Tuner) (last : ℕ) (taken : List ℤ) (v : Voice) where
-  voice-sung : j < chosen → 0 < length taken → nightVoice j chosen t last taken v ≡ voiceAfterNight t last taken v
+  pub voice-sung : j < chosen → 0 < length taken → nightVoice j chosen t last taken v ≡ voiceAfterNight t last taken v
   unfolding nightVoice
   voice-sung h l = cond-yes (voiceAfterNight t last taken v) v (λ i. lt-ltb j chosen h i && lt-ltb 0 (length taken) l i)
 
@@ -39,12 +39,12 @@ module _ (j chosen : ℕ) (t : Tuner) (last : ℕ) (taken : List ℤ) (v : Voice
   unfolding nightVoice
   voice-beyond h = cond-no (voiceAfterNight t last taken v) v (λ i. le-ltb j chosen h i && ltb 0 (length taken))
 
-  voice-none : length taken ≡ 0 → nightVoice j chosen t last taken v ≡ v
+  pub voice-none : length taken ≡ 0 → nightVoice j chosen t last taken v ≡ v
   unfolding nightVoice
   voice-none e = cond-no (voiceAfterNight t last taken v) v (and-no (ltb j chosen) (le-ltb 0 (length taken) (omega arith)))
 
 module _ (j chosen : ℕ) (t : Tuner) (again : ℕ) (taken : List ℤ) (v : Voice) (ys : List ℤ) where
-  out-sung : j < chosen → nightOut j chosen t again taken v ys ≡ take again (v .out) ++ voiceSang t taken v ++ drop (again + length taken) ys
+  pub out-sung : j < chosen → nightOut j chosen t again taken v ys ≡ take again (v .out) ++ voiceSang t taken v ++ drop (again + length taken) ys
   unfolding nightOut
   out-sung h = cond-yes (take again (v .out) ++ voiceSang t taken v ++ drop (again + length taken) ys) ys (lt-ltb j chosen h)
 

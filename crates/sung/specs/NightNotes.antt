@@ -1,4 +1,5 @@
 -- A night's single calls receive the samples that the night took: only its first block can be given again, so they are one stretch of the recording.
+-- And what they leave of the tuner and answer: each sample taken is counted, and the last block lies within them (`night-left`).
 use mathlib.Core.Path.{_≡_, refl, sym, ap, subst, _∙_}
 use mathlib.Core.Bool.{Bool, true, false, cond}
 use mathlib.Core.List.{List, [], _∷_, _++_, map, map-append, append-assoc, append-nil}
@@ -7,19 +8,21 @@ use native.Mathlib.Omega.{arith}
 use borrow.Author.Tests.{eq-eqb, ne-eqb, eqb-true, eqb-false, leb-true, leb-false}
 use lib.Dec.{eqb, leb}
 use lib.IntN.{ℤ}
-use lib.ListN.{length, take, drop, length-take, drop-of-length-le}
+use lib.ListN.{length, take, drop, length-take, length-append, drop-of-length-le}
 use lib.Seq.{take-add, take-all}
 use Rattle.whole.specs.Tests.{by, cond-yes, cond-no}
+use Rattle.rules.specs.Rules.{longestBlock}
 use Rattle.history.specs.History.{Event, sample}
 use Rattle.answers.specs.declared.Answer.{Answer}
 use Rattle.tuner.specs.declared.Tuner.{Tuner}
-use Rattle.tuner.specs.Tuners.{Took}
-use Rattle.staying.specs.Staying.{untaken-unchanged}
+use Rattle.tuner.specs.Tuners.{afterBlock, Took}
+use Rattle.tuner.specs.Verdicts.{verdict-fits}
+use Rattle.staying.specs.Staying.{took-number, took-keeps, untaken-unchanged}
 use Rattle.nights.specs.declared.NightAnswer.{NightAnswer}
 use Rattle.nights.specs.Nights.{firstStretches, stretches, numberAfter, noNight, addedBy, added, OneByOne, all-done, and-on, refused, Untouched, Nighted, record-out-of-range, size-out-of-range, output-short, one-by-one}
 use Rattle.nights.specs.Going.{taken-counts, added-refused}
 use Rattle.listnights.specs.ListNights.{tookFrom, tookSamples}
-use Rattle.listnights.specs.Singing.{nothing, again-is-last, taken-is-last}
+use Rattle.listnights.specs.Singing.{nothing, again-is-last, taken-is, taken-is-last}
 use Rattle.account.specs.Account.{Call, block, by-block, Series, and-then, Received, withBlock, plus, received}
 use Rattle.sung.specs.NightCalls.{blocksOf, nightCalls}
 
@@ -199,3 +202,81 @@ night-series {cs = cs} h (record-out-of-range n u) = subst (Series cs) (sym (u .
 night-series {cs = cs} h (size-out-of-range g s u) = subst (Series cs) (sym (u .tuner)) h
 night-series {cs = cs} h (output-short g s m r u) = subst (Series cs) (sym (u .tuner)) h
 night-series h (one-by-one g s m r o) = blocks-series h o
+
+-- ---- what a night leaves
+
+-- a tuner that took these samples in blocks, after the answer n: each is counted, and where there are any the last block lies within them; the counts of a block given again are those of one block
+pub record Left (t t′ : Tuner) (n n′ : NightAnswer) (taken : List ℤ) : Type 0 where
+  pub count : t′ .heard .count ≡ t .heard .count + length taken
+  pub written : n′ .written ≡ n .written + length taken
+  pub again : n .again .written ≤ longestBlock → n′ .again .written ≤ longestBlock
+  pub none : length taken ≡ 0 → t′ ≡ t
+  pub last : 0 < length taken → t′ .last .length ≤ length taken
+
+-- nothing was taken
+left-none : {t t′ : Tuner} {n n′ : NightAnswer} {taken : List ℤ} → taken ≡ [] → t′ ≡ t → n′ .written ≡ n .written → (n .again .written ≤ longestBlock → n′ .again .written ≤ longestBlock) → Left t t′ n n′ taken
+left-none e same w b =
+    let z = ap length e in
+    record { count = omega (arith, ap (λ (u : Tuner). u .heard .count) same, z); written = omega arith; again = b; none = λ q. same; last = λ h. absurd (omega arith) }
+
+-- some, and more behind them
+left-more : {t u t′ : Tuner} {n m n′ : NightAnswer} (xs ys : List ℤ) → Left t u n m xs → Left u t′ m n′ ys → Left t t′ n n′ (xs ++ ys)
+left-more {t} {u} {t′} xs ys p q =
+    let long = length-append xs ys in
+    record {
+      count = omega (arith, p .count, q .count);
+      written = omega (arith, p .written, q .written);
+      again = λ h. q .again (p .again h);
+      none = λ z. q .none (omega arith) ∙ p .none (omega arith);
+      last =
+          λ h. by (eqb (length ys) 0)
+          (λ b. let z = eqb-true (length ys) 0 b in omega (arith, ap (λ (w : Tuner). w .last .length) (q .none z), p .last (omega arith)))
+          (λ b. let z = eqb-false (length ys) 0 b in omega (arith, q .last (omega arith)));
+    }
+
+-- one block
+block-left : {t u : Tuner} {k : ℕ} {new ys zs : List ℤ} {a : Answer} (p : Took t k new ys u a zs) (n : NightAnswer) → Left t u n (added n k a) (ifTaken a new)
+unfolding afterBlock
+block-left {t} {u} {k} {new} {a = a} p n =
+    by (eqb (a .number) 0)
+    (λ b. let e = eqb-true (a .number) 0 b in
+    let counts = taken-counts p e in
+    let c = next-taken p n e in
+    let all : Left t u n (added n k a) new =
+    record {
+      count = counts .0;
+      written = c .1;
+      again = λ h. omega (arith, ap (λ (x : Answer). x .written) (c .0));
+      none = λ z. absurd (omega (arith, counts .2));
+      last = λ h. omega (arith, ap (λ (w : Tuner). w .last .length) (taken-is p e));
+    } in
+    subst (Left t u n (added n k a)) (sym (cond-yes new [] b)) all)
+    (λ b. let e = eqb-false (a .number) 0 b in
+    let some : 0 < a .number = omega arith in
+    let none = untaken-none p n some in
+    let same = untaken-unchanged p some in
+    by (eqb (a .number) 1)
+    (λ d. let one = eqb-true (a .number) 1 d in
+    let c = next-again p n one in
+    let most = verdict-fits (p .verdict) (omega (arith, took-number p)) .most in
+    let kept = ap (λ (x : Answer). x .written) (took-keeps p (omega arith) .0) in
+    left-none none same (c .1) (λ h. omega (arith, ap (λ (x : Answer). x .written) (c .0), kept, most)))
+    (λ d. let more = eqb-false (a .number) 1 d in
+    let c = next-refused p n (omega arith) in
+    left-none none same (c .1) (λ h. omega (arith, ap (λ (x : Answer). x .written) (c .0)))))
+
+blocks-left : {t t′ : Tuner} {k : ℕ} {n n′ : NightAnswer} {xss : List (List ℤ)} {ys zs : List ℤ} (o : OneByOne t k n xss ys t′ n′ zs) → Left t t′ n n′ (takenIn o)
+unfolding takenIn
+blocks-left all-done = left-none refl refl refl (λ h. h)
+blocks-left (and-on {n = n} {xs = xs} {a = a} p l r) = left-more (ifTaken a xs) (takenIn r) (block-left p n) (blocks-left r)
+blocks-left (refused {n = n} p l) = block-left p n
+
+untouched-left : (size : ℕ) (xs : List ℤ) {v : ℕ} {t t′ : Tuner} {ys ys′ : List ℤ} {a : NightAnswer} → Untouched v t ys t′ a ys′ → Left t t′ noNight a (tookSamples a size xs)
+untouched-left size xs {a = a} u =
+    let none = ap (λ (m : NightAnswer). m .written) (u .answer) in left-none (nothing a size xs none) (u .tuner) none (λ h. omega (arith, ap (λ (m : NightAnswer). m .again .written) (u .answer)))
+
+pub night-left : {t t′ : Tuner} {k size : ℕ} {xs ys ys′ : List ℤ} {a : NightAnswer} → Nighted t k size xs ys t′ a ys′ → Left t t′ noNight a (tookSamples a size xs)
+night-left {size = size} {xs} (record-out-of-range n u) = untouched-left size xs u
+night-left {size = size} {xs} (size-out-of-range g s u) = untouched-left size xs u
+night-left {size = size} {xs} (output-short g s m r u) = untouched-left size xs u
+night-left {t} {t′} {size = size} {xs} {a = a} (one-by-one g s m r o) = subst (Left t t′ noNight a) (night-taken o size xs refl refl) (blocks-left o)
