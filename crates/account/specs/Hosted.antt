@@ -97,8 +97,12 @@ meter-in (Locking lag) = refl
 meter-in (Pitched f) = refl
 meter-in Refused = refl
 
+-- no other meter shows the same
+pub shown-one : (m n : Meter) → shownAs m ≡ shownAs n → m ≡ n
+shown-one m n e = sym (meter-in m) ∙ ap meterIn e ∙ meter-in n
+
 -- 9 shows a refusal alone
-refused-in : (m : Meter) → shownAs m .state ≡ 9 → m ≡ Refused
+pub refused-in : (m : Meter) → shownAs m .state ≡ 9 → m ≡ Refused
 refused-in Searching e = absurd (omega arith)
 refused-in (Locking lag) e = absurd (omega arith)
 refused-in (Pitched f) e = absurd (omega arith)
@@ -120,7 +124,7 @@ module _ (t : Tuner) where
   leaves-of (host-midi p) = let (t′, q, e) = tuner's-call t p in (t′, by-midi q, e)
   leaves-of (host-reset p) = let (t′, q, e) = tuner's-call t p in (t′, by-reset q, e)
   leaves-of (host-meter {m} p) =
-      let (x, q, e) = read-of p in (t, by-meter (subst (Metered t) (sym (meter-in x) ∙ ap meterIn (sym e) ∙ meter-in m) q), refl)
+      let (x, q, e) = read-of p in (t, by-meter (subst (Metered t) (shown-one x m (sym e)) q), refl)
 
   never-nine-of : NeverNine t → HostNeverNine (recordOf t)
   never-nine-of n =

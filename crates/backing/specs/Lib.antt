@@ -4,3 +4,4 @@ pub mod Steps
 pub mod Backs
 pub mod Stays
 pub mod Totals
+pub mod Hosted
