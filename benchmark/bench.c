@@ -1,15 +1,21 @@
 /* The harness.
 
      bench run WHO SOUND BLOCK WARM COUNT   takes WARM samples of a sound in blocks of 512, then COUNT samples in blocks of BLOCK; prints a sum
-                                            over the whole output, the cycles repeated and dropped, and the user time of the COUNT samples in
+                                            over all outputs, the cycles repeated and dropped, and the user time of the COUNT samples in
                                             microseconds. WHO: library, plain; night: the library, the WARM samples by one call and the
-                                            COUNT samples by another; list, listnight: the same with a list of the notes sung
+                                            COUNT samples by another; list, listnight: the same with a list of the notes sung; choir0,
+                                            choir1, choir3, choirnight: the calls with voices, of which there are none, one or three, a
+                                            night with three
+     bench same WHO OTHER SOUND BLOCK WARM COUNT
+                                            takes the same by one program and then by another, and holds the cycles and every sample of the
+                                            outputs that both have to each other: the lead's, and those of voices
      bench compare SOUND BLOCK WARM COUNT [HERTZ]
                                             takes the same by both programs and holds every answer and sample of the one to the other's; each
                                             eleventh block is given again, and a refused one is sent before it. HERTZ: the sample rate, 44100
                                             unless said, as it is for all else
      bench sizes                            bytes of each program's record, and of the stack below a block call
      bench tracked SOUND                    how much of the sound is tracked, in tenths of a per cent
+     bench sung SOUND                       how many samples of it have a period and a wanted note: where voices sound
 
    Of two runs with different COUNT the counts of executed instructions differ by the calls alone: the sound is always made whole, and the sum
    always taken over a minute. */
@@ -23,8 +29,9 @@ int strcmp(const char *, const char *);
 long strtol(const char *, char **, int);
 int getrusage(int, void *);
 
-enum { MINUTE = 60 * 44100 };
-static int16_t in[MINUTE], out[MINUTE];
+/* The lead's output, and behind it that of each voice, a minute further on. */
+enum { MINUTE = 60 * 44100, OUTPUTS = 1 + DAXFOLIN_MOST_VOICES, ALL = OUTPUTS * MINUTE };
+static int16_t in[MINUTE], out[ALL];
 
 static daxfolin_record tuner;
 static plain_tuner plain;
@@ -36,7 +43,7 @@ typedef plain_answer answer;
 
 typedef struct {
     const char *name;
-    size_t record;
+    size_t record, voices;
     uint32_t (*start)(uint32_t);
     answer (*block)(uint16_t, const int16_t *, size_t, int16_t *, size_t);
     void (*night)(size_t, size_t, size_t); /* all blocks from one sample to another by one call, where that is measured */
@@ -101,6 +108,33 @@ static answer list_night_block(uint16_t number, const int16_t *samples, size_t n
     return answer_of_night(daxfolin_list_night(&tuner, &listing, number, n, samples, n, to, room, rows, ROWS).night);
 }
 
+/* With voices, and without a store. */
+static daxfolin_choir choir;
+static const int32_t intervals[DAXFOLIN_MOST_VOICES] = {4, -3, 7};
+
+static uint32_t choir_start(uint32_t hertz, size_t voices) { return daxfolin_choir_start(&choir, hertz, at_once(), intervals, voices, rows, 0).answer.number; }
+static uint32_t choir0_start(uint32_t hertz) { return choir_start(hertz, 0); }
+static uint32_t choir1_start(uint32_t hertz) { return choir_start(hertz, 1); }
+static uint32_t choir3_start(uint32_t hertz) { return choir_start(hertz, 3); }
+
+/* The lead's output and the voices', as the calls take them. */
+#define OUTPUTS_AT(to, room) (to), (room), (to) + MINUTE, (room), (to) + 2 * MINUTE, (room), (to) + 3 * MINUTE, (room)
+
+static answer choir_block(uint16_t number, const int16_t *samples, size_t n, int16_t *to, size_t room)
+{
+    return answer_of(daxfolin_choir_block(&choir, number, samples, n, OUTPUTS_AT(to, room), rows, 0).answer);
+}
+
+static void choir_night(size_t from, size_t to, size_t block)
+{
+    add_night(daxfolin_choir_night(&choir, number, block, in + from, to - from, OUTPUTS_AT(out + from, to - from), rows, 0).night, to - from);
+}
+
+static answer choir_night_block(uint16_t number, const int16_t *samples, size_t n, int16_t *to, size_t room)
+{
+    return answer_of_night(daxfolin_choir_night(&choir, number, n, samples, n, OUTPUTS_AT(to, room), rows, 0).night);
+}
+
 static uint32_t plain_begin(uint32_t hertz) { return plain_start(&plain, hertz); }
 
 static answer plain_take(uint16_t number, const int16_t *samples, size_t n, int16_t *to, size_t room)
@@ -108,14 +142,25 @@ static answer plain_take(uint16_t number, const int16_t *samples, size_t n, int1
     return plain_block(&plain, number, samples, n, to, room);
 }
 
-enum { PROGRAMS = 5 };
-static const program programs[PROGRAMS] = {
-    {"library", sizeof(daxfolin_record), library_start, library_block, 0},
-    {"plain", sizeof(plain_tuner), plain_begin, plain_take, 0},
-    {"night", sizeof(daxfolin_record), library_start, library_night_block, library_night},
-    {"list", sizeof(daxfolin_record) + sizeof(daxfolin_listing), list_start, list_block, 0},
-    {"listnight", sizeof(daxfolin_record) + sizeof(daxfolin_listing), list_start, list_night_block, list_night},
+static const program programs[] = {
+    {"library", sizeof(daxfolin_record), 0, library_start, library_block, 0},
+    {"plain", sizeof(plain_tuner), 0, plain_begin, plain_take, 0},
+    {"night", sizeof(daxfolin_record), 0, library_start, library_night_block, library_night},
+    {"list", sizeof(daxfolin_record) + sizeof(daxfolin_listing), 0, list_start, list_block, 0},
+    {"listnight", sizeof(daxfolin_record) + sizeof(daxfolin_listing), 0, list_start, list_night_block, list_night},
+    {"choir0", sizeof(daxfolin_choir), 0, choir0_start, choir_block, 0},
+    {"choir1", sizeof(daxfolin_choir), 1, choir1_start, choir_block, 0},
+    {"choir3", sizeof(daxfolin_choir), 3, choir3_start, choir_block, 0},
+    {"choirnight", sizeof(daxfolin_choir), 3, choir3_start, choir_night_block, choir_night},
 };
+enum { PROGRAMS = sizeof programs / sizeof programs[0] };
+
+static const program *named(const char *name)
+{
+    for (int i = 0; i < PROGRAMS; i++)
+        if (!strcmp(name, programs[i].name)) return &programs[i];
+    return 0;
+}
 
 static void start(const program *p, uint32_t hertz) { failures += p->start(hertz) != DAXFOLIN_TAKEN; }
 
@@ -142,16 +187,39 @@ static long user_microseconds(void)
     return usage[0] * 1000000 + usage[1];
 }
 
-static int run(const program *p, size_t block, size_t warm, size_t count)
+/* A fresh take; the user time of its COUNT samples, in microseconds. */
+static long take_all(const program *p, size_t block, size_t warm, size_t count)
 {
+    number = 0, repeated = dropped = 0;
     start(p, DAXFOLIN_CD);
     take(p, 0, warm, 512);
     long began = user_microseconds();
     take(p, warm, warm + count, block);
-    long took = user_microseconds() - began;
+    return user_microseconds() - began;
+}
+
+static int run(const program *p, size_t block, size_t warm, size_t count)
+{
+    long took = take_all(p, block, warm, count);
     uint64_t sum = 0;
-    for (size_t i = 0; i < MINUTE; i++) sum = sum * 31 + (uint16_t)out[i];
+    for (size_t i = 0; i < ALL; i++) sum = sum * 31 + (uint16_t)out[i];
     printf("sum %016lx repeated %lu dropped %lu user %ld\n", sum, repeated, dropped, took);
+    return failures != 0;
+}
+
+static int same(const program *p, const program *q, size_t block, size_t warm, size_t count)
+{
+    static int16_t before[ALL];
+    size_t outputs = 1 + (p->voices < q->voices ? p->voices : q->voices);
+    take_all(p, block, warm, count);
+    uint64_t cycles[2] = {repeated, dropped};
+    /* a sample that the second does not write differs */
+    for (size_t i = 0; i < ALL; i++) before[i] = out[i], out[i] ^= 1;
+    take_all(q, block, warm, count);
+    failures += cycles[0] != repeated || cycles[1] != dropped;
+    for (size_t at = 0; at < outputs * MINUTE; at += MINUTE)
+        for (size_t i = at; i < at + warm + count; i++, checked++) failures += before[i] != out[i];
+    printf("%lu samples of %lu outputs compared, %lu differ\n", checked, outputs, failures);
     return failures != 0;
 }
 
@@ -245,20 +313,34 @@ static int tracked(char which)
     return 0;
 }
 
+static int sung(char which)
+{
+    sound(which, in, MINUTE);
+    take_all(named("listnight"), 512, 0, MINUTE);
+    uint64_t samples = 0;
+    for (uint32_t row = 0; row < listing.rows; row++) samples += rows[3 * row + 2];
+    printf("%lu\n", samples);
+    return failures != 0 || listing.left != 0;
+}
+
 static size_t whole(const char *word) { return (size_t)strtol(word, 0, 10); }
 
 int main(int argc, char **argv)
 {
     if (argc == 2 && !strcmp(argv[1], "sizes")) return sizes();
     if (argc == 3 && !strcmp(argv[1], "tracked")) return tracked(argv[2][0]);
+    if (argc == 3 && !strcmp(argv[1], "sung")) return sung(argv[2][0]);
     if ((argc == 6 || argc == 7) && !strcmp(argv[1], "compare")) {
         sound(argv[2][0], in, MINUTE);
         return compare(argc == 7 ? (uint32_t)whole(argv[6]) : DAXFOLIN_CD, whole(argv[3]), whole(argv[4]), whole(argv[5]));
     }
-    if (argc == 7 && !strcmp(argv[1], "run")) {
+    if (argc == 7 && !strcmp(argv[1], "run") && named(argv[2])) {
         sound(argv[3][0], in, MINUTE);
-        for (int i = 0; i < PROGRAMS; i++)
-            if (!strcmp(argv[2], programs[i].name)) return run(&programs[i], whole(argv[4]), whole(argv[5]), whole(argv[6]));
+        return run(named(argv[2]), whole(argv[4]), whole(argv[5]), whole(argv[6]));
+    }
+    if (argc == 8 && !strcmp(argv[1], "same") && named(argv[2]) && named(argv[3])) {
+        sound(argv[4][0], in, MINUTE);
+        return same(named(argv[2]), named(argv[3]), whole(argv[5]), whole(argv[6]), whole(argv[7]));
     }
     printf("see bench.c for the words\n");
     return 2;
