@@ -1,17 +1,23 @@
 -- Laws of the promises of the exported calls of a tuner with voices: a call over its record is the tuner's call, a refusal changes nothing, no second answer meets a promise, and a block that lends no output for a voice is answered 4.
 use mathlib.Core.Path.{_≡_, refl, sym, ap, subst, _∙_}
 use mathlib.Core.List.{List, []}
-use Prim.Native.Nat.{ℕ}
+use Prim.Native.Nat.{ℕ, _≤_, _<_}
+use native.Mathlib.Omega.{arith}
 use lib.IntN.{ℤ}
+use lib.ListN.{length}
 use Rattle.rules.specs.declared.Settings.{Settings}
+use Rattle.rules.specs.Rules.{longestBlock}
 use Rattle.answers.specs.declared.Answer.{Answer}
 use Rattle.answers.specs.Numbering.{plain}
 use Rattle.listing.specs.declared.ListAnswer.{ListAnswer}
+use Rattle.listing.specs.Listings.{listAnswer, as-it-was}
 use Rattle.choir.specs.declared.Choir.{Choir}
 use Rattle.tuner.specs.declared.Tuner.{Tuner}
+use Rattle.tuner.specs.Tuners.{output-short, tunerBy, answerBy, outBy}
 use Rattle.listnights.specs.declared.ListNightAnswer.{ListNightAnswer}
-use Rattle.singers.specs.Singers.{Outs}
-use Rattle.choir.specs.Choirs.{ChoirStarted, OfLead, record-out-of-range, of-the-lead, ChoirChanged, ChoirKeyed, ChoirTook}
+use Rattle.singers.specs.Singers.{Outs, outs, leastRoom}
+use Rattle.singers.specs.Voicing.{all-fit}
+use Rattle.choir.specs.Choirs.{ChoirGood, voicesBy, outsBy, by-number, ChoirStarted, OfLead, record-out-of-range, of-the-lead, ChoirChanged, ChoirKeyed, ChoirTook}
 use Rattle.choir.specs.Leads.{choir-started-one, choir-reset-one, choir-took-one}
 use Rattle.choir.specs.Led.{choir-changed-one, choir-keyed-one, choir-metered-one}
 use Rattle.choirnights.specs.Ones.{choir-nighted-one}
@@ -96,3 +102,17 @@ host-choir-metered-one (held h p e) (held h′ q f) = e ∙ ap shownAs (choir-me
 host-choir-metered-one (held h p e) (unheld h′ f) = absurd (h′ h)
 host-choir-metered-one (unheld h e) (held h′ q f) = absurd (h h′)
 host-choir-metered-one (unheld h e) (unheld h′ f) = e ∙ sym f
+
+-- ---- a block that lends no output for a voice
+
+-- a plain block call to a tuner with voices lends none: it is answered 4, and nothing is touched
+pub lends-none : {c c′ : Choir} {k : ℕ} {xs ys ys′ second third : List ℤ} {o′ : Outs} {store store′ : List ℕ} {a : ListAnswer} → ChoirGood c → 0 < c .voices .count → 0 < length xs → length xs ≤ longestBlock
+    → ChoirTook c k xs ys (outs [] second third) store c′ a ys′ o′ store′ → (c′ ≡ c) × (a ≡ listAnswer (plain 4) (c .list)) × (ys′ ≡ ys) × (o′ ≡ outs [] second third) × (store′ ≡ store)
+unfolding tunerBy answerBy outBy voicesBy outsBy
+lends-none {c} {k = k} {xs} {ys} {second = second} {third} {store = store} g chosen some most p =
+    let room = leastRoom (c .voices .count) (length ys) 0 (length second) (length third) in
+    let fit = all-fit (c .voices .count) (length ys) 0 (length second) (length third) room (omega arith) in
+    let short : room < length xs = omega (arith, fit .1 chosen, some) in
+    let four : ChoirTook c k xs ys (outs [] second third) store c (listAnswer (plain 4) (c .list)) ys (outs [] second third) store =
+    by-number g (record { number = 4; verdict = output-short (g .0 .0) some most short; tuner = refl; answer = refl; out = refl; list = as-it-was {v = 4} (omega arith) refl refl; voices = refl; outs = refl }) in
+    choir-took-one p four
