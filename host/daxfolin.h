@@ -2,9 +2,9 @@
  *
  * Each function below is proved (crates/host, crates/hostlist for those with a list, and crates/hostchoir for those with backing voices):
  * for any bytes in the record, any settings, any block and any lengths it comes to an end, does nothing undefined, and answers as said
- * here. It takes no memory of its own but under 12 KB of stack (a night under 32 KB; with a list under 21 KB, a night under 33 KB; with
- * voices more), has no state outside the record and the listing, and calls nothing but memcpy and memset. The archives are for x86-64
- * Linux; without voices and a list the last is enough, and without voices the last two are:
+ * here. It takes no memory of its own but under 12 KB of stack (a night under 32 KB; with a list under 22 KB, a night under 33 KB; with
+ * voices under 76 KB, a night under 82 KB), has no state outside the record and the listing, and calls nothing but memcpy and memset. The
+ * archives are for x86-64 Linux; without voices and a list the last is enough, and without voices the last two are:
  *
  *     tools/library                                 proves it and writes target/staticlib/lib{hostchoir,hostlist,host}.a
  *     cc -std=c11 -Ihost program.c target/staticlib/lib{hostchoir,hostlist,host}.a
