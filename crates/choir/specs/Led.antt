@@ -1,4 +1,4 @@
--- Laws of the calls of a choir's lead alone: they are met by the tuner's own calls, to a good choir they are these, a refusal changes nothing, and no second answer meets one.
+-- Laws of the calls of a choir's lead alone: they are met by the tuner's own calls, to a good choir they are these, and no second answer meets one.
 use mathlib.Core.Path.{_≡_, refl, sym, ap, subst, _∙_}
 use mathlib.Core.List.{List}
 use Prim.Native.Nat.{ℕ}

@@ -1,4 +1,4 @@
--- Laws of the promises of the exported calls of a tuner with voices: a call over its record is the tuner's call, a refusal changes nothing, no second answer meets a promise, and a block that lends no output for a voice is answered 4.
+-- Laws of the promises of the exported calls of a tuner with voices: a call over its record is the tuner's call, no second answer meets a promise, and a block that lends no output for a voice is answered 4.
 use mathlib.Core.Path.{_≡_, refl, sym, ap, subst, _∙_}
 use mathlib.Core.List.{List, []}
 use Prim.Native.Nat.{ℕ, _≤_, _<_}
