@@ -1,7 +1,6 @@
 //! Backing voices, by the calls over a tuner with voices, beside the independent
 //! program's ensemble: what a start chooses and refuses, outputs that are short
 //! or not lent, repeats, resets, nights, and records that are answered 9.
-#![cfg(target_arch = "x86_64")]
 
 mod rows;
 mod theirs;

@@ -1,7 +1,6 @@
 //! The list of the notes sung, by the calls that lend a store for it: the list
 //! of the whole take, however it is cut; full stores; what begins it, and what
 //! leaves it.
-#![cfg(target_arch = "x86_64")]
 
 mod rows;
 

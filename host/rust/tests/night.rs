@@ -1,6 +1,5 @@
 //! A night's blocks in one call are the single calls one by one: a million
 //! samples, begun again, and stopped.
-#![cfg(target_arch = "x86_64")]
 
 use daxfolin::{
     Answer, NightAnswer, Record, Settings, CD, FILM, GIVEN_AGAIN, NUMBER_NEITHER, OTHER_SAMPLES,

@@ -2,7 +2,6 @@
 //! and of any bytes, compared with the independent program: 9 and nothing
 //! changed, or the right answer; guards around every buffer stay as they were.
 //! DAXFOLIN_CASES says how many calls, DAXFOLIN_SEED which.
-#![cfg(target_arch = "x86_64")]
 
 mod lent;
 mod theirs;

@@ -1,5 +1,4 @@
 //! Takes as WAVE files through the wrapper: written and read back, refused with the output as it was, sought piece by piece, mended.
-#![cfg(target_arch = "x86_64")]
 
 use daxfolin::wave::{
     self, Read, Seek, Size, Take, FILE_TOO_LONG, FMT_WRONG, NOT_RIFF_WAVE, NO_DATA,

@@ -1,7 +1,6 @@
 //! Takes as WAVE files: the proved calls answer every case as the independent
 //! program does, and seeks stand what no file in memory has. DAXFOLIN_WAVES says
 //! how many cases, DAXFOLIN_SEED which.
-#![cfg(target_arch = "x86_64")]
 
 mod proved;
 

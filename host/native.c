@@ -1,0 +1,96 @@
+/* The C side of the calls, for processors other than x86-64 (tools/native). In the proved module each call is a function that takes every
+   struct and slice by address and writes a struct that it answers to an address. Here the processor's own C compiler lays out arguments
+   and answers, and checks each call against the headers. No number of a take is touched. */
+#include "daxfolin.h"
+#include "daxfolin_wave.h"
+
+typedef struct {
+    const void *at;
+    size_t count;
+} slice;
+#define LENT(at, count) (&(const slice){at, count})
+
+/* PASSED: a call that answers a number. ANSWERED: one that answers a struct, which the module's function writes. */
+#define MODULE(name) __asm__("daxfolin_module_" #name) __attribute__((visibility("hidden")))
+#define PASSED(type, name, parameters, module_parameters, arguments) \
+    type module_##name module_parameters MODULE(name); \
+    type daxfolin_##name parameters { return module_##name arguments; }
+#define ANSWERED(type, name, parameters, module_parameters, ...) \
+    void module_##name module_parameters MODULE(name); \
+    type daxfolin_##name parameters \
+    { \
+        type answer; \
+        module_##name(&answer, __VA_ARGS__); \
+        return answer; \
+    }
+
+typedef daxfolin_record *record;
+typedef daxfolin_listing *listing;
+typedef daxfolin_choir *choir;
+typedef const daxfolin_settings *by_address;
+typedef const slice *lent;
+
+/* the tuner */
+PASSED(uint32_t, version, (void), (void), ())
+PASSED(uint32_t, start, (record r, uint32_t hertz, daxfolin_settings s), (record, uint32_t, by_address), (r, hertz, &s))
+PASSED(uint32_t, start_default, (record r), (record), (r))
+PASSED(uint32_t, change, (record r, daxfolin_settings s), (record, by_address), (r, &s))
+PASSED(uint32_t, midi, (record r, const uint8_t *bytes, size_t n), (record, lent), (r, LENT(bytes, n)))
+PASSED(uint32_t, reset, (record r), (record), (r))
+ANSWERED(daxfolin_shown, meter, (const daxfolin_record *r), (daxfolin_shown *, const daxfolin_record *), r)
+ANSWERED(daxfolin_stretch, cut, (size_t length, size_t k), (daxfolin_stretch *, size_t, size_t), length, k)
+ANSWERED(daxfolin_answer, block, (record r, uint16_t number, const int16_t *in, size_t n, int16_t *out, size_t m),
+    (daxfolin_answer *, record, uint16_t, lent, lent), r, number, LENT(in, n), LENT(out, m))
+ANSWERED(daxfolin_night_answer, night, (record r, uint16_t number, size_t size, const int16_t *in, size_t n, int16_t *out, size_t m),
+    (daxfolin_night_answer *, record, uint16_t, size_t, lent, lent), r, number, size, LENT(in, n), LENT(out, m))
+
+/* with a list of the notes sung */
+ANSWERED(daxfolin_list_answer, list_start,
+    (record r, listing l, uint32_t hertz, daxfolin_settings s, const uint32_t *store, size_t room),
+    (daxfolin_list_answer *, record, listing, uint32_t, by_address, lent), r, l, hertz, &s, LENT(store, room))
+ANSWERED(daxfolin_list_answer, list_reset, (record r, listing l, const uint32_t *store, size_t room),
+    (daxfolin_list_answer *, record, listing, lent), r, l, LENT(store, room))
+ANSWERED(daxfolin_list_answer, list_block,
+    (record r, listing l, uint16_t number, const int16_t *in, size_t n, int16_t *out, size_t m, uint32_t *store, size_t room),
+    (daxfolin_list_answer *, record, listing, uint16_t, lent, lent, lent), r, l, number, LENT(in, n), LENT(out, m), LENT(store, room))
+ANSWERED(daxfolin_list_night_answer, list_night,
+    (record r, listing l, uint16_t number, size_t size, const int16_t *in, size_t n, int16_t *out, size_t m, uint32_t *store, size_t room),
+    (daxfolin_list_night_answer *, record, listing, uint16_t, size_t, lent, lent, lent), r, l, number, size, LENT(in, n), LENT(out, m),
+    LENT(store, room))
+
+/* with backing voices */
+ANSWERED(daxfolin_list_answer, choir_start,
+    (choir c, uint32_t hertz, daxfolin_settings s, const int32_t *intervals, size_t voices, const uint32_t *store, size_t room),
+    (daxfolin_list_answer *, choir, uint32_t, by_address, lent, lent), c, hertz, &s, LENT(intervals, voices), LENT(store, room))
+ANSWERED(daxfolin_list_answer, choir_reset, (choir c, const uint32_t *store, size_t room), (daxfolin_list_answer *, choir, lent), c,
+    LENT(store, room))
+PASSED(uint32_t, choir_change, (choir c, daxfolin_settings s), (choir, by_address), (c, &s))
+PASSED(uint32_t, choir_midi, (choir c, const uint8_t *bytes, size_t n), (choir, lent), (c, LENT(bytes, n)))
+ANSWERED(daxfolin_shown, choir_meter, (const daxfolin_choir *c), (daxfolin_shown *, const daxfolin_choir *), c)
+#define OUTPUTS int16_t *out, size_t m, int16_t *first, size_t m1, int16_t *second, size_t m2, int16_t *third, size_t m3
+#define LENT_OUTPUTS LENT(out, m), LENT(first, m1), LENT(second, m2), LENT(third, m3)
+ANSWERED(daxfolin_list_answer, choir_block,
+    (choir c, uint16_t number, const int16_t *in, size_t n, OUTPUTS, uint32_t *store, size_t room),
+    (daxfolin_list_answer *, choir, uint16_t, lent, lent, lent, lent, lent, lent), c, number, LENT(in, n), LENT_OUTPUTS, LENT(store, room))
+ANSWERED(daxfolin_list_night_answer, choir_night,
+    (choir c, uint16_t number, size_t size, const int16_t *in, size_t n, OUTPUTS, uint32_t *store, size_t room),
+    (daxfolin_list_night_answer *, choir, uint16_t, size_t, lent, lent, lent, lent, lent, lent), c, number, size, LENT(in, n),
+    LENT_OUTPUTS, LENT(store, room))
+
+/* WAVE files */
+ANSWERED(daxfolin_wave_was_read, wave_read, (const uint8_t *bytes, size_t n, int16_t *out, size_t room),
+    (daxfolin_wave_was_read *, lent, lent), LENT(bytes, n), LENT(out, room))
+ANSWERED(daxfolin_wave_written, wave_write, (uint32_t hertz, const int16_t *in, size_t n, uint8_t *out, size_t room),
+    (daxfolin_wave_written *, uint32_t, lent, lent), hertz, LENT(in, n), LENT(out, room))
+ANSWERED(daxfolin_wave_mending, wave_mend, (const uint8_t *bytes, size_t n), (daxfolin_wave_mending *, lent), LENT(bytes, n))
+ANSWERED(daxfolin_wave_written, wave_header, (uint32_t hertz, uint64_t samples, uint8_t *out, size_t room),
+    (daxfolin_wave_written *, uint32_t, uint64_t, lent), hertz, samples, LENT(out, room))
+PASSED(size_t, wave_samples, (const uint8_t *bytes, size_t n, int16_t *out, size_t room), (lent, lent), (LENT(bytes, n), LENT(out, room)))
+PASSED(size_t, wave_bytes, (const int16_t *in, size_t n, uint8_t *out, size_t room), (lent, lent), (LENT(in, n), LENT(out, room)))
+ANSWERED(daxfolin_seek, seek_take, (uint64_t length), (daxfolin_seek *, uint64_t), length)
+ANSWERED(daxfolin_seek, seek_mending, (uint64_t length), (daxfolin_seek *, uint64_t), length)
+ANSWERED(daxfolin_piece, seek_wanted, (daxfolin_seek seek), (daxfolin_piece *, const daxfolin_seek *), &seek)
+ANSWERED(daxfolin_seek, seek_give, (daxfolin_seek seek, const uint8_t *bytes, size_t n), (daxfolin_seek *, const daxfolin_seek *, lent),
+    &seek, LENT(bytes, n))
+ANSWERED(daxfolin_wave_take, seek_found, (daxfolin_seek seek), (daxfolin_wave_take *, const daxfolin_seek *), &seek)
+ANSWERED(daxfolin_wave_mending, seek_mended, (daxfolin_seek seek), (daxfolin_wave_mending *, const daxfolin_seek *), &seek)
