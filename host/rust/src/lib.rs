@@ -23,6 +23,7 @@ use std::fmt;
 use std::mem::offset_of;
 
 pub mod choir;
+pub mod smf;
 pub mod wave;
 
 /// The version of the calls.
