@@ -2,8 +2,13 @@
 //! read. They only move bytes; every number of a file, and every refusal, is a
 //! proved call's.
 
+pub mod delivery;
 pub mod lines;
+pub mod midi;
+pub mod octave;
 pub mod options;
+pub mod rows;
+pub mod score;
 
 use daxfolin::choir::{INTERVAL_OUT_OF_RANGE, TOO_MANY_VOICES};
 use daxfolin::wave::{
