@@ -4,6 +4,21 @@
 //!
 //! A tick's time is the sum of ticks times tempo over the tempo map, not rounded;
 //! times the samples a second it is rounded down to a sample, once.
+//!
+//! How a command plays a file to a take:
+//!
+//! ```ignore
+//! let line = midi::line(name, &bytes, take.hertz, &choice)?;
+//! let keys = octave.keys("tune", &source, &take, settings, &line)?;
+//! let settings = midi::by_keys(settings);
+//! let mut delivery = Delivery::of(&keys);
+//! source.blocks("tune", &take, |_, sung| {
+//!     delivery.give(sung, |part| match part {
+//!         Part::Keys(bytes) => keyed(tuner.midi(bytes)),
+//!         Part::Block(number, sung) => taken(tuner.block(number, sung, &mut out)),
+//!     })
+//! })?;
+//! ```
 
 use crate::{no, End};
 use daxfolin::smf::{
@@ -11,16 +26,26 @@ use daxfolin::smf::{
     NO_RUNNING_STATUS, QUANTITY_TOO_LONG, STATUS_WITHIN, TEMPO_WRONG, TRACK_TOO_LONG,
     UNKNOWN_STATUS, WITHIN_AN_EVENT,
 };
+use daxfolin::{Settings, KEYBOARD_MODE};
 use std::collections::BTreeSet;
 use std::path::Path;
 
-/// The channel on which keys are delivered: `Settings::channel` as it is by default.
+/// The channel on which keys are delivered, from 0 on.
 const CHANNEL: u8 = 0;
 /// Status bytes of channel 0.
 const NOTE_OFF: u8 = 0x80;
 const NOTE_ON: u8 = 0x90;
 /// The highest key.
 const HIGHEST: i64 = 127;
+
+/// Settings under which the keys of a line are wanted, and otherwise these.
+pub fn by_keys(settings: Settings) -> Settings {
+    Settings {
+        mode: KEYBOARD_MODE,
+        channel: CHANNEL.into(),
+        ..settings
+    }
+}
 
 /// What of a file is played, and when.
 #[derive(Clone, Copy, Debug, Default, PartialEq, Eq)]

@@ -15,11 +15,58 @@
 //! that goes down within a row is sent so at once. Where there is no row there is
 //! no period, and the key changes nothing: it is sent as the file says.
 
-use crate::midi::Key;
-use crate::rows::Row;
+use crate::midi::{Key, Line};
+use crate::rows::{rows, Row};
+use crate::{End, Source};
+use daxfolin::wave::Take;
+use daxfolin::{Settings, SCALE_MODE};
 
 /// Semitones of an octave.
 const OCTAVE: i32 = 12;
+
+/// The scale of all twelve notes.
+const ALL: u32 = 4095;
+
+/// In which octave keys are sent.
+#[derive(Clone, Copy, Debug, Default, PartialEq, Eq)]
+pub enum Octave {
+    /// In the one found.
+    #[default]
+    Nearest,
+    /// As the file says.
+    Exact,
+}
+
+impl Octave {
+    /// By its word.
+    pub fn of(word: &str) -> Option<Octave> {
+        match word {
+            "nearest" => Some(Octave::Nearest),
+            "exact" => Some(Octave::Exact),
+            _ => None,
+        }
+    }
+
+    /// The keys of a line for the take in a file. The nearest octave takes a first pass over it, with these settings but for scale and mode.
+    pub fn keys(
+        self,
+        program: &'static str,
+        source: &Source,
+        take: &Take,
+        settings: Settings,
+        line: &Line,
+    ) -> Result<Vec<Key>, End> {
+        if self == Octave::Exact {
+            return Ok(line.keys.clone());
+        }
+        let first = Settings {
+            scale: ALL,
+            mode: SCALE_MODE,
+            ..settings
+        };
+        Ok(nearest(&line.keys, &rows(program, source, take, first)?))
+    }
+}
 
 /// A stretch of samples in which a key is wanted.
 #[derive(Clone, Copy, Debug, PartialEq, Eq)]

@@ -2,7 +2,9 @@
 //! to 4,096 rows in a lent store, and here whole rows are moved out of it after
 //! each block, so that it is never full.
 
-use daxfolin::{Answer, Listing, Record, Settings, MOST_ROWS, ROW, TAKEN};
+use crate::{started, End, Source};
+use daxfolin::wave::Take;
+use daxfolin::{Answer, Listing, Record, Settings, LONGEST_BLOCK, MOST_ROWS, ROW, TAKEN};
 
 /// A longest run of samples with the same wanted note.
 #[derive(Clone, Copy, Debug, PartialEq, Eq)]
@@ -90,4 +92,24 @@ impl Listed {
         self.rows.extend(left.map(Row::of));
         self.rows
     }
+}
+
+/// The rows of the take in a file, by these settings and without keys.
+pub fn rows(
+    program: &'static str,
+    source: &Source,
+    take: &Take,
+    settings: Settings,
+) -> Result<Vec<Row>, End> {
+    let mut tuner = match Listed::start(take.hertz, settings) {
+        Ok(tuner) => tuner,
+        Err(number) => return started(number).map(|()| Vec::new()),
+    };
+    source.blocks(program, take, |number, sung| {
+        match tuner.block(number, sung, &mut [0; LONGEST_BLOCK]).number {
+            TAKEN => Ok(()),
+            number => Err(source.refused(number)),
+        }
+    })?;
+    Ok(tuner.rows())
 }

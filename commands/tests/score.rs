@@ -3,13 +3,13 @@
 
 mod singers;
 
-use commands::midi::{played, Choice, Key};
+use commands::midi::{by_keys, played, Choice, Key};
 use commands::octave::nearest;
 use commands::rows::Row;
 use commands::score::score;
 use daxfolin::{smf, wave, Settings, CD, FILM, MOST_ROWS};
 use independent::generator::random::Random;
-use singers::{by_keys, pitches, sung, swinging, tuned};
+use singers::{pitches, sung, swinging, tuned};
 
 /// The keys that a file of rows plays.
 fn keys(rows: &[Row], samples: u64, hertz: u32) -> Vec<Key> {

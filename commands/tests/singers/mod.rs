@@ -4,7 +4,7 @@
 use commands::delivery::{Delivery, Part};
 use commands::midi::Key;
 use commands::rows::{Listed, Row};
-use daxfolin::{Meter, Record, Settings, KEYBOARD_MODE, LONGEST_BLOCK, TAKEN};
+use daxfolin::{Meter, Record, Settings, LONGEST_BLOCK, TAKEN};
 use independent::generator::random::Random;
 use std::convert::Infallible;
 use std::f64::consts::TAU;
@@ -79,16 +79,8 @@ fn voice(phase: f64, frequency: f64) -> f64 {
     harmonics.sum()
 }
 
-/// Settings in keyboard mode, otherwise these.
-pub fn by_keys(settings: Settings) -> Settings {
-    Settings {
-        mode: KEYBOARD_MODE,
-        ..settings
-    }
-}
-
 /// Plays a take with a line: every part of it to a call.
-fn play(take: &[i16], keys: &[Key], mut call: impl FnMut(Part)) {
+pub fn play(take: &[i16], keys: &[Key], mut call: impl FnMut(Part)) {
     let mut delivery = Delivery::of(keys);
     for block in take.chunks(LONGEST_BLOCK) {
         let all = delivery.give(block, |part| {
