@@ -1,5 +1,6 @@
 pub mod Rules
 pub mod Facts
+pub mod Sounds
 pub mod Tuning
 pub mod Ranges
 pub mod Hearing

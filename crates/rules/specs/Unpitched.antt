@@ -2,12 +2,9 @@
 -- So a position that was level with the input stays level, and the sample of four samples ago is read.
 use mathlib.Core.Path.{_≡_, refl, ap, _∙_}
 use mathlib.Core.Option.{Option, none, some}
-use Prim.Native.Nat.{ℕ, suc, _+_, _-_, _^_}
+use Prim.Native.Nat.{ℕ, suc, _+_, _-_}
 use native.Mathlib.Omega.{arith}
-use lib.Dec.{leb→le, lit<}
-use lib.IntN.{ℤ, pos, negsuc, _-ℤ_}
-use mir.Syntax.{w16}
-use mir.Val.{SFits}
+use lib.IntN.{ℤ, pos, _-ℤ_}
 use Rattle.whole.specs.Tests.{cond-case}
 use Rattle.rules.specs.declared.InForce.{InForce}
 use Rattle.rules.specs.declared.Tone.{Tone}
@@ -15,7 +12,7 @@ use Rattle.rules.specs.Rules.{Sound, heard, freshRate, Mode, searching, 
 use Rattle.rules.specs.Facts.{WithoutPeriod, SixteenBits, LagsIn, ModeIn}
 use Rattle.rules.specs.Periods.{period-range}
 use Rattle.rules.specs.Position.{growth-keeps, reading-behind}
-use Rattle.rules.specs.Through.{through-none}
+use Rattle.rules.specs.Through.{at-the-sample}
 use Rattle.rules.specs.Sane.{found-lags, moved-lags}
 
 -- ---- the tone
@@ -69,10 +66,6 @@ pub fresh-level : Level freshTake
 unfolding freshTake inputAt
 fresh-level = refl
 
-sixteen-fits : (a : ℤ) → SixteenBits a → SFits w16 a
-sixteen-fits (pos n) h = record { sfits = omega (arith, leb→le n 32767 (h .1 .le)) }
-sixteen-fits (negsuc n) h = record { sfits = omega (arith, leb→le n 32767 (h .0 .le)) }
-
 -- at rate one it stays level
 level-grows : (n rate p : ℕ) {at : ℤ} → rate ≡ freshRate → at ≡ inputAt n -ℤ pos 0 → growth (suc n) rate p at .position ≡ inputAt (suc n) -ℤ pos 0
 level-grows n rate p r is =
@@ -81,7 +74,7 @@ level-grows n rate p r is =
 
 -- and there the sample of four samples ago is read
 level-reads : (x : Sound) (n : ℕ) {at : ℤ} → SixteenBits (x 4) → at ≡ inputAt n -ℤ pos 0 → reading x n at ≡ x 4
-level-reads x n h is = reading-behind x n 0 is ∙ through-none (x 5) (x 4) (x 3) (x 2) (sixteen-fits (x 4) h)
+level-reads x n h is = reading-behind x n 0 is ∙ at-the-sample (x 5) (x 4) (x 3) (x 2) h
 
 module _ (f : InForce) (t : Take) (h : Clear (t .pitch)) (level : Level t) (new : ℤ) (none : stepped f t new .given .tone .period ≡ 0) where
   rate-is-one : stepped f t new .given .tone .rate ≡ freshRate
