@@ -57,7 +57,6 @@ tone-in n d m l =
       hertz = r .0;
       keyboard = fresh-in;
       take = record { pitch = record { tone = fresh-sane .pitch .tone; lags = l; whileSearching = λ e. refl }; bounds = behind-in-bounds {b = 0} (record { is = level (inputAt n); near = omega arith }) };
-      cleared = λ e. refl;
     }
   where
     level : (z : ℤ) → z ≡ z -ℤ pos 0
