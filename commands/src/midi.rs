@@ -234,6 +234,35 @@ pub fn played(read: &Read, hertz: u32, choice: &Choice) -> Line {
 }
 
 impl Line {
+    /// What a command says of a line that may not be what was meant, a sentence each. `past` are its keys behind the take's end
+    /// (`Delivery::left`).
+    pub fn remarks(&self, choice: &Choice, past: usize) -> Vec<String> {
+        let sung = (1..).zip(self.channels).filter(|(_, notes)| *notes > 0);
+        let channels: Vec<String> = sung
+            .map(|(channel, _): (u32, u64)| channel.to_string())
+            .collect();
+        let mut said = Vec::new();
+        if self.keys.is_empty() {
+            said.push("no note of the file is played".to_string());
+        }
+        if choice.channel.is_none() && channels.len() > 1 {
+            let channels = channels.join(", ");
+            said.push(format!(
+                "there are notes on channels {channels}, and all are played; --channel chooses one"
+            ));
+        }
+        if self.dropped > 0 {
+            said.push(format!(
+                "{} notes have no key when they are moved, and are left out",
+                self.dropped
+            ));
+        }
+        if past > 0 {
+            said.push(format!("{past} keys come behind the take's end"));
+        }
+        said
+    }
+
     /// Takes an event, which is mostly no note that was chosen.
     fn take(
         &mut self,

@@ -152,6 +152,14 @@ fn channels_tracks_and_notes_are_chosen() {
     assert_eq!(keys(moved(1)), (vec![61, 62, 1, -1, -61, -62], 1));
     assert_eq!(keys(moved(-1)), (vec![59, 60, 126, -59, -60, -126], 1));
     assert_eq!(keys(moved(i32::MIN)), (vec![], 4));
+    let said = |choice, past| read(&file, 48_000, choice).remarks(&choice, past);
+    let channels = "there are notes on channels 1, 6, and all are played; --channel chooses one";
+    assert_eq!(said(all, 0), [channels]);
+    assert!(said(channel(6), 0).is_empty());
+    assert_eq!(said(channel(2), 0), ["no note of the file is played"]);
+    let left = "1 notes have no key when they are moved, and are left out";
+    let behind = "3 keys come behind the take's end";
+    assert_eq!(said(moved(1), 3), [channels, left, behind]);
 }
 
 #[test]
