@@ -42,7 +42,7 @@ struct Track {
 }
 
 impl Track {
-    /// An event at a tick. A longer wait than a delta time can say is parted by texts without letters.
+    /// An event at a tick. A longer wait than a delta time can say is filled with empty texts.
     fn event(&mut self, tick: u64, bytes: &[u8]) {
         while tick - self.at > LONGEST {
             self.push(LONGEST, &[0xFF, 0x01, 0]);

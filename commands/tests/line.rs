@@ -91,9 +91,9 @@ fn independently(take: &[i16], hertz: u32, keys: &[smf::Key]) -> Vec<i16> {
 
 #[test]
 fn the_independent_program_plays_the_same_files() {
-    let told = |name, unless| std::env::var(name).map_or(unless, |n| n.parse().unwrap());
-    let mut source = Songs::seeded(told("DAXFOLIN_SEED", 11));
-    let (mut played, files) = (0, told("DAXFOLIN_PLAYED", 6));
+    let asked = |name, unless| std::env::var(name).map_or(unless, |n| n.parse().unwrap());
+    let mut source = Songs::seeded(asked("DAXFOLIN_SEED", 11));
+    let (mut played, files) = (0, asked("DAXFOLIN_PLAYED", 6));
     while played < files {
         let case = source.case();
         let Ok(song) = smf::song(&case.file) else {

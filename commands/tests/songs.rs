@@ -14,9 +14,9 @@ use std::path::Path;
 
 #[test]
 fn two_readers_agree() {
-    let told = |name, unless| std::env::var(name).map_or(unless, |n| n.parse().unwrap());
-    let mut source = Source::seeded(told("DAXFOLIN_SEED", 20_261_116));
-    for number in 0..told("DAXFOLIN_SONGS", 20_000) {
+    let asked = |name, unless| std::env::var(name).map_or(unless, |n| n.parse().unwrap());
+    let mut source = Source::seeded(asked("DAXFOLIN_SEED", 20_261_116));
+    for number in 0..asked("DAXFOLIN_SONGS", 20_000) {
         let case = source.case();
         if case.said(&Independent) != case.said(&Played) {
             let (right, got) = (case.answer(&Independent), case.answer(&Played));

@@ -1,6 +1,6 @@
 //! Standard MIDI Files, written from the published format (MIDI Manufacturers
 //! Association, "Standard MIDI Files 1.0"): chunks are cut out first, each
-//! track's events are taken from its front, and a time is reckoned afresh for
+//! track's events are taken from its front, and a time is computed afresh for
 //! every event, as an exact fraction, from the whole tempo map.
 
 /// A refusal: its number, and the place of the byte that shows it; the file's
