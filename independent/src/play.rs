@@ -6,8 +6,10 @@
 //! then scale, eps, decay and floor; from 28 on the samples, each with 32768
 //! added. Where settings are given, mode and channel stand in the places of
 //! number and room. Bytes of the keyboard stand in the place of samples, as
-//! many as the length says.
+//! many as the length says. Of a night the length of its blocks stands in the
+//! place of the sample rate.
 
+use crate::night::Night;
 use crate::rules::{cut, POSITION_UNIT};
 use crate::settings::Settings;
 use crate::statistics::Statistics;
@@ -26,6 +28,8 @@ type Numbers = [u32; 5];
 /// All twelve notes, at 44,100 and decay 0. The take opens with the defaults, and
 /// sends this later.
 const ALL: Numbers = [CD, 4095, 100, 0, 100];
+/// A alone, so that cycles are repeated and dropped.
+const SOME: Numbers = [CD, 0b0010_0000_0000, 150, 100, 50];
 
 /// What is asked of the tuner.
 #[derive(Clone, Copy, Debug, PartialEq, Eq)]
@@ -44,6 +48,10 @@ pub enum Call {
     /// The position is put level.
     Mend = 9,
     Midi = 10,
+    /// A block over the record lent, with the answers of `Block`.
+    BlockLent = 11,
+    /// A night over the record lent.
+    Night = 12,
 }
 
 /// One record.
@@ -100,6 +108,34 @@ fn said(answer: Answer, counts: Counts) -> String {
     format!("{} {written} {repeated} {dropped} ", answer.number())
 }
 
+/// A night's answer; without a block given again, zeros in its place.
+fn told(night: Night) -> String {
+    let Counts {
+        written,
+        repeated,
+        dropped,
+    } = night.counts;
+    let again = match night.again {
+        Some(counts) => said(Answer::GivenAgain, counts),
+        None => "0 0 0 0 ".into(),
+    };
+    let (number, refused) = (night.answer.number(), night.refused.unwrap_or(0));
+    let taken = night.taken;
+    format!("{number} {refused} {taken} {written} {repeated} {dropped} {again}")
+}
+
+/// What a block or a night is given: its samples, and an output of as much room
+/// as it says.
+fn lent(bytes: &[u8]) -> (Vec<i16>, Vec<i16>) {
+    let most = |at: usize| usize::from(word(bytes, at)).min(MOST);
+    let samples = (0..most(4)).map(|place| sample(bytes, place)).collect();
+    (samples, vec![7; most(6)])
+}
+
+fn levels(samples: &[i16]) -> String {
+    samples.iter().map(|&sample| level(sample)).collect()
+}
+
 fn level(sample: i16) -> String {
     format!("{} ", i32::from(sample) + 32_768)
 }
@@ -119,13 +155,11 @@ pub fn play(tuner: &mut Tuner, bytes: &[u8]) -> String {
         }
         2 => said(tuner.change(settings(bytes)), none),
         3 => said(tuner.reset(), none),
-        4 => {
-            let most = |at: usize| usize::from(word(bytes, at)).min(MOST);
-            let samples: Vec<i16> = (0..most(4)).map(|place| sample(bytes, place)).collect();
-            let mut output = vec![7i16; most(6)];
+        4 | 11 => {
+            let (samples, mut output) = lent(bytes);
             let seen = &mut Statistics::default();
             let (answer, counts) = tuner.block(word(bytes, 2), &samples, &mut output, seen);
-            said(answer, counts) + &output.into_iter().map(level).collect::<String>()
+            said(answer, counts) + &levels(&output)
         }
         5 => match tuner.meter() {
             Meter::Searching => "0 ".into(),
@@ -151,10 +185,16 @@ pub fn play(tuner: &mut Tuner, bytes: &[u8]) -> String {
             tuner.put_behind(0);
             String::new()
         }
-        _ => {
+        10 => {
             let length = usize::from(word(bytes, 4)).min(MOST);
             let midi = &bytes[SAMPLES..SAMPLES + length];
             said(tuner.midi(midi, &mut Statistics::default()), none)
+        }
+        _ => {
+            let (samples, mut output) = lent(bytes);
+            let (first, size) = (word(bytes, 2), long(bytes, HERTZ) as usize);
+            let seen = &mut Statistics::default();
+            told(tuner.night(first, size, &samples, &mut output, seen)) + &levels(&output)
         }
     }
 }
@@ -177,8 +217,6 @@ fn stretch(from: usize, length: usize) -> Vec<i16> {
 
 /// The scripted take: every call, every refusal, repeats and resets.
 pub fn script() -> Vec<u8> {
-    /// A alone, so that cycles are repeated and dropped.
-    const SOME: Numbers = [CD, 0b0010_0000_0000, 150, 100, 50];
     let mut bytes = Vec::new();
     let mut add = |call, number, room, numbers, samples: &[i16]| {
         bytes.extend(record(call, number, room, numbers, samples))
@@ -268,6 +306,8 @@ pub fn script() -> Vec<u8> {
     add(Call::Meter, 0, 0, ALL, none);
     bytes.extend(played());
     bytes.extend(filmed());
+    bytes.extend(lent_blocks());
+    bytes.extend(nights());
     bytes
 }
 
@@ -371,5 +411,124 @@ fn filmed() -> Vec<u8> {
         start(ALL),
         sung(0..6),
     ]);
+    records.concat()
+}
+
+/// The take goes on over the record lent, in turns with the calls by value: blocks
+/// taken, given again with changes and refusals between, and refused with 2 to 7
+/// and with 9.
+fn lent_blocks() -> Vec<u8> {
+    let none: &[i16] = &[];
+    let call = |call, numbers| record(call, 0, 0, numbers, none);
+    let block = |number, room, samples: &[i16]| record(Call::BlockLent, number, room, ALL, samples);
+    let mut records = vec![call(Call::Start, SOME)];
+    let mut at = 0;
+    for number in 0..24u16 {
+        let length = [512, 300, 1, 511][usize::from(number % 4)];
+        let samples = stretch(at, length);
+        let by = [Call::BlockLent, Call::BlockLent, Call::Block][usize::from(number % 3)];
+        let room = length as u16 + number % 2;
+        records.push(record(by, number, room, ALL, &samples));
+        records.push(call(Call::Meter, ALL));
+        at += length;
+        if number % 5 == 3 {
+            records.extend([
+                block(number, 513, &samples),
+                block(number, 513, &samples[1..]),
+                block(number + 1, 513, none),
+                block(number + 1, 513, &stretch(at, 513)),
+                block(number + 1, 9, &stretch(at, 10)),
+                block(number + 2, 512, &stretch(at, 10)),
+                call(Call::Change, if number == 8 { ALL } else { SOME }),
+                record(Call::Block, number, 512, ALL, &samples),
+                block(number, 512, &samples),
+            ]);
+        }
+        if number == 11 {
+            records.extend([
+                call(Call::Spoil, ALL),
+                block(number, 512, &samples),
+                block(number + 1, 0, none),
+                call(Call::Mend, ALL),
+            ]);
+        }
+    }
+    records.extend([
+        call(Call::Age, ALL),
+        block(24, 512, &stretch(at, 512)),
+        block(24, 8, &stretch(at, 8)),
+        block(24, 8, &stretch(at, 8)),
+        block(25, 512, &stretch(at + 8, 60)),
+    ]);
+    records.concat()
+}
+
+/// The take goes on by nights, each of some blocks: taken, begun by a block given
+/// again, and refused with 3 to 7 and with 9. Single blocks stand between, by value
+/// and over the record lent.
+fn nights() -> Vec<u8> {
+    const AT_FILM: Numbers = [FILM, 0b0010_0000_0000, 150, 100, 50];
+    let none: &[i16] = &[];
+    let call = |call, numbers| record(call, 0, 0, numbers, none);
+    let night = |number, size, room, samples: &[i16]| {
+        record(Call::Night, number, room, [size, 0, 0, 0, 0], samples)
+    };
+    let mut records = Vec::new();
+    // Up to 5,000 the voice is below the note and cycles are repeated; behind that it is
+    // above, and they are dropped.
+    for (start, from) in [(SOME, 0), (AT_FILM, 5_000)] {
+        let sung = |at: usize, length| stretch(from + at, length);
+        records.extend([
+            call(Call::Start, start),
+            // Six blocks, the last one short; it is given again, and more behind it.
+            night(0, 100, 513, &sung(0, 513)),
+            night(5, 13, 513, &sung(500, 513)),
+            call(Call::Meter, ALL),
+            // One block, as long as a block may be; a short one; many of one sample each.
+            night(45, 512, 512, &sung(1_013, 512)),
+            night(46, 512, 20, &sung(1_525, 19)),
+            night(47, 1, 41, &sung(1_544, 40)),
+            record(Call::Block, 87, 512, ALL, &sung(1_584, 512)),
+            night(87, 512, 513, &sung(1_584, 512)),
+            record(Call::BlockLent, 87, 512, ALL, &sung(1_584, 512)),
+            // No block at all.
+            night(88, 512, 0, none),
+            night(9, 1, 30, none),
+        ]);
+        // Refused before the first block: 3 goes before 4.
+        for size in [0, 513, u32::MAX] {
+            records.push(night(88, size, 513, &sung(2_096, 513)));
+            records.push(night(88, size, 9, &sung(2_096, 10)));
+        }
+        records.extend([
+            night(88, 64, 512, &sung(2_096, 513)),
+            night(88, 64, 0, &sung(2_096, 1)),
+            // Refused at it: a number that is neither next nor last, and the last
+            // one with other samples.
+            night(89, 64, 513, &sung(2_096, 513)),
+            night(86, 64, 513, &sung(2_096, 513)),
+            night(87, 64, 513, &sung(2_096, 513)),
+            night(87, 512, 513, &sung(1_583, 513)),
+            call(Call::Spoil, ALL),
+            night(88, 64, 513, &sung(2_096, 513)),
+            night(88, 0, 9, &sung(2_096, 10)),
+            call(Call::Mend, ALL),
+        ]);
+        // A long voice, the last block again at the head of each night.
+        let (mut at, mut number) = (2_096, 88u16);
+        for _ in 0..16 {
+            records.push(night(number, 128, 512, &sung(at, 512)));
+            records.push(call(Call::Meter, ALL));
+            (at, number) = (at + 384, number + 3);
+        }
+        // Near the take's limit: some blocks are taken, then one is refused.
+        records.extend([
+            call(Call::Age, ALL),
+            night(number, 128, 512, &sung(at, 512)),
+            night(number + 1, 8, 513, &sung(at + 128, 120)),
+            night(number + 1, 8, 513, &sung(at + 128, 120)),
+            call(Call::Meter, ALL),
+        ]);
+    }
     records.concat()
 }

@@ -1,4 +1,4 @@
--- The account: what holds after any series of calls. Definitions only, and three statements (`Theorem`, `SentAgain`, `NightTheorem`); their proofs are `holds` and `again-holds` in Holds.antt, and `night-holds` in Nightly.antt.
+-- The account: what holds after any series of calls. Definitions only, and five statements (`Theorem`, `ToneTheorem`, `LateTheorem`, `SentAgain`, `NightTheorem`); their proofs are `holds`, `tone-holds`, `late-holds` and `again-holds` in Holds.antt, and `night-holds` in Nightly.antt.
 -- README lists what is to be read before it.
 use mathlib.Core.Path.{_≡_}
 use mathlib.Core.Bool.{cond}
@@ -9,8 +9,8 @@ use lib.IntN.{ℤ, pos, _+ℤ_, _-ℤ_}
 use lib.ListN.{length, take}
 use Rattle.rules.specs.declared.Settings.{Settings}
 use Rattle.rules.specs.Rules.{Sound, silence, heardAll, Given, cycles, defaults, cdRate, after, samplesOut, allRepeated, allDropped, eighthLags}
-use Rattle.rules.specs.Facts.{InBounds, Right}
-use Rattle.history.specs.History.{Event, sample, new-settings, byte, Course, freshCourse, courseAfter, givenBy, samplesIn, ratesUsed, totalOf}
+use Rattle.rules.specs.Facts.{InBounds, Right, valueAt, SixteenBits, WithoutPeriod}
+use Rattle.history.specs.History.{Event, sample, new-settings, byte, Course, freshCourse, courseAfter, givenBy, samplesIn, ratesUsed, totalOf, NonePitched, fourLate}
 use Rattle.tuner.specs.declared.Tuner.{Tuner}
 use Rattle.answers.specs.declared.Answer.{Answer}
 use Rattle.meters.specs.declared.Meter.{Meter}
@@ -135,6 +135,16 @@ pub record Accounted (r : Received) (t : Tuner) : Type 0 where
 -- after any series of calls
 abbrev pub Theorem : Type 0
 Theorem = (cs : List Call) (t : Tuner) → Series cs t → Accounted (received cs) t
+
+-- after any series of calls: a tuner without a period has no wanted note, the rate 65536, and nothing kept
+abbrev pub ToneTheorem : Type 0
+ToneTheorem = (cs : List Call) (t : Tuner) → Series cs t → WithoutPeriod (t .pitch .tone)
+
+-- until a period is tracked, what was written is what was received, four samples late; the samples have 16 bits
+abbrev pub LateTheorem : Type 0
+LateTheorem =
+    (cs : List Call) (t : Tuner) → Series cs t → ((i : ℕ) → SixteenBits (valueAt (samplesOf (received cs)) i)) → NonePitched (givenOf (received cs))
+    → received cs .written ≡ fourLate (samplesOf (received cs))
 
 -- ---- a block sent again
 

@@ -14,12 +14,13 @@ use Rattle.whole.specs.Tests.{by, cond-case, cond-yes, cond-no}
 use Rattle.rules.specs.declared.Settings.{Settings}
 use Rattle.rules.specs.Rules.{Sound, heardAll, Given, freshTake, defaults, cdRate, startNumber, stepped, after, samplesOut, gathered, allRepeated, allDropped, eighthLags}
 use Rattle.rules.specs.Ranges.{unrefused-start, default-start}
-use Rattle.rules.specs.Facts.{InRange, SampleRate, InBounds, Right, energiesOf, correlationsOf}
+use Rattle.rules.specs.Facts.{InRange, SampleRate, InBounds, Right, WithoutPeriod, energiesOf, correlationsOf}
 use Rattle.rules.specs.Blocks.{gives-length, samplesOut-append, gathered-append}
 use Rattle.rules.specs.Sane.{always-in-bounds}
 use Rattle.history.specs.History.{Event, sample, new-settings, byte, Course, freshCourse, forceAt, happened, courseAfter, givenBy, samplesIn}
 use Rattle.history.specs.Courses.{courseAfter-append, givenBy-append, given-samples, given-bytes, course-hertz, course-count, course-sound, CourseIn, EventsIn, course-force, fresh-course-in, course-in, events-in-append, samples-in, bytes-in}
 use Rattle.history.specs.Accounts.{account}
+use Rattle.history.specs.Unpitched.{without-period, four-late}
 use Rattle.pitch.specs.Pitches.{PitchRight, keptOf}
 use Rattle.pitch.specs.Keeping.{listed-right, kept-right}
 use Rattle.answers.specs.declared.Answer.{Answer}
@@ -34,7 +35,7 @@ use Rattle.tuner.specs.Taking.{eighths-next}
 use Rattle.tuner.specs.Verdicts.{tuner-taken, verdict-fits}
 use Rattle.staying.specs.Staying.{Lengths, good-fresh, fresh-lengths, good-sane, took-good, changed-good, keyed-good, took-number, took-keeps, untaken-unchanged, overlaid-starts}
 use Rattle.account.specs.Calls.{again-after, good-never-nine}
-use Rattle.account.specs.Account.{Call, Leaves, by-start, by-change, by-block, by-midi, by-reset, by-meter, Series, fresh-start, and-then, Received, begun, courseOf, withEvents, withBlock, ifTaken, plus, received, givenOf, heardOf, eighthsOf, Accounted, Theorem, SentAgain, NeverNine}
+use Rattle.account.specs.Account.{Call, Leaves, by-start, by-change, by-block, by-midi, by-reset, by-meter, Series, fresh-start, and-then, Received, begun, courseOf, withEvents, withBlock, ifTaken, plus, received, givenOf, heardOf, eighthsOf, Accounted, Theorem, ToneTheorem, LateTheorem, SentAgain, NeverNine}
 use Rattle.account.specs.Cutting.{tunerAfter, TunerTheorem, SameTake, Alike, CuttingTheorem, AllTaken, fresh-tuner, then-block, then-change, then-bytes, FreshTheorem}
 use Rattle.account.specs.Following.{course-agree, fresh-after, block-after, change-after, bytes-after}
 
@@ -292,12 +293,16 @@ again-holds cs t u w w′ k xs ys zs ys₂ zs₂ a b h p z m room q = let kept =
 pub never-nine : {cs : List Call} {t : Tuner} → Series cs t → NeverNine t
 never-nine h = good-never-nine (series-keeps h .good)
 
--- nor is anything kept of rounding where one has no period: searching, and locking
-pub nothing-kept : {cs : List Call} {t : Tuner} → Series cs t → t .pitch .tone .period ≡ 0 → t .pitch .tone .kept ≡ 0
+-- without a period one has no note, the rate 65536, and nothing kept: searching, and locking
+pub tone-holds : ToneTheorem
 unfolding tunerAfter
-nothing-kept {cs} {t} h =
-    let k = series-keeps h in
-    subst (λ (u : Tuner). u .pitch .tone .period ≡ 0 → u .pitch .tone .kept ≡ 0) (sym (k .is)) (course-right k .cleared)
+tone-holds cs t h =
+    let r = received cs in
+    subst (λ (u : Tuner). WithoutPeriod (u .pitch .tone)) (sym (series-keeps h .is)) (without-period (r .hertz) (r .settings) (r .events))
+
+-- until one has had a period, it wrote what it received, four samples late
+pub late-holds : LateTheorem
+late-holds cs t h b n = let r = received cs in series-keeps h .written ∙ four-late (r .hertz) (r .settings) (r .events) b n
 
 -- what happened is in its ranges
 pub events-in : {cs : List Call} {t : Tuner} → Series cs t → CourseIn (freshCourse (received cs .hertz) (received cs .settings)) × EventsIn (received cs .events)

@@ -5,5 +5,8 @@ pub mod Following
 pub mod Holds
 pub mod Nightly
 pub mod Hosted
+pub mod Hosting
 pub mod Wrong
+pub mod ShutOut
 pub mod WrongCuts
+pub mod CutsShutOut

@@ -1,37 +1,20 @@
--- Three wrong programs, by which the cutting of a take would matter, and that the promise of a block shuts out each of them: definitions, the statement `CutsShutOut` and its proof (`cuts-shut-out`).
--- Each is told by what it would do to any block. The promise settles otherwise what becomes of a tone with 24 samples a cycle, in the sample at which a search or a step is due.
-use mathlib.Core.Path.{_≡_, refl, sym, ap, _∙_, subst}
+-- Three wrong programs, by which the cutting of a take would matter, and that no program which keeps the promise of a block is one of them (`CutsShutOut`). Definitions only.
+use mathlib.Core.Path.{_≡_}
 use mathlib.Core.Bool.{cond}
-use mathlib.Core.List.{List, [], _∷_, map}
-use Prim.Native.Nat.{ℕ, _+_, _*_, _/_, _%_, _≤_, _<_}
-use native.Mathlib.Omega.{arith}
+use mathlib.Core.List.{List, [], _∷_}
+use Prim.Native.Nat.{ℕ, _+_, _*_, _/_, _%_, _<_}
 use lib.Dec.{eqb}
-use lib.IntN.{ℤ, pos, negℤ, _-ℤ_}
+use lib.IntN.{ℤ, pos, negℤ}
 use lib.ListN.{length}
-use Rattle.whole.specs.Numbers.{fold}
-use Rattle.whole.specs.Ring.{var, con, _⊖_, solve}
 use Rattle.rules.specs.declared.Settings.{Settings}
-use Rattle.rules.specs.declared.Tone.{Tone}
-use Rattle.rules.specs.Rules.{settingsNumber, Sound, heard, E, H, D, eighthSample, eighthDue, meetsEps, meetsFloor, passes, isLow, leastFrom, lowAbove, choice, foundBy, found, leastPlace, best, isLost, offset, period, moved, noTone, noPeriod, Mode, searching, tracking, searched, tuned, tracked, stepDue, listenedIn, listened, inputAt, freshTake, eighthsAfter, stepped, cdRate, defaults, keptSamples, keptEighths, eighthLags}
-use Rattle.rules.specs.Ranges.{unrefused-start, default-start}
-use Rattle.rules.specs.Facts.{ModeIn}
-use Rattle.rules.specs.Sane.{fresh-sane}
-use Rattle.rules.specs.Position.{behind-in-bounds, in-bounds-behind}
+use Rattle.rules.specs.Rules.{Sound, noPeriod, Mode, searching, tracking, inputAt, cdRate, defaults}
 use Rattle.keyboard.specs.Keys.{fresh}
-use Rattle.keyboard.specs.Playing.{fresh-in}
-use Rattle.history.specs.History.{sample, new-settings, Course, happened, courseAfter}
-use Rattle.history.specs.Courses.{CourseIn, happened-in}
-use Rattle.pitch.specs.declared.Pitch.{Pitch as KeptPitch}
-use Rattle.pitch.specs.Pitches.{PitchRight, trackingOf}
-use Rattle.pitch.specs.Keeping.{listed-right, kept-right}
-use Rattle.record.specs.Records.{soundOf, noLast}
-use Rattle.answers.specs.declared.Answer.{Answer}
+use Rattle.history.specs.History.{Course}
+use Rattle.record.specs.Records.{noLast}
 use Rattle.tuner.specs.declared.Tuner.{Tuner}
-use Rattle.tuner.specs.Tuners.{Good, withSettings, Verdict, taken, Took}
-use Rattle.tuner.specs.Taking.{right-alike}
-use Rattle.account.specs.Cutting.{newest, tunerAfter}
-use Rattle.account.specs.Following.{newest-sound, kept-newest, block-after}
-use Rattle.account.specs.Wrong.{Done, Program, Keeps, Gives, tuner-is, gives-it}
+use Rattle.tuner.specs.Tuners.{withSettings}
+use Rattle.account.specs.Cutting.{tunerAfter}
+use Rattle.account.specs.Wrong.{Program, Keeps, Gives}
 
 -- ---- the list
 
@@ -105,117 +88,3 @@ pub record CutsRight (q : Program) : Type 0 where
 -- no program that keeps the promise, if only on those calls, is one of the list
 abbrev pub CutsShutOut : Type 0
 CutsShutOut = (q : Program) → TriedCuts q → CutsRight q
-
--- ---- what the rules make of the tone: its period, 24 samples; with the other settings it is lost
-abbrev softened : Course
-softened = courseAfter foundTone (new-settings loudOnly ∷ [])
-
--- the period after samples
-abbrev periodAfter : Course → List ℤ → ℕ
-periodAfter c xs = courseAfter c (map sample xs) .take .pitch .tone .period
-
-period-found : periodAfter searchingTone sixSamples ≡ 6144
-unfolding toneFor wave fold heard E H D eighthSample eighthDue meetsEps meetsFloor passes isLow leastFrom lowAbove choice foundBy found leastPlace best isLost offset period moved noTone searched tuned tracked stepDue listenedIn listened eighthsAfter stepped happened courseAfter defaults
-period-found = refl
-
-period-tracked : (periodAfter foundTone oneSample ≡ 6144) × (periodAfter softened oneSample ≡ 0)
-unfolding toneFor loudOnly wave fold heard E H D eighthDue meetsEps meetsFloor passes leastPlace best isLost offset period moved noTone tuned tracked stepDue listenedIn listened eighthsAfter stepped happened courseAfter defaults
-period-tracked = (refl, refl)
-
--- ---- the tuners are good, and take the blocks
-tone-in : (n d : ℕ) (m : Mode) → ModeIn m → CourseIn (toneFor n d m)
-unfolding toneFor freshTake noTone
-tone-in n d m l =
-    let r = unrefused-start defaults default-start in
-    record {
-      settings = r .1;
-      hertz = r .0;
-      keyboard = fresh-in;
-      take = record { pitch = record { tone = fresh-sane .pitch .tone; lags = l; whileSearching = λ e. refl }; bounds = behind-in-bounds {b = 0} (record { is = level (inputAt n); near = omega arith }) };
-      cleared = λ e. refl;
-    }
-  where
-    level : (z : ℤ) → z ≡ z -ℤ pos 0
-    level z = solve (z ∷ []) (var 0) (var 0 ⊖ con (pos 0)) refl
-
-searching-in : CourseIn searchingTone
-searching-in = tone-in 1799 1 searching tt
-
-found-in : CourseIn foundTone
-found-in = tone-in 1804 20 (tracking 21 24) (record { from = omega arith; upto = omega arith; lastFrom = omega arith; lastUpto = omega arith })
-
-softened-in : CourseIn softened
-unfolding courseAfter loudOnly settingsNumber
-softened-in = happened-in (new-settings loudOnly) found-in refl
-
--- after a take that is longer than what is kept
-module _ {c : Course} (i : CourseIn c) (long : 1792 ≤ c .take .count) (short : c .take .count ≤ 1804) where
-  long-good : Good (tunerAfter c noLast)
-  unfolding tunerAfter noLast
-  long-good =
-      let t = c .take in
-      record {
-        settings = i .settings;
-        hertz = i .hertz;
-        keyboard = i .keyboard;
-        heard =
-            record {
-              count = omega arith;
-              before = λ j h. absurd (omega arith);
-              eighthsBefore = λ j h. absurd (omega arith);
-              sums = right-alike (λ k h. sym (newest-sound keptEighths (t .eighths) k (omega arith))) (listed-right (t .eighths) 2 eighthLags);
-            };
-        pitch = subst (PitchRight (soundOf (newest keptSamples (t .sound)))) (kept-newest (t .pitch) (t .sound) (i .take .pitch)) (kept-right (t .pitch) _ (i .take .pitch));
-        head = record { behind = in-bounds-behind (i .take .bounds) .near };
-        last = record { length = omega arith; within = omega arith };
-      }
-
-  module _ (xs : List ℤ) (some : 0 < length xs) (few : length xs ≤ 6) where
-    long-taken : Verdict (tunerAfter c noLast) 0 xs (length xs) 0
-    unfolding tunerAfter noLast
-    long-taken = taken (record { good = long-good; nonempty = some; most = omega arith; written = omega arith }) (λ l. omega arith) refl (omega arith)
-
-    -- what keeps the promise takes the block, and leaves the period that the rules find
-    long-gives : {t′ : Tuner} {a : Answer} {zs : List ℤ} → Took (tunerAfter c noLast) 0 xs xs t′ a zs → (a .number ≤ 1) × (t′ .pitch .tone .period ≡ periodAfter c xs)
-    unfolding tunerAfter
-    long-gives p = (gives-it long-taken p, ap (λ (u : Tuner). u .pitch .tone .period) (tuner-is long-taken p ∙ block-after i noLast 0 xs))
-
--- ---- each of the list
-module _ {q : Program} (tried : TriedCuts q) where
-  abbrev six : Done
-  six = q searchingTuner 0 sixSamples sixSamples
-
-  abbrev one : Done
-  one = q foundTuner 0 oneSample oneSample
-
-  abbrev soft : Done
-  soft = q (withSettings foundTuner loudOnly) 0 oneSample oneSample
-
-  six-gives : (six .answer .number ≤ 1) × (six .tuner .pitch .tone .period ≡ periodAfter searchingTone sixSamples)
-  unfolding toneFor
-  six-gives = long-gives searching-in (omega arith) (omega arith) sixSamples (omega arith) (omega arith) (tried .searches)
-
-  one-gives : (one .answer .number ≤ 1) × (one .tuner .pitch .tone .period ≡ periodAfter foundTone oneSample)
-  unfolding toneFor
-  one-gives = long-gives found-in (omega arith) (omega arith) oneSample (omega arith) (omega arith) (tried .steps)
-
-  soft-gives : (soft .answer .number ≤ 1) × (soft .tuner .pitch .tone .period ≡ periodAfter softened oneSample)
-  unfolding toneFor courseAfter happened tunerAfter
-  soft-gives = long-gives softened-in (omega arith) (omega arith) oneSample (omega arith) (omega arith) (tried .changed)
-
-  not-by-place : StepsByPlace q → ⊥
-  unfolding toneFor tunerAfter noTone trackingOf
-  not-by-place all =
-      let kept = ap (λ (o : Tone). o .period) (all foundTuner 0 oneSample oneSample (one-gives .0) (omega arith) refl) in omega (arith, kept, one-gives .1, period-tracked .0)
-
-  not-at-the-end : SearchesAtTheEnd q → ⊥
-  unfolding toneFor tunerAfter trackingOf
-  not-at-the-end all = omega (arith, all searchingTuner 0 sixSamples sixSamples (six-gives .0) refl, six-gives .1, period-found)
-
-  not-late : SettingsLate q → ⊥
-  not-late all =
-      let same = ap (λ (v : KeptPitch). v .tone .period) (all foundTuner loudOnly 0 oneSample oneSample (soft-gives .0) (one-gives .0)) in
-      omega (arith, same, soft-gives .1, one-gives .1, period-tracked .0, period-tracked .1)
-
-pub cuts-shut-out : CutsShutOut
-cuts-shut-out q tried = record { stepsByPlace = not-by-place tried; searchesAtTheEnd = not-at-the-end tried; settingsLate = not-late tried }

@@ -5,3 +5,4 @@ pub mod Backs
 pub mod Stays
 pub mod Totals
 pub mod Hosted
+pub mod Hosting

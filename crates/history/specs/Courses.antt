@@ -9,7 +9,6 @@ use Rattle.rules.specs.declared.Settings.{Settings}
 use Rattle.rules.specs.Rules.{Take, Given, heardAll, stepped, after, gives}
 use Rattle.rules.specs.Facts.{InRange, SampleRate, ForceIn}
 use Rattle.rules.specs.Sane.{Sane, fresh-sane, stepped-sane}
-use Rattle.rules.specs.Held.{Cleared, fresh-cleared, stepped-cleared}
 use Rattle.keyboard.specs.declared.Keyboard.{Keyboard}
 use Rattle.keyboard.specs.Keys.{played, KeyboardIn}
 use Rattle.keyboard.specs.Playing.{fresh-in, afterByte-in, onChannel-in}
@@ -91,13 +90,12 @@ givenBy-length c (byte b ∷ es) = givenBy-length (happened c (byte b)) es
 
 -- ---- every range is kept, at every event
 
--- a course in its ranges; and without a period nothing is kept of rounding
+-- a course in its ranges
 pub record CourseIn (c : Course) : Type 0 where
   pub settings : InRange (c .settings)
   pub hertz : SampleRate (c .hertz)
   pub keyboard : KeyboardIn (c .keyboard)
   pub take : Sane (c .take)
-  pub cleared : Cleared (c .take .pitch)
 
 -- an event in its ranges: new settings are
 abbrev pub EventIn : Event → Type 0
@@ -113,15 +111,15 @@ pub course-force : {c : Course} → CourseIn c → ForceIn (forceAt c)
 course-force i = record { settings = i .settings; key = i .keyboard .key; hertz = i .hertz }
 
 pub fresh-course-in : {hertz : ℕ} {s : Settings} → SampleRate hertz → InRange s → CourseIn (freshCourse hertz s)
-fresh-course-in rate e = record { settings = e; hertz = rate; keyboard = fresh-in; take = fresh-sane; cleared = fresh-cleared }
+fresh-course-in rate e = record { settings = e; hertz = rate; keyboard = fresh-in; take = fresh-sane }
 
 pub happened-in : {c : Course} (e : Event) → CourseIn c → EventIn e → CourseIn (happened c e)
 unfolding happened
 happened-in (sample x) i r =
     let f = course-force i in
-    record { settings = i .settings; hertz = i .hertz; keyboard = i .keyboard; take = stepped-sane f (i .take) x; cleared = stepped-cleared _ (i .take) (i .cleared) x }
-happened-in (new-settings s) i r = record { settings = r; hertz = i .hertz; keyboard = onChannel-in _ _ _ (i .keyboard); take = i .take; cleared = i .cleared }
-happened-in (byte b) i r = record { settings = i .settings; hertz = i .hertz; keyboard = afterByte-in _ (i .keyboard) b; take = i .take; cleared = i .cleared }
+    record { settings = i .settings; hertz = i .hertz; keyboard = i .keyboard; take = stepped-sane f (i .take) x }
+happened-in (new-settings s) i r = record { settings = r; hertz = i .hertz; keyboard = onChannel-in _ _ _ (i .keyboard); take = i .take }
+happened-in (byte b) i r = record { settings = i .settings; hertz = i .hertz; keyboard = afterByte-in _ (i .keyboard) b; take = i .take }
 
 pub course-in : {c : Course} (es : List Event) → CourseIn c → EventsIn es → CourseIn (courseAfter c es)
 unfolding courseAfter

@@ -1,10 +1,14 @@
--- The history of a take: what happened in it, one after the other; how far the take has come by it; and what the rules give for each sample. Definitions only.
-use mathlib.Core.List.{List, [], _∷_, map}
+-- The history of a take: what happened in it, one after the other; how far the take has come by it; and what the rules give for each sample. Definitions only;
+-- of the two statements at its end the proofs are `without-period` and `four-late` in Unpitched.antt.
+use mathlib.Core.Path.{_≡_}
+use mathlib.Core.List.{List, [], _∷_, _++_, map}
 use Prim.Native.Nat.{ℕ, _+_}
-use lib.IntN.{ℤ}
+use lib.IntN.{ℤ, pos}
+use lib.ListN.{length, take, replicate}
 use Rattle.rules.specs.declared.Settings.{Settings}
 use Rattle.rules.specs.declared.InForce.{InForce}
-use Rattle.rules.specs.Rules.{Take, Given, freshTake, stepped}
+use Rattle.rules.specs.Rules.{Take, Given, freshTake, stepped, samplesOut}
+use Rattle.rules.specs.Facts.{valueAt, SixteenBits, WithoutPeriod}
 use Rattle.keyboard.specs.declared.Keyboard.{Keyboard}
 use Rattle.keyboard.specs.Keys.{fresh, afterByte, onChannel}
 
@@ -62,3 +66,25 @@ ratesUsed gs = map (λ (g : Given). g .tone .rate) gs
 unfoldable pub totalOf : List ℕ → ℕ
 totalOf [] = 0
 totalOf (r ∷ rs) = r + totalOf rs
+
+-- ---- without a period
+
+-- after anything that happened: without a period there is no wanted note, the rate is 65536, and nothing is kept
+abbrev pub WithoutPeriodTheorem : Type 0
+WithoutPeriodTheorem = (hertz : ℕ) (s : Settings) (es : List Event) → WithoutPeriod (courseAfter (freshCourse hertz s) es .take .pitch .tone)
+
+-- no period is tracked at any of the samples
+unfoldable pub NonePitched : List Given → Type 0
+NonePitched [] = Unit
+NonePitched (g ∷ gs) = (g .tone .period ≡ 0) × NonePitched gs
+
+-- samples four late: four zeros, and then they, as many as came
+abbrev pub fourLate : List ℤ → List ℤ
+fourLate xs = take (length xs) (replicate 4 (pos 0) ++ xs)
+
+-- until a period is tracked, output is the input four samples late; the samples have 16 bits
+abbrev pub FourLate : Type 0
+FourLate =
+    (hertz : ℕ) (s : Settings) (es : List Event)
+    → ((i : ℕ) → SixteenBits (valueAt (samplesIn es) i)) → NonePitched (givenBy (freshCourse hertz s) es)
+    → samplesOut (givenBy (freshCourse hertz s) es) ≡ fourLate (samplesIn es)

@@ -1,3 +1,4 @@
 pub mod History
 pub mod Courses
+pub mod Unpitched
 pub mod Accounts

@@ -1,3 +1,4 @@
 pub mod Keys
 pub mod Playing
 pub mod Worked
+pub mod Computed

@@ -1,13 +1,15 @@
--- Recordings left by a recorder that stopped, in the words of change request K9: which two sizes of a WAVE file are bad, and what they become. Definitions only.
-use mathlib.Core.Bool.{Bool, not, cond, _||_}
+-- Recordings left by a recorder that stopped, in the words of change request K9: which two sizes of a WAVE file are bad, and what they become; and what mending keeps. Definitions only.
+use mathlib.Core.Path.{_≡_}
+use mathlib.Core.Logic.{_⊎_}
+use mathlib.Core.Bool.{Bool, false, not, cond, _||_}
 use mathlib.Core.List.{List, [], _∷_}
 use mathlib.Core.Option.{Option, none, some}
-use Prim.Native.Nat.{ℕ, _+_, _-_, _%_}
+use Prim.Native.Nat.{ℕ, _+_, _-_, _/_, _%_, _≤_, _<_}
 use lib.Dec.{leb, ltb, eqb}
-use lib.ListN.{length}
+use lib.ListN.{length, getD}
 use lib.Seq.{sets}
-use Rattle.riff.specs.Riff.{numberAt, bytesOf, Chunk, chunks, firstOf, fmtName, dataName, refusedBy}
-use Rattle.wave.specs.Waves.{isWave, noFmt, wrongFmt, noData}
+use Rattle.riff.specs.Riff.{numberAt, bytesOf, Chunk, chunks, firstOf, anyPast, fmtName, dataName, refusedBy}
+use Rattle.wave.specs.Waves.{isWave, riffEnd, chunksOf, noFmt, wrongFmt, noData, refusal, placeOf, countOf}
 use Rattle.mending.specs.declared.Mending.{Mending}
 
 -- chunks are walked as far as the file's end
@@ -67,3 +69,24 @@ mendedBy file m = sets (sets file (m .riff .at) (bytesOf 4 (m .riff .new))) (m .
 
 unfoldable pub mended : List ℕ → List ℕ
 mended file = cond (eqb (mendingOf file .number) 0) (mendedBy file (mendingOf file)) file
+
+-- ---- the statements of the theorems
+
+-- the byte at a place is none of the four from another on
+abbrev pub NotOfFour : (at i : ℕ) → Type 0
+NotOfFour at i = (i < at) ⊎ (at + 4 ≤ i)
+
+-- no byte but those eight may alter: the length stays, and every byte outside the two sizes
+abbrev pub OnlyTheSizes : Type 0
+OnlyTheSizes =
+    (file : List ℕ) → (length (mended file) ≡ length file) × ((i : ℕ) → NotOfFour (mendingOf file .riff .at) i → NotOfFour (mendingOf file .data .at) i → getD (mended file) i 0 ≡ getD file i 0)
+
+-- mending twice changes nothing more
+abbrev pub MendedTwice : Type 0
+MendedTwice = (file : List ℕ) → mended (mended file) ≡ mended file
+
+-- a mended file is read where its data size is even and no chunk runs past its RIFF chunk: its samples are those of the mended data
+abbrev pub MendedIsRead : Type 0
+MendedIsRead =
+    (file : List ℕ) → unmended file ≡ 0 → mendingOf file .data .new % 2 ≡ 0 → anyPast (riffEnd (mended file)) (chunksOf (mended file)) ≡ false
+    → (refusal (mended file) ≡ 0) × (placeOf (mended file) ≡ mendingOf file .data .at + 4) × (countOf (mended file) ≡ mendingOf file .data .new / 2)

@@ -15,8 +15,8 @@ use Rattle.riff.specs.Chunks.{first-shorter}
 use Rattle.wave.specs.Waves.{riffEnd, walkEnd, chunksOf, fmtOf, dataOf, refusal, placeIn, placeOf, countIn, countOf}
 use Rattle.wave.specs.Judging.{Right, of-right}
 use Rattle.mending.specs.declared.Mending.{Mending}
-use Rattle.mending.specs.Mendings.{left, riffSize, mendingOf, mended}
-use Rattle.mending.specs.Twice.{data-inside, riff-inside, Mendable, mending-is, mended-is, at, size, outer, length-same, high, riff-stored, data-new, fmt-both, fmt-kept, fmt-taken, begins}
+use Rattle.mending.specs.Mendings.{left, riffSize, mendingOf, MendedIsRead}
+use Rattle.mending.specs.Twice.{data-inside, riff-inside, Mendable, mendable, mending-is, mended-is, at, size, outer, length-same, high, riff-stored, data-new, fmt-both, fmt-kept, fmt-taken, begins}
 
 -- the mended RIFF size reaches as far as the mended data
 riff-reaches : (n old end : ℕ) → 8 ≤ n → end ≤ n → end ≤ 8 + riffSize n old end
@@ -65,15 +65,15 @@ module _ (file : List ℕ) (m : Mendable file) where
         riff-inside = inside;
       }
 
--- a mended file is taken where its data size is even and no chunk runs past its RIFF chunk: its samples are those of the mended data
-pub mended-read : (file : List ℕ) (m : Mendable file) → mendingOf file .data .new % 2 ≡ 0 → anyPast (riffEnd (mended file)) (chunksOf (mended file)) ≡ false →
-    (refusal (mended file) ≡ 0) × (placeOf (mended file) ≡ m .data′ .at + 8) × (countOf (mended file) ≡ mendingOf file .data .new / 2)
+pub mended-read : MendedIsRead
 unfolding placeIn countIn
-mended-read file m even past =
+mended-read file u even past =
+    let m = mendable file u in
     let e = mended-is file m in
     let n = ap (λ (k : Mending). k .data .new) (mending-is file m) in
+    let place : mendingOf file .data .at ≡ m .data′ .at + 4 = ap (λ (k : Mending). k .data .at) (mending-is file m) in
     let r = mended-right file m (ap (λ (k : ℕ). k % 2) (sym n) ∙ even) (ap (λ (g : List ℕ). anyPast (riffEnd g) (chunksOf g)) (sym e) ∙ past) in (
       ap refusal e ∙ of-right (outer file m) r,
-      ap placeOf e ∙ ap placeIn (data-read file m),
+      ap placeOf e ∙ ap placeIn (data-read file m) ∙ omega (arith, place),
       ap countOf e ∙ ap countIn (data-read file m) ∙ ap (λ (k : ℕ). k / 2) (sym n),
     )

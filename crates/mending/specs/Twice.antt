@@ -1,7 +1,7 @@
 -- Mending changes no byte but the two sizes' eight, and mending twice changes nothing more:
 -- the walk over the mended file comes by the same chunks as far as the data, and each new size is its own mending.
 use mathlib.Core.Path.{_≡_, refl, sym, ap, _∙_, subst}
-use mathlib.Core.Logic.{inl, inr}
+use mathlib.Core.Logic.{inl, inr, ⊎-elim}
 use mathlib.Core.Bool.{Bool, true, false, not, cond, _&&_, _||_}
 use mathlib.Core.List.{List, _∷_}
 use mathlib.Core.Option.{Option, none, some, Option·some-injective, Option·some-ne-none}
@@ -20,7 +20,7 @@ use Rattle.riff.specs.Walking.{chunks-more}
 use Rattle.riff.specs.Refusals.{passed}
 use Rattle.wave.specs.Waves.{riffName, waveName, isWave, fieldsRight, fmtRight, noFmt, wrongFmt, noData}
 use Rattle.wave.specs.Pieces.{fields-same}
-use Rattle.mending.specs.Mendings.{fmtIn, dataIn, unmended, left, dataSize, riffSize, sizesOf, mendingIn, mendingOf, mendedBy, mended}
+use Rattle.mending.specs.Mendings.{fmtIn, dataIn, unmended, left, dataSize, riffSize, sizesOf, mendingIn, mendingOf, mendedBy, mended, NotOfFour, OnlyTheSizes, MendedTwice}
 
 -- ---- a walk over two files that are the same, from place 12 on, but for the data chunk's size
 module _ (file file′ : List ℕ) (end : ℕ) (d : Chunk) (size : ℕ) (same : (at k : ℕ) → 12 ≤ at → at + k ≤ d .at + 4 → numberAt file′ at k ≡ numberAt file at k)
@@ -286,39 +286,33 @@ unfolding again
 outer-again file m = mended-is (outer file m) (again file m) ∙ both-there file m
 
 -- ---- any file
-module _ (file : List ℕ) where
-  -- one that is refused stays
-  refused-stays : eqb (unmended file) 0 ≡ false → mended file ≡ file
-  unfolding mended mendingOf
-  refused-stays e = rw (e, e)
 
-  -- mending twice changes nothing more
-  pub mended-twice : mended (mended file) ≡ mended file
-  mended-twice =
-      by (eqb (unmended file) 0)
-      (λ e. let m = mendable file (eqb-true (unmended file) 0 e) in ap mended (mended-is file m) ∙ outer-again file m ∙ sym (mended-is file m))
-      (λ e. ap mended (refused-stays e))
+-- one that is refused stays
+refused-stays : (file : List ℕ) → eqb (unmended file) 0 ≡ false → mended file ≡ file
+unfolding mended mendingOf
+refused-stays file e = rw (e, e)
 
-  -- the mended file's data chunk stands where it stood, and has the size that was decided
-  pub mended-data : (m : Mendable file) → dataIn (mended file) ≡ some (record { at = m .data′ .at; name = m .data′ .name; size = mendingOf file .data .new })
-  mended-data m = ap dataIn (mended-is file m) ∙ data-new file m ∙ (λ i. some (record { at = m .data′ .at; name = m .data′ .name; size = sym (mending-is file m) i .data .new }))
+pub mended-twice : MendedTwice
+mended-twice file =
+    by (eqb (unmended file) 0)
+    (λ e. let m = mendable file (eqb-true (unmended file) 0 e) in ap mended (mended-is file m) ∙ outer-again file m ∙ sym (mended-is file m))
+    (λ e. ap mended (refused-stays file e))
 
-  -- the length stays, and every byte outside the two sizes
-  pub mended-length : length (mended file) ≡ length file
-  unfolding mended
-  mended-length =
-      let m = mendingOf file in
-      let one = sets file (m .riff .at) (bytesOf 4 (m .riff .new)) in
+-- four bytes stored
+four-outside : (at n : ℕ) {i : ℕ} → NotOfFour at i → Outside at (length (bytesOf 4 n)) i 1
+four-outside at n o = ⊎-elim (λ h. inl (omega arith)) (λ h. inr (omega (arith, h, length-bytesOf 4 n))) o
+
+pub only-the-sizes : OnlyTheSizes
+unfolding mended
+only-the-sizes file =
+    let m = mendingOf file in
+    let one = sets file (m .riff .at) (bytesOf 4 (m .riff .new)) in (
       cond-case (eqb (m .number) 0) (mendedBy file m) file (λ (l : List ℕ). length l ≡ length file)
-      (λ e. length-sets one (m .data .at) (bytesOf 4 (m .data .new)) ∙ length-sets file (m .riff .at) (bytesOf 4 (m .riff .new))) (λ e. refl)
-
-  pub mended-stays : (i : ℕ) → Outside (mendingOf file .riff .at) 4 i 1 → Outside (mendingOf file .data .at) 4 i 1 → getD (mended file) i 0 ≡ getD file i 0
-  unfolding mended
-  mended-stays i o r =
-      let m = mendingOf file in
-      let one = sets file (m .riff .at) (bytesOf 4 (m .riff .new)) in
-      cond-case (eqb (m .number) 0) (mendedBy file m) file (λ (l : List ℕ). getD l i 0 ≡ getD file i 0)
-      (λ e.
-      outside-stays one (m .data .at) (bytesOf 4 (m .data .new)) i 0 (subst (λ (n : ℕ). Outside (m .data .at) n i 1) (sym (length-bytesOf 4 (m .data .new))) r)
-      ∙ outside-stays file (m .riff .at) (bytesOf 4 (m .riff .new)) i 0 (subst (λ (n : ℕ). Outside (m .riff .at) n i 1) (sym (length-bytesOf 4 (m .riff .new))) o))
-      (λ e. refl)
+          (λ e. length-sets one (m .data .at) (bytesOf 4 (m .data .new)) ∙ length-sets file (m .riff .at) (bytesOf 4 (m .riff .new))) (λ e. refl),
+      λ i o r.
+          cond-case (eqb (m .number) 0) (mendedBy file m) file (λ (l : List ℕ). getD l i 0 ≡ getD file i 0)
+          (λ e.
+          outside-stays one (m .data .at) (bytesOf 4 (m .data .new)) i 0 (four-outside (m .data .at) (m .data .new) r)
+          ∙ outside-stays file (m .riff .at) (bytesOf 4 (m .riff .new)) i 0 (four-outside (m .riff .at) (m .riff .new) o))
+          (λ e. refl),
+    )

@@ -14,7 +14,8 @@ use Rattle.whole.specs.Tests.{by, yes-and-no}
 use Rattle.rules.specs.Rules.{table, firstNote, notes, notePeriod, ofScale, away, wanted}
 use Rattle.rules.specs.Facts.{SampleRate}
 use Rattle.rules.specs.Table.{table-length}
-use Rattle.rules.specs.Notes.{end, IsWanted, wanted-some, is-wanted, table-falls}
+use Rattle.rules.specs.Tuning.{IsWanted}
+use Rattle.rules.specs.Notes.{end, wanted-some, is-wanted, table-falls}
 
 -- what stands at the place of a note
 pub at-place : (hertz : ℕ) {t : List ℕ} → t ≡ table hertz → (k : ℕ) → getD t k 0 ≡ notePeriod hertz (firstNote hertz + k)
@@ -202,6 +203,6 @@ module _ {hertz scale p k low high : ℕ} (rate : SampleRate hertz) (l : Longer 
     -- some note is of the scale
     pub some-higher : low ≡ 0 → high < notes hertz
     some-higher e =
-        let (n, f) = wanted-some rate scale p from to in
+        let (n, f) = wanted-some hertz scale p rate from to in
         let w = f .1 in
         each-of-scale n (w .inTable .0) (w .inTable .1) (w .inScale) (λ v. absurd (omega arith)) (λ v. v .0)

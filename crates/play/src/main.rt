@@ -1,10 +1,15 @@
 // Plays a scripted take through the tuner's calls: records of 1054 bytes in, a line for each out.
 // Byte 0 is the call; 2, 4 and 6 a block's number, length and room, low byte first; from 8 on a start's sample rate, then scale, eps, decay and floor;
 // from 28 on the samples. Where settings are given, 2 and 6 are mode and channel. Keyboard bytes stand from 28 on, as many as the length says.
+// A night has the length of its blocks from 8 on, in the place of the sample rate.
 ghost use mathlib.Core.Path.{_≡_};
 ghost use Prim.Native.Nat.{_≤_, _<_, _*_, _+_};
+ghost use Rattle.tuner.specs.Tuners.{Took};
+ghost use Rattle.nights.specs.Nights.{Nighted};
 use libc::STDIN_FILENO;
 use libc::STDOUT_FILENO;
+use nights::NightAnswer;
+use nights::NightTaken;
 use tuner::Answer;
 use tuner::Meter;
 use tuner::Settings;
@@ -93,15 +98,75 @@ fn show(xs: &[i16; 513], n: usize)
     }
 }
 
+// The block call over the record lent: the same promise as that of the call by value.
+fn block_lent(mut t: Tuner, number: u16, samples: &[i16], out: &mut [i16]) -> Taken
+    ensures { λ r. ⌜ Took t number (now (samples .entry)) (now (out .entry)) (r .tuner) (r .answer) (now (out .exit)) ⌝ }
+{
+    let answer = tuner::block_in_place(&mut t, number, samples, out);
+    Taken {
+        tuner: t,
+        answer: answer,
+    }
+}
+
+// A night over the record lent.
+fn night_lent(
+    mut t: Tuner,
+    number: u16,
+    size: usize,
+    samples: &[i16],
+    out: &mut [i16],
+) -> NightTaken
+    ensures { λ r. ⌜ Nighted t number size (now (samples .entry)) (now (out .entry)) (r .tuner) (r .answer) (now (out .exit)) ⌝ }
+{
+    let answer = nights::night_in_place(&mut t, number, size, samples, out);
+    NightTaken {
+        tuner: t,
+        answer: answer,
+    }
+}
+
+// A block by the call that the record names: by value, or over the record lent.
+fn given(op: u8, t: Tuner, number: u16, samples: &[i16], out: &mut [i16]) -> Taken {
+    if op == 4 {
+        return t.block(number, samples, out);
+    }
+    block_lent(t, number, samples, out)
+}
+
 // A block, with an output of so much room; all of the output is shown, what is not written too.
-fn block(t: Tuner, b: &[u8; 1054]) -> Tuner {
+fn block(op: u8, t: Tuner, b: &[u8; 1054]) -> Tuner {
     let n = most(word(b, 4));
     let room = most(word(b, 6));
     let number = word(b, 2) as u16;
     let xs = samples(b, n);
     let mut out = [7i16; 513];
-    let r = t.block(number, &xs[..n], &mut out[..room]);
+    let r = given(op, t, number, &xs[..n], &mut out[..room]);
     say(r.answer);
+    show(&out, room);
+    r.tuner
+}
+
+fn tell(a: NightAnswer) {
+    put(a.number as u64);
+    put(a.refused as u64);
+    put(a.taken);
+    put(a.written);
+    put(a.repeated);
+    put(a.dropped);
+    say(a.again);
+}
+
+// A night, shown like a block.
+fn night(t: Tuner, b: &[u8; 1054]) -> Tuner {
+    let n = most(word(b, 4));
+    let room = most(word(b, 6));
+    let number = word(b, 2) as u16;
+    let size = long(b, 8) as usize;
+    let xs = samples(b, n);
+    let mut out = [7i16; 513];
+    let r = night_lent(t, number, size, &xs[..n], &mut out[..room]);
+    tell(r.answer);
     show(&out, room);
     r.tuner
 }
@@ -192,7 +257,13 @@ fn other(op: u8, t: Tuner, b: &[u8; 1054]) -> Tuner {
     if op == 9 {
         return mended(t);
     }
-    midi(t, b)
+    if op == 10 {
+        return midi(t, b);
+    }
+    if op == 11 {
+        return block(op, t, b);
+    }
+    night(t, b)
 }
 
 fn one(t: Tuner, b: &[u8; 1054]) -> Tuner {
@@ -210,7 +281,7 @@ fn one(t: Tuner, b: &[u8; 1054]) -> Tuner {
         return took(t.reset());
     }
     if op == 4 {
-        return block(t, b);
+        return block(op, t, b);
     }
     other(op, t, b)
 }

@@ -14,11 +14,8 @@ use Rattle.whole.specs.Ring.{Expr, var, con, _⊕_, _⊖_, _⊗_, solve}
 use Rattle.whole.specs.Sums.{adds, addsℤ, fold-split, fold-below, pos-total, total-zero, total-term, total-within}
 use Rattle.whole.specs.Numbers.{fold, sum, total}
 use Rattle.rules.specs.Rules.{Sound, sq, E, H, D}
+use Rattle.rules.specs.Sounds.{apart, DistanceApart, DistanceIs, DistanceZero}
 use Rattle.rules.specs.Energies.{E-same, H-same}
-
--- the sum of the squared differences of the two newest cycles
-unfoldable pub apart : Sound → ℕ → ℕ
-apart x L = total (λ (k : ℕ). sq (x k -ℤ x (k + L))) L
 
 squares : (a b : ℕ → ℤ) (n : ℕ)
     → sum (λ (k : ℕ). pos (sq (a k))) n +ℤ sum (λ (k : ℕ). pos (sq (b k))) n -ℤ pos 2 *ℤ sum (λ (k : ℕ). a k *ℤ b k) n ≡ sum (λ (k : ℕ). pos (sq (a k -ℤ b k))) n
@@ -50,31 +47,27 @@ module _ (x : Sound) (L : ℕ) where
       ∙ squares x (λ (k : ℕ). x (k + L)) L
       ∙ sym (pos-total (λ (k : ℕ). sq (x k -ℤ x (k + L))) L)
 
-  pub D-apart : D x L ≡ apart x L
-  unfolding D
-  D-apart = ap natAbs difference
+pub D-apart : DistanceApart
+unfolding D
+D-apart x L = ap natAbs (difference x L)
 
-  -- D(L) = E(L) - 2H(L), and so that is never negative
-  pub D-is : pos (D x L) ≡ pos (E x L) -ℤ pos 2 *ℤ H x L
-  D-is = ap pos D-apart ∙ sym difference
+-- and so E(L) - 2H(L) is never negative
+pub D-is : DistanceIs
+D-is x L = ap pos (D-apart x L) ∙ sym (difference x L)
 
-  same-there : (k : ℕ) → sq (x k -ℤ x (k + L)) ≡ 0 → x k ≡ x (k + L)
-  same-there k e =
-      solve (x k ∷ x (k + L) ∷ []) (var 0) (var 1 ⊕ (var 0 ⊖ var 1)) refl
-      ∙ ap (λ (z : ℤ). x (k + L) +ℤ z) (square-zero (x k -ℤ x (k + L)) e)
-      ∙ solve (x (k + L) ∷ []) (var 0 ⊕ con (pos 0)) (var 0) refl
+-- D is 0 exactly when the two newest cycles are equal
+same-there : (a b : ℤ) → sq (a -ℤ b) ≡ 0 → a ≡ b
+same-there a b e =
+    solve (a ∷ b ∷ []) (var 0) (var 1 ⊕ (var 0 ⊖ var 1)) refl ∙ ap (λ (z : ℤ). b +ℤ z) (square-zero (a -ℤ b) e) ∙ solve (b ∷ []) (var 0 ⊕ con (pos 0)) (var 0) refl
 
-  -- D is 0 exactly when the two newest cycles are equal
-  pub D-zero : D x L ≡ 0 → (k : ℕ) → k < L → x k ≡ x (k + L)
-  unfolding apart
-  D-zero e k h =
-      same-there k (omega (arith, total-term (λ (j : ℕ). sq (x j -ℤ x (j + L))) L k h, D-apart))
-
-  pub equal-cycles : ((k : ℕ) → k < L → x k ≡ x (k + L)) → D x L ≡ 0
-  unfolding apart
-  equal-cycles same =
-      D-apart ∙ total-zero (λ (k : ℕ). sq (x k -ℤ x (k + L))) L
-      (λ k h. ap (λ (z : ℤ). sq (z -ℤ x (k + L))) (same k h) ∙ ap sq (solve (x (k + L) ∷ []) (var 0 ⊖ var 0) (con (pos 0)) refl))
+pub D-zero : DistanceZero
+unfolding apart
+D-zero x L = (
+  λ e k h. same-there (x k) (x (k + L)) (omega (arith, total-term (λ (j : ℕ). sq (x j -ℤ x (j + L))) L k h, D-apart x L)),
+  λ same.
+      D-apart x L ∙ total-zero (λ (k : ℕ). sq (x k -ℤ x (k + L))) L
+      (λ k h. ap (λ (z : ℤ). sq (z -ℤ x (k + L))) (same k h) ∙ ap sq (solve (x (k + L) ∷ []) (var 0 ⊖ var 0) (con (pos 0)) refl)),
+)
 
 -- D looks at the newest 2L samples and no further
 pub D-same : (x y : Sound) (L : ℕ) → ((k : ℕ) → k < 2 * L → x k ≡ y k) → D x L ≡ D y L

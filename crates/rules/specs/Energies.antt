@@ -12,40 +12,32 @@ use Rattle.whole.specs.Words.{held}
 use Rattle.whole.specs.Sums.{adds, addsℤ, slide, fold-step, fold-below, sum-slide, sum-within, total-within, total-term, total-grows}
 use Rattle.whole.specs.Numbers.{sum, total}
 use Rattle.rules.specs.Rules.{Sound, older, heard, sq, E, H}
+use Rattle.rules.specs.Sounds.{nextE, nextH, EnergyNext, CorrelationNext, TwoSquares}
 
--- (4): from E before the newest sample x 0
-unfoldable pub nextE : Sound → ℕ → ℕ → ℕ
-nextE x L e = e + sq (x 0) - sq (x (2 * L))
+-- (4) without its subtraction
+pub E-slides : (x : Sound) (L : ℕ) → E x L + sq (x (2 * L)) ≡ E (older x) L + sq (x 0)
+unfolding E
+E-slides x L = slide adds (λ (k : ℕ). sq (x (suc k))) (λ (k : ℕ). sq (x k)) (λ k. refl) (2 * L)
 
--- (5): from H before the newest sample x 0
-unfoldable pub nextH : Sound → ℕ → ℤ → ℤ
-nextH x L h = h +ℤ x 0 *ℤ x L -ℤ x L *ℤ x (2 * L)
+pub E-next : EnergyNext
+unfolding nextE
+E-next x L = omega (arith, E-slides x L)
 
-module _ (x : Sound) (L : ℕ) where
-  -- (4) without its subtraction
-  pub E-slides : E x L + sq (x (2 * L)) ≡ E (older x) L + sq (x 0)
-  unfolding E
-  E-slides = slide adds (λ (k : ℕ). sq (x (suc k))) (λ (k : ℕ). sq (x k)) (λ k. refl) (2 * L)
+pub H-next : CorrelationNext
+unfolding nextH H
+H-next x L =
+    let d : L + L ≡ 2 * L = omega arith in
+    sum-slide (λ (k : ℕ). x (suc k) *ℤ x (suc (k + L))) (λ (k : ℕ). x k *ℤ x (k + L)) (λ k. rw suc-add) L
+    ∙ (λ i. sum (λ (k : ℕ). x (suc k) *ℤ x (suc (k + L))) L +ℤ x 0 *ℤ x (zero-add L i) -ℤ x L *ℤ x (d i))
 
-  pub E-next : E x L ≡ nextE x L (E (older x) L)
-  unfolding nextE
-  E-next = omega (arith, E-slides)
-
-  pub H-next : H x L ≡ nextH x L (H (older x) L)
-  unfolding nextH H
-  H-next =
-      let d : L + L ≡ 2 * L = omega arith in
-      sum-slide (λ (k : ℕ). x (suc k) *ℤ x (suc (k + L))) (λ (k : ℕ). x k *ℤ x (k + L)) (λ k. rw suc-add) L
-      ∙ (λ i. sum (λ (k : ℕ). x (suc k) *ℤ x (suc (k + L))) L +ℤ x 0 *ℤ x (zero-add L i) -ℤ x L *ℤ x (d i))
-
-  -- lags L and L + 1 differ by two squares
-  pub E-shift : E x (L + 1) ≡ E x L + sq (x (2 * L)) + sq (x (2 * L + 1))
-  unfolding E
-  E-shift =
-      let d : 2 * (L + 1) ≡ 2 * L + 1 + 1 = omega arith in
-      ap (total (λ (k : ℕ). sq (x k))) d
-      ∙ fold-step adds (λ (k : ℕ). sq (x k)) (2 * L + 1)
-      ∙ ap (λ (n : ℕ). n + sq (x (2 * L + 1))) (fold-step adds (λ (k : ℕ). sq (x k)) (2 * L))
+-- lags L and L + 1 differ by two squares
+pub E-shift : TwoSquares
+unfolding E
+E-shift x L =
+    let d : 2 * (L + 1) ≡ 2 * L + 1 + 1 = omega arith in
+    ap (total (λ (k : ℕ). sq (x k))) d
+    ∙ fold-step adds (λ (k : ℕ). sq (x k)) (2 * L + 1)
+    ∙ ap (λ (n : ℕ). n + sq (x (2 * L + 1))) (fold-step adds (λ (k : ℕ). sq (x k)) (2 * L))
 
 -- E does not fall with the lag
 pub E-grows : (x : Sound) {L M : ℕ} → L ≤ M → E x L ≤ E x M

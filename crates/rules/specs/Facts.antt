@@ -2,7 +2,7 @@
 use mathlib.Core.Path.{_≡_}
 use mathlib.Core.List.{List, _++_}
 use Prim.Native.Nat.{ℕ, _+_, _*_, _≤_, _<_}
-use lib.IntN.{ℤ, pos, _-ℤ_}
+use lib.IntN.{ℤ, pos, negℤ, _-ℤ_}
 use lib.ListN.{length, getD, drop}
 use lib.Signed.{_≤ℤ_}
 use Rattle.whole.specs.Numbers.{listOf}
@@ -36,6 +36,10 @@ pub data ToneIn (t : Tone) : Type 0 where
   pitched : leastPeriod ≤ t .period → t .period ≤ greatestPeriod → t .note ≤ noNote → leastRate ≤ t .rate → t .rate ≤ greatestRate → t .kept ≤ 255 → ToneIn t
   unpitched : t .period ≡ 0 → t .rate ≡ freshRate → t .kept ≤ 255 → ToneIn t
 
+-- without a period there is no wanted note, the rate is 65536 and nothing is kept
+abbrev pub WithoutPeriod : Tone → Type 0
+WithoutPeriod t = t .period ≡ 0 → (t .note ≡ noNote) × (t .rate ≡ freshRate) × (t .kept ≡ 0)
+
 -- eight lags in their range, and the last best among them
 pub record LagsIn (low last : ℕ) : Type 0 where
   pub from : lowestLag ≤ low
@@ -61,6 +65,10 @@ pub record InBounds (n : ℕ) (at : ℤ) : Type 0 where
 -- the sample at a place, 0 past the end
 abbrev pub valueAt : List ℤ → ℕ → ℤ
 valueAt s i = getD s i (pos 0)
+
+-- a sample of 16 bits
+abbrev pub SixteenBits : ℤ → Type 0
+SixteenBits a = (negℤ (pos 32768) ≤ℤ a) × (a ≤ℤ pos 32767)
 
 -- the energies e and correlations h kept at the n lags from low on are the direct sums over the sound x
 pub record Right (x : Sound) (low n : ℕ) (e : List ℕ) (h : List ℤ) : Type 0 where

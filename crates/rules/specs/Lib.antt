@@ -1,5 +1,7 @@
 pub mod Rules
 pub mod Facts
+pub mod Sounds
+pub mod Tuning
 pub mod Ranges
 pub mod Hearing
 pub mod Energies
@@ -16,4 +18,6 @@ pub mod Blocks
 pub mod Sane
 pub mod Local
 pub mod Held
+pub mod Unpitched
 pub mod Worked
+pub mod Computed

@@ -56,23 +56,11 @@ use Rattle.rules.specs.declared.InForce.{InForce}
 use Rattle.rules.specs.declared.Tone.{Tone}
 use Rattle.rules.specs.declared.Goal.{Goal}
 use Rattle.rules.specs.Facts.{SampleRate, ForceIn, OfTable, ToneIn, pitched}
+use Rattle.rules.specs.Tuning.{IsWantedOf, IsWanted, WantedRule, WantedOne, NearestRate, RawRateRule, RawRateRange, TowardRange}
 use Rattle.rules.specs.Position.{tone-rate, tone-kept}
 use Rattle.rules.specs.Smoothing.{kept-range, rate-range}
 
 -- ---- The wanted note, at any number of samples a second
-
--- n is the wanted one of the first k notes: of the scale, none of the scale at less distance, none at the same distance higher
-pub record IsWantedOf (hertz scale p k n : ℕ) : Type 0 where
-  pub inTable : (firstNote hertz ≤ n) × (n < firstNote hertz + k)
-  pub inScale : ofScale scale n ≡ true
-  pub least :
-      (m : ℕ) → firstNote hertz ≤ m → m < firstNote hertz + k → ofScale scale m ≡ true → away p (notePeriod hertz n) ≤ away p (notePeriod hertz m)
-  pub higher :
-      (m : ℕ) → firstNote hertz ≤ m → m < firstNote hertz + k → ofScale scale m ≡ true → away p (notePeriod hertz m) ≡ away p (notePeriod hertz n) → m ≤ n
-
--- n is the wanted note of the period p
-abbrev pub IsWanted : ℕ → ℕ → ℕ → ℕ → Type 0
-IsWanted hertz scale p n = IsWantedOf hertz scale p (notes hertz) n
 
 -- what an answer says of the first k notes
 abbrev Answers : ℕ → ℕ → ℕ → ℕ → Option ℕ → Type 0
@@ -176,16 +164,16 @@ module _ {hertz : ℕ} (rate : SampleRate hertz) where
           λ on. a (36 + i) (omega (arith, span .first)) (omega (arith, span .end)) (eq-eqb _ 1 (ap (λ (c : ℕ). scale / 2 ^ c % 2) e ∙ on)) in
           omega arith
 
-  pub wanted-some : (scale p : ℕ) → 1 ≤ scale → scale ≤ 4095 → (n : ℕ) × ((wanted hertz scale p ≡ some n) × IsWanted hertz scale p n)
-  unfolding wanted
-  wanted-some scale p lo hi = go (wanted hertz scale p) refl (wanted-of-answers hertz scale p (notes hertz))
-    where
-      go : (o : Option ℕ) → wanted hertz scale p ≡ o → Answers hertz scale p (notes hertz) o → (n : ℕ) × ((wanted hertz scale p ≡ some n) × IsWanted hertz scale p n)
-      go none e a = absurd (omega (arith, no-note-no-mask scale p hi a))
-      go (some n) e a = (n, (e, a))
+pub wanted-some : WantedRule
+unfolding wanted
+wanted-some hertz scale p rate lo hi = go (wanted hertz scale p) refl (wanted-of-answers hertz scale p (notes hertz))
+  where
+    go : (o : Option ℕ) → wanted hertz scale p ≡ o → Answers hertz scale p (notes hertz) o → (n : ℕ) × ((wanted hertz scale p ≡ some n) × IsWanted hertz scale p n)
+    go none e a = absurd (omega (arith, no-note-no-mask rate scale p hi a))
+    go (some n) e a = (n, (e, a))
 
-pub wanted-one : {hertz scale p n m : ℕ} → IsWanted hertz scale p n → IsWanted hertz scale p m → n ≡ m
-wanted-one {n = n} {m = m} v w =
+pub wanted-one : WantedOne
+wanted-one hertz scale p n m v w =
     let a = v .least m (w .inTable .0) (w .inTable .1) (w .inScale) in
     let b = w .least n (v .inTable .0) (v .inTable .1) (v .inScale) in
     le-antisymm
@@ -194,7 +182,7 @@ wanted-one {n = n} {m = m} v w =
 
 pub is-wanted : {hertz scale p n : ℕ} → SampleRate hertz → 1 ≤ scale → scale ≤ 4095 → IsWanted hertz scale p n → wanted hertz scale p ≡ some n
 is-wanted {hertz} {scale} {p} {n} rate lo hi w =
-    let (m, f) = wanted-some rate scale p lo hi in f .0 ∙ ap some (wanted-one (f .1) w)
+    let (m, f) = wanted-some hertz scale p rate lo hi in f .0 ∙ ap some (wanted-one hertz scale p m n (f .1) w)
 
 -- ---- The entries of a table, each law by a test computed over both
 
@@ -278,19 +266,16 @@ module _ {hertz scale p n : ℕ} (rate : SampleRate hertz) (w : IsWanted hertz s
       let half = an-octave-is-half rate (omega arith) below (here .upto) in
       omega (arith, no-farther-than-its-octave (n - 12) (omega arith) below))
 
-  pub raw-range : (leastRate ≤ rawRate p (notePeriod hertz n)) × (rawRate p (notePeriod hertz n) ≤ greatestRate)
-  unfolding rawRate
-  raw-range =
-      let some-period : 0 < 2 * notePeriod hertz n = omega (arith, wanted-at-least-half) in
-      let below : rawRate p (notePeriod hertz n) < greatestRate + 1 = div-lt-iff-lt-mul some-period .1 (omega (arith, wanted-at-least-half)) in
-      (le-div-iff-mul-le some-period .1 (omega (arith, wanted-at-most-double)), omega arith)
+pub raw-range : RawRateRange
+unfolding rawRate
+raw-range hertz scale p n rate w lo hi =
+    let half = wanted-at-least-half rate w lo hi in
+    let double = wanted-at-most-double rate w lo hi in
+    let some-period : 0 < 2 * notePeriod hertz n = omega arith in
+    let below : rawRate p (notePeriod hertz n) < greatestRate + 1 = div-lt-iff-lt-mul some-period .1 (omega arith) in
+    (le-div-iff-mul-le some-period .1 (omega arith), omega arith)
 
--- r is p x 65536 / w to the nearest whole number, halves up: 2r-1 <= 2p x 65536 / w < 2r+1
-pub record NearestRate (p w r : ℕ) : Type 0 where
-  pub below : 2 * w * r ≤ 2 * (p * 65536) + w
-  pub above : 2 * (p * 65536) + w < 2 * w * (r + 1)
-
-pub raw-nearest : (p w : ℕ) → 0 < w → NearestRate p w (rawRate p w)
+pub raw-nearest : RawRateRule
 unfolding rawRate
 raw-nearest p w h =
     let some-w : 0 < 2 * w = omega arith in
@@ -309,7 +294,7 @@ pub record GoalIn (g : Goal) : Type 0 where
   pub upto : g .raw ≤ greatestRate
 
 -- every raw rate that is moved toward lies from a half to two, whatever is wanted
-pub toward-range : (p w : ℕ) → (leastRate ≤ rawToward p w) × (rawToward p w ≤ greatestRate)
+pub toward-range : TowardRange
 unfolding rawToward
 toward-range p w =
     cond-case (ltb 0 w && within leastRate greatestRate (rawRate p w)) (rawRate p w) freshRate (λ (r : ℕ). (leastRate ≤ r) × (r ≤ greatestRate))
@@ -372,7 +357,7 @@ unfolding goalOf
 goal-of-scale {hertz} {scale} {p} {n} rate w lo hi =
     let t = wanted-of-table w in
     let some-period : 0 < notePeriod hertz n = omega (arith, note-period-range rate t) in
-    rw (period-of-table hertz t, toward-within p (notePeriod hertz n) some-period (raw-range rate w lo hi))
+    rw (period-of-table hertz t, toward-within p (notePeriod hertz n) some-period (raw-range hertz scale p n rate w lo hi))
 
 -- a goal of any note, and of what is in force
 pub goal-of-in : (hertz p : ℕ) {n : ℕ} → n ≤ noNote → GoalIn (goalOf hertz p n)
@@ -383,7 +368,7 @@ wanted-in : {f : InForce} → ForceIn f → (p : ℕ) → wantedNote f p ≤ noN
 unfolding wantedNote noteOf
 wanted-in {f} r p =
     let scale = ranges (f .settings) (r .settings) .scale in
-    let (n, w) = wanted-some (r .hertz) (f .settings .scale) p (scale .0) (scale .1) in
+    let (n, w) = wanted-some (f .hertz) (f .settings .scale) p (r .hertz) (scale .0) (scale .1) in
     cond-case (eqb (f .settings .mode) scaleMode) (noteOf (wanted (f .hertz) (f .settings .scale) p)) (f .key) (λ (m : ℕ). m ≤ noNote)
     (λ e. rw (w .0) (omega (arith, w .1 .inTable .1, table-span (r .hertz) .end)))
     (λ e. r .key)

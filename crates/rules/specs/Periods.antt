@@ -15,6 +15,7 @@ use Rattle.whole.specs.Floor.{floor-is}
 use Rattle.whole.specs.Numbers.{Floor, floorDiv}
 use Rattle.whole.specs.Ring.{var, con, _⊕_, _⊖_, _⊗_, solve}
 use Rattle.rules.specs.Rules.{Sound, D, best, offset, period, moved}
+use Rattle.rules.specs.Sounds.{PeriodRange}
 use Rattle.rules.specs.Choosing.{best-first}
 
 -- ---- the offset
@@ -83,12 +84,13 @@ module _ (x : Sound) (low : ℕ) where
       (λ z a b w. near (256 * (low + at)) z (omega arith))
       refl
 
-  pub period-range : 16 ≤ low → low ≤ 873 → (4096 ≤ period x low at) × (period x low at ≤ 225280)
-  unfolding period
-  period-range lo hi =
-      by-shift (λ z. (4096 ≤ natAbs (pos (256 * (low + at)) +ℤ z)) × (natAbs (pos (256 * (low + at)) +ℤ z) ≤ 225280))
-      (λ z a b w. let r = near-range (256 * (low + at)) 128 z w (omega arith) in (omega (arith, r .0), omega (arith, r .1)))
-      (omega (arith, best-first x low .inside))
+pub period-range : PeriodRange
+unfolding period
+period-range x low lo hi =
+    let at = best x low in
+    by-shift x low (λ z. (4096 ≤ natAbs (pos (256 * (low + at)) +ℤ z)) × (natAbs (pos (256 * (low + at)) +ℤ z) ≤ 225280))
+    (λ z a b w. let r = near-range (256 * (low + at)) 128 z w (omega arith) in (omega (arith, r .0), omega (arith, r .1)))
+    (omega (arith, best-first x low .inside))
 
 -- ---- the move
 

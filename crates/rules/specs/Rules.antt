@@ -207,7 +207,7 @@ moved low at =
 
 -- ---- Note and rate
 
--- the tables: the periods of MIDI notes 32 to 100 at 44,100, and of 33 to 102 at 48,000, in 1/256 sample; their rule is `Nearest` in Table
+-- the tables: the periods of MIDI notes 32 to 100 at 44,100, and of 33 to 102 at 48,000, in 1/256 sample; their rule is `Nearest` in Tuning
 unfoldable pub cdTable : List ℕ
 cdTable =
     217471 ∷ 205265 ∷ 193745 ∷ 182871 ∷ 172607 ∷ 162919 ∷ 153775 ∷ 145145 ∷ 136998 ∷ 129309 ∷ 122052 ∷ 115201 ∷ 108736 ∷ 102633

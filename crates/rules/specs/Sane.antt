@@ -30,13 +30,22 @@ without-period-in : (m : Mode) → ModeIn m → PitchIn (noPeriod m)
 unfolding noTone
 without-period-in m h = record { tone = unpitched refl refl (omega arith); lags = h; whileSearching = λ e. refl }
 
+-- the eight lags from a found lag minus 3, and as a tracking step moves them
+pub found-lags : (s : Settings) (x y : Sound) (lag : ℕ) → found s x y ≡ some lag → LagsIn (lag - 3) lag
+found-lags s x y lag e =
+    let r = found-range s x y lag e in record { from = omega arith; upto = omega arith; lastFrom = omega arith; lastUpto = omega arith }
+
+pub moved-lags : (x : Sound) {low last : ℕ} → LagsIn low last → LagsIn (moved low (best x low)) (low + best x low)
+moved-lags x {low} h =
+    let at = best x low in
+    let m = moved-range low at (h .from) (omega (arith, h .upto)) in
+    let b = moved-best low at (best-first x low .inside) in record { from = m .0; upto = omega (arith, m .1); lastFrom = b .0; lastUpto = b .1 }
+
 module _ (s : Settings) (x y : Sound) where
   searched-in : {p : Pitch} → PitchIn p → (o : Option ℕ) → found s x y ≡ o → PitchIn (searched p o)
   unfolding searched
   searched-in h none e = h
-  searched-in h (some lag) e =
-      let r = found-range s x y lag e in
-      without-period-in (tracking (lag - 3) lag) (record { from = omega arith; upto = omega arith; lastFrom = omega arith; lastUpto = omega arith })
+  searched-in h (some lag) e = without-period-in (tracking (lag - 3) lag) (found-lags s x y lag e)
 
 pub tracking-is-not-searching : {low last : ℕ} → tracking low last ≡ searching → ⊥
 tracking-is-not-searching e = let z : _≡_ {A = ℕ} 0 1 = cc in omega arith
@@ -46,15 +55,12 @@ module _ {f : InForce} (r : ForceIn f) where
   unfolding tracked
   tracked-in x {t} {low} {last} a h =
       let at = best x low in
-      let upto : low ≤ 873 = omega (arith, h .upto) in
-      let m = moved-range low at (h .from) upto in
-      let b = moved-best low at (best-first x low .inside) in
-      let p = period-range x low (h .from) upto in
+      let p = period-range x low (h .from) (omega (arith, h .upto)) in
       cond-case (isLost (f .settings) x (low + at) last) (noPeriod searching) (record { mode = tracking (moved low at) (low + at); tone = tuned f t (period x low at) }) PitchIn
       (λ e. without-period-in searching tt)
       (λ e. record {
         tone = tuned-in r a (period x low at) (p .0) (p .1);
-        lags = record { from = m .0; upto = omega (arith, m .1); lastFrom = b .0; lastUpto = b .1 };
+        lags = moved-lags x h;
         whileSearching = λ s. absurd (tracking-is-not-searching s);
       })
 

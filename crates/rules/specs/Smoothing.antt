@@ -1,30 +1,17 @@
--- Smoothing that keeps what rounding cut off: the rate never passes its goal, never moves away from it, and reaches it.
--- What moves is 256 x rate + kept: at least one of 256 parts is the raw rate, so that of the way left each step takes a 256th, rounded down, or more.
+-- Smoothing that keeps what rounding cut off: the rate never passes its goal, never moves away from it, and reaches it, whatever the decay does on the way.
+-- What moves is 256 x rate + kept: with any decay up to 255 at least one of 256 parts is the raw rate, so that of the way left each step takes a 256th, rounded down, or more.
 use mathlib.Core.Path.{_≡_, refl, sym, ap, _∙_, subst}
+use mathlib.Core.List.{List, [], _∷_}
 use Prim.Native.Nat.{ℕ, zero, suc, _+_, _-_, _*_, _/_, _%_, _≤_}
 use native.Mathlib.Nat.{le-refl, le-trans, add-mul, add-sub-of-le, suc-mul, suc-add, zero-add, mul-le-mul-left}
 use native.Mathlib.Omega.{arith}
 use borrow.Author.Tests.{leb-true, leb-false}
 use lib.Dec.{leb}
+use lib.ListN.{length, replicate}
 use Rattle.whole.specs.Tests.{by}
 use Rattle.rules.specs.declared.Smoothed.{Smoothed}
 use Rattle.rules.specs.Rules.{smoothTotal, smoothRate, smoothKept, leastRate, greatestRate}
-
--- ---- Many smoothings: definitions
-
--- one smoothing of both
-unfoldable pub smoothed : ℕ → ℕ → Smoothed → Smoothed
-smoothed decay raw s =
-    record { rate = smoothRate decay (s .rate) (s .kept) raw; kept = smoothKept decay (s .rate) (s .kept) raw }
-
--- n smoothings with the same decay and raw rate
-unfoldable pub afterSteps : ℕ → ℕ → ℕ → Smoothed → Smoothed
-afterSteps zero decay raw s = s
-afterSteps (suc n) decay raw s = afterSteps n decay raw (smoothed decay raw s)
-
--- the most steps from any rate to any raw rate, with any decay
-abbrev pub longestWay : ℕ
-longestWay = 3085
+use Rattle.rules.specs.Tuning.{smoothed, afterSteps, DecaysIn, longestWay, NothingLost, NeverPasses, Stays, Reaches, LongestWay, KeepingNothingHalts, KeepingArrives}
 
 -- ---- One smoothing
 
@@ -33,10 +20,10 @@ module _ (decay rate kept raw : ℕ) where
   unfolding smoothKept
   kept-range = omega arith
 
-  -- nothing is lost
-  pub total-is : 256 * smoothRate decay rate kept raw + smoothKept decay rate kept raw ≡ smoothTotal decay rate kept raw
-  unfolding smoothRate smoothKept
-  total-is = omega arith
+-- nothing is lost
+pub total-is : NothingLost
+unfolding smoothRate smoothKept
+total-is decay rate kept raw = omega arith
 
 -- all parts of one number, and a number of parts of one and the rest of another
 all-parts : {decay all : ℕ} → decay ≤ all → (x : ℕ) → decay * x + (all - decay) * x ≡ all * x
@@ -133,95 +120,102 @@ module _ {decay raw : ℕ} (d : decay ≤ 255) where
       let n = total-nearer v l s k h in
       record { above = omega (arith, t, n .0); below = omega (arith, t, n .1) }
 
-  steps-nearer : (n v : ℕ) → 255 ≤ v → (s : Smoothed) → s .kept ≤ 255 → Near raw v s → Near raw (wayLeft n v) (afterSteps n decay raw s)
-  unfolding wayLeft afterSteps
-  steps-nearer zero v l s k h = h
-  steps-nearer (suc n) v l s k h =
-      steps-nearer n (v - v / 256) (omega arith) (smoothed decay raw s) (unfold smoothed in kept-range decay (s .rate) (s .kept) raw) (step-nearer v l s k h)
+-- ---- Many smoothings, whatever the decays
 
--- ---- Many smoothings
+smoothed-kept : (decay raw : ℕ) (s : Smoothed) → smoothed decay raw s .kept ≤ 255
+unfolding smoothed
+smoothed-kept decay raw s = kept-range decay (s .rate) (s .kept) raw
 
-module _ (decay raw : ℕ) where
-  pub steps-kept-range : (n : ℕ) (s : Smoothed) → s .kept ≤ 255 → afterSteps n decay raw s .kept ≤ 255
-  unfolding afterSteps smoothed
-  steps-kept-range zero s k = k
-  steps-kept-range (suc n) s k = steps-kept-range n (smoothed decay raw s) (kept-range decay (s .rate) (s .kept) raw)
+steps-kept : (decays : List ℕ) (raw : ℕ) (s : Smoothed) → s .kept ≤ 255 → afterSteps decays raw s .kept ≤ 255
+unfolding afterSteps
+steps-kept [] raw s k = k
+steps-kept (decay ∷ more) raw s k = steps-kept more raw (smoothed decay raw s) (smoothed-kept decay raw s)
 
-  -- some steps, and some more
-  pub steps-and-more : (m n : ℕ) (s : Smoothed) → afterSteps (m + n) decay raw s ≡ afterSteps n decay raw (afterSteps m decay raw s)
-  unfolding afterSteps
-  steps-and-more zero n s = rw zero-add
-  steps-and-more (suc m) n s = rw suc-add (steps-and-more m n (smoothed decay raw s))
+steps-nearer : (decays : List ℕ) (raw v : ℕ) → 255 ≤ v → (s : Smoothed) → DecaysIn decays → s .kept ≤ 255 → Near raw v s →
+    Near raw (wayLeft (length decays) v) (afterSteps decays raw s)
+unfolding wayLeft afterSteps DecaysIn
+steps-nearer [] raw v l s d k h = h
+steps-nearer (decay ∷ more) raw v l s d k h =
+    steps-nearer more raw (v - v / 256) (omega arith) (smoothed decay raw s) (d .1) (smoothed-kept decay raw s) (step-nearer (d .0) v l s k h)
 
-  module _ (d : decay ≤ 255) where
-    -- from below they only rise, from above they only fall, and never past the goal
-    pub steps-rise : (n : ℕ) (s : Smoothed) → s .kept ≤ 255 → s .rate ≤ raw →
-        (s .rate ≤ afterSteps n decay raw s .rate) × (afterSteps n decay raw s .rate ≤ raw)
-    unfolding afterSteps smoothed
-    steps-rise zero s k h = (le-refl (s .rate), h)
-    steps-rise (suc n) s k h =
-        let one = rate-rises {decay = decay} (omega arith) k h in
-        let more = steps-rise n (smoothed decay raw s) (kept-range decay (s .rate) (s .kept) raw) (one .1) in
-        (le-trans (one .0) (more .0), more .1)
+-- from below they only rise, from above they only fall, and never past the goal
+steps-rise : (decays : List ℕ) (raw : ℕ) (s : Smoothed) → DecaysIn decays → s .kept ≤ 255 → s .rate ≤ raw →
+    (s .rate ≤ afterSteps decays raw s .rate) × (afterSteps decays raw s .rate ≤ raw)
+unfolding afterSteps DecaysIn smoothed
+steps-rise [] raw s d k h = (le-refl (s .rate), h)
+steps-rise (decay ∷ more) raw s d k h =
+    let one = rate-rises {decay = decay} (omega (arith, d .0)) k h in
+    let rest = steps-rise more raw (smoothed decay raw s) (d .1) (smoothed-kept decay raw s) (one .1) in
+    (le-trans (one .0) (rest .0), rest .1)
 
-    pub steps-fall : (n : ℕ) (s : Smoothed) → s .kept ≤ 255 → raw ≤ s .rate →
-        (raw ≤ afterSteps n decay raw s .rate) × (afterSteps n decay raw s .rate ≤ s .rate)
-    unfolding afterSteps smoothed
-    steps-fall zero s k h = (h, le-refl (s .rate))
-    steps-fall (suc n) s k h =
-        let one = rate-falls {decay = decay} (omega arith) k h in
-        let more = steps-fall n (smoothed decay raw s) (kept-range decay (s .rate) (s .kept) raw) (one .0) in
-        (more .0, le-trans (more .1) (one .1))
+steps-fall : (decays : List ℕ) (raw : ℕ) (s : Smoothed) → DecaysIn decays → s .kept ≤ 255 → raw ≤ s .rate →
+    (raw ≤ afterSteps decays raw s .rate) × (afterSteps decays raw s .rate ≤ s .rate)
+unfolding afterSteps DecaysIn smoothed
+steps-fall [] raw s d k h = (h, le-refl (s .rate))
+steps-fall (decay ∷ more) raw s d k h =
+    let one = rate-falls {decay = decay} (omega (arith, d .0)) k h in
+    let rest = steps-fall more raw (smoothed decay raw s) (d .1) (smoothed-kept decay raw s) (one .0) in
+    (rest .0, le-trans (rest .1) (one .1))
 
-    -- at the goal nothing changes
-    pub smoothed-stays : (s : Smoothed) → s .kept ≤ 255 → s .rate ≡ raw → smoothed decay raw s ≡ s
-    unfolding smoothed
-    smoothed-stays s k e =
-        let (r, c) = goal-stays {decay = decay} (omega arith) k e in λ i. record { rate = (r ∙ sym e) i; kept = c i }
+pub never-passes : NeverPasses
+never-passes decays raw s d k = record { rises = steps-rise decays raw s d k; falls = steps-fall decays raw s d k }
 
-    pub steps-stay : (n : ℕ) (s : Smoothed) → s .kept ≤ 255 → s .rate ≡ raw → afterSteps n decay raw s ≡ s
-    unfolding afterSteps
-    steps-stay zero s k e = refl
-    steps-stay (suc n) s k e = ap (afterSteps n decay raw) (smoothed-stays s k e) ∙ steps-stay n s k e
+-- at the goal nothing changes
+smoothed-stays : (decay raw : ℕ) (s : Smoothed) → decay ≤ 255 → s .kept ≤ 255 → s .rate ≡ raw → smoothed decay raw s ≡ s
+unfolding smoothed
+smoothed-stays decay raw s d k e =
+    let (r, c) = goal-stays {decay = decay} (omega arith) k e in λ i. record { rate = (r ∙ sym e) i; kept = c i }
 
--- 255 is left of the way between the bounds of every rate, computed
+pub steps-stay : Stays
+unfolding afterSteps DecaysIn
+steps-stay [] raw s d k e = refl
+steps-stay (decay ∷ more) raw s d k e = ap (afterSteps more raw) (smoothed-stays decay raw s (d .0) k e) ∙ steps-stay more raw s (d .1) k e
+
+-- ---- The longest way
+
+way-and-more : (m n v : ℕ) → wayLeft (m + n) v ≡ wayLeft n (wayLeft m v)
+unfolding wayLeft
+way-and-more zero n v = rw zero-add
+way-and-more (suc m) n v = rw suc-add (way-and-more m n (v - v / 256))
+
+-- 255 stay left: they are within the rounding
+way-stays : (n : ℕ) → wayLeft n 255 ≡ 255
+unfolding wayLeft
+way-stays zero = refl
+way-stays (suc n) = way-stays n
+
+-- 255 are left of the way between the bounds of every rate, computed
 longest-way : wayLeft longestWay (256 * (greatestRate - leastRate) + 255) ≡ 255
 unfolding wayLeft
 longest-way = refl
 
-reached : {decay raw : ℕ} (s : Smoothed) → decay ≤ 255 → s .kept ≤ 255 → leastRate ≤ s .rate → s .rate ≤ greatestRate →
-    leastRate ≤ raw → raw ≤ greatestRate → afterSteps longestWay decay raw s .rate ≡ raw
-reached {decay} {raw} s d k from upto rawFrom rawUpto =
+-- so after that many steps or more
+way-ends : (n : ℕ) → longestWay ≤ n → wayLeft n (256 * (greatestRate - leastRate) + 255) ≡ 255
+way-ends n h =
+    let way = 256 * (greatestRate - leastRate) + 255 in
+    ap (λ (m : ℕ). wayLeft m way) (sym (add-sub-of-le h))
+    ∙ way-and-more longestWay (n - longestWay) way
+    ∙ ap (wayLeft (n - longestWay)) longest-way
+    ∙ way-stays (n - longestWay)
+
+-- the rate reaches its goal, and is there from then on
+pub reaches : Reaches
+reaches decays raw s d k from upto rawFrom rawUpto h =
     let way = 256 * (greatestRate - leastRate) + 255 in
     let start : Near raw way s = record { above = omega arith; below = omega arith } in
-    near-reached (steps-kept-range decay raw longestWay s k)
-    (subst (λ (v : ℕ). Near raw v (afterSteps longestWay decay raw s)) longest-way (steps-nearer d longestWay way (omega arith) s k start))
-
--- the rate reaches its goal, and stays there
-pub reaches : {decay raw : ℕ} (s : Smoothed) → decay ≤ 255 → s .kept ≤ 255 → leastRate ≤ s .rate → s .rate ≤ greatestRate →
-    leastRate ≤ raw → raw ≤ greatestRate → (n : ℕ) → longestWay ≤ n → afterSteps n decay raw s .rate ≡ raw
-reaches {decay} {raw} s d k from upto rawFrom rawUpto n h =
-    let there = afterSteps longestWay decay raw s in
-    let at-goal = reached s d k from upto rawFrom rawUpto in
-    let stay = steps-stay decay raw d (n - longestWay) there (steps-kept-range decay raw longestWay s k) at-goal in
-    ap (λ (m : ℕ). afterSteps m decay raw s .rate) (sym (add-sub-of-le h))
-    ∙ ap (λ (t : Smoothed). t .rate) (steps-and-more decay raw longestWay (n - longestWay) s ∙ stay)
-    ∙ at-goal
+    near-reached (steps-kept decays raw s k)
+    (subst (λ (v : ℕ). Near raw v (afterSteps decays raw s)) (way-ends (length decays) h) (steps-nearer decays raw way (omega arith) s d k start))
 
 -- ---- Examples, computed
 
--- no smaller number would do: from two to a half with the greatest decay, one step before
-pub longest-way-is-long : afterSteps (longestWay - 1) 255 leastRate (record { rate = greatestRate; kept = 0 }) .rate ≡ leastRate + 1
+pub longest-way-is-long : LongestWay
 unfolding afterSteps smoothed smoothRate smoothKept smoothTotal
 longest-way-is-long = refl
 
--- the rule of document 01 kept nothing: with it a rate 255 below its goal halts there
-pub keeping-nothing-halts : smoothRate 255 65281 0 65536 ≡ 65281
+pub keeping-nothing-halts : KeepingNothingHalts
 unfolding smoothRate smoothTotal
 keeping-nothing-halts = refl
 
--- which otherwise arrives from the same place at step 1,564
-pub keeping-arrives : let s : Smoothed = record { rate = 65281; kept = 0 } in
-    (afterSteps 1563 255 65536 s .rate ≡ 65535) × (afterSteps 1564 255 65536 s .rate ≡ 65536)
+pub keeping-arrives : KeepingArrives
 unfolding afterSteps smoothed smoothRate smoothKept smoothTotal
 keeping-arrives = (refl, refl)

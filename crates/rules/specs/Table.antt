@@ -12,19 +12,7 @@ use Rattle.whole.specs.Tests.{and-left, and-right}
 use Rattle.rules.specs.Every.{every, at-each-place}
 use Rattle.rules.specs.Rules.{cdRate, filmRate, cdTable, filmTable, table, firstNote, notes, notePeriod}
 use Rattle.rules.specs.Facts.{SampleRate, cd, film, OfTable}
-
--- the twelfth power of q x 440 x 2^((n-69)/12), times 2^69
-abbrev pub times : ℕ → ℕ → ℕ
-times n q = q ^ 12 * 440 ^ 12 * 2 ^ n
-
--- the twelfth power of 2 x hertz x 256, times 2^69
-abbrev pub second : ℕ → ℕ
-second hertz = (2 * hertz * 256) ^ 12 * 2 ^ 69
-
--- p is nearest: 2p-1 and 2p+1 lie on the two sides of twice that number
-pub record Nearest (hertz n p : ℕ) : Type 0 where
-  pub below : times n (2 * p - 1) < second hertz
-  pub above : second hertz < times n (2 * p + 1)
+use Rattle.rules.specs.Tuning.{times, second, Nearest, TableRule, NearestOne}
 
 -- ---- what holds at both sample rates holds at any
 at-any : (P : ℕ → Type 0) → P cdRate × P filmRate → {hertz : ℕ} → SampleRate hertz → P hertz
@@ -78,8 +66,8 @@ all-nearest : EachPasses isNearest cdRate × EachPasses isNearest filmRate
 unfolding table firstNote cdTable filmTable
 all-nearest = (refl, refl)
 
-pub table-nearest : {hertz n : ℕ} → SampleRate hertz → OfTable hertz n → Nearest hertz n (notePeriod hertz n)
-table-nearest {hertz} {n} rate t =
+pub table-nearest : TableRule
+table-nearest hertz n rate t =
     let both = at-each-note isNearest all-nearest rate t in
     record { below = ltb-true _ _ (and-left _ _ both); above = ltb-true _ _ (and-right (ltb (times n (2 * notePeriod hertz n - 1)) (second hertz)) _ both) }
 
@@ -93,8 +81,8 @@ module _ (hertz n : ℕ) where
       let far : 2 * p + 1 ≤ 2 * q - 1 = omega arith in
       lt-irrefl (times n (2 * p + 1)) (lt-of-le-of-lt (times-grows n far) (lt-of-lt-of-le (b .below) (le-of-lt (a .above))))
 
-  pub nearest-one : (p q : ℕ) → Nearest hertz n p → Nearest hertz n q → p ≡ q
-  nearest-one p q a b = neither-below (none-below-a-nearest p q a b) (none-below-a-nearest q p b a)
-    where
-      neither-below : (p < q → ⊥) → (q < p → ⊥) → p ≡ q
-      neither-below f g = omega arith
+pub nearest-one : NearestOne
+nearest-one hertz n p q a b = neither-below (none-below-a-nearest hertz n p q a b) (none-below-a-nearest hertz n q p b a)
+  where
+    neither-below : (p < q → ⊥) → (q < p → ⊥) → p ≡ q
+    neither-below f g = omega arith

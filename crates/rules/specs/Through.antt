@@ -6,7 +6,7 @@ use Prim.Native.Nat.{ℕ, suc, _+_, _*_, _-_, _/_, _%_, _^_, _≤_, _<_}
 use native.Mathlib.Nat.{le-refl, div-add-mod', mod-lt, mul-le-mul-right, suc-mul}
 use native.Mathlib.Omega.{arith}
 use borrow.Author.Tests.{ltb-false, le-ltb}
-use lib.Dec.{ltb, lit<}
+use lib.Dec.{ltb, leb→le, lit<}
 use lib.IntN.{ℤ, pos, negsuc, _+ℤ_, _-ℤ_, _*ℤ_}
 use lib.Signed.{mag}
 use mir.Syntax.{w16, w64}
@@ -18,6 +18,8 @@ use Rattle.whole.specs.Floor.{floor-is, floor-one}
 use Rattle.whole.specs.Numbers.{floorDiv}
 use Rattle.whole.specs.Ring.{Expr, var, con, _⊕_, _⊖_, _⊗_, solve}
 use Rattle.rules.specs.Rules.{curve, held, through}
+use Rattle.rules.specs.Facts.{SixteenBits}
+use Rattle.rules.specs.Sounds.{AtTheSample}
 
 -- ---- the curve as an expression, with the factors of its square and its cube
 abbrev pub squareX : Expr → Expr → Expr → Expr → Expr
@@ -65,6 +67,13 @@ through-none p a b q f =
     (solve (p ∷ a ∷ b ∷ q ∷ []) (curveX (var 0) (var 1) (var 2) (var 3) (con (pos 0))) (var 1 ⊗ con (pos (2 * 4096 ^ 3)) ⊕ con (pos 0)) refl)
     (lit< tt)
     f
+
+pub sixteen-fits : (a : ℤ) → SixteenBits a → SFits w16 a
+sixteen-fits (pos n) h = record { sfits = omega (arith, leb→le n 32767 (h .1 .le)) }
+sixteen-fits (negsuc n) h = record { sfits = omega (arith, leb→le n 32767 (h .0 .le)) }
+
+pub at-the-sample : AtTheSample
+at-the-sample p a b q h = through-none p a b q (sixteen-fits a h)
 
 -- ---- a value between two samples is a sample
 

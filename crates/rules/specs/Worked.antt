@@ -1,12 +1,12 @@
--- Document 01's worked numbers, number 11 as document 02's K12 has it, and those of K8: one table, and one statement over it, about the definitions.
-use mathlib.Core.Path.{_≡_, refl}
+-- Document 01's worked numbers, number 11 as document 02's K12 has it, and those of K8: one table, and one statement over it, about the definitions; and the
+-- whole case of document 01. Definitions only: they are computed in Computed.
+use mathlib.Core.Path.{_≡_}
 use mathlib.Core.Bool.{Bool, true, false}
 use mathlib.Core.List.{List, [], _∷_}
 use mathlib.Core.Option.{Option, none, some}
 use Prim.Native.Nat.{ℕ, _+_, _*_, _/_}
 use lib.IntN.{ℤ, pos, negsuc, negℤ, _+ℤ_}
-use Rattle.whole.specs.Numbers.{fold}
-use Rattle.rules.specs.Rules.{Sound, silence, heard, heardAll, E, H, D, eighthSample, eighthDue, meetsEps, meetsFloor, offset, settingsNumber, startNumber, cdRate, filmRate, cdTable, filmTable, table, firstNote, notes, notePeriod, ofScale, nearer, wantedOf, wanted, scaleMode, noNote, wantedPeriod, rawRate, rawToward, goalOf, smoothTotal, smoothRate, smoothKept, curve, held, through, inputAt, cycleRepeated, cycleDropped, cycles, growth, Take, freshTake, Given, noTone, listened, listenedIn, sampleAt, wholeOf, fractionOf, reading, eighthsAfter, stepped, gives, samplesOut}
+use Rattle.rules.specs.Rules.{Sound, silence, heardAll, E, H, D, eighthSample, meetsEps, meetsFloor, offset, startNumber, cdRate, filmRate, notePeriod, wanted, scaleMode, noNote, wantedPeriod, rawRate, goalOf, smoothRate, smoothKept, through, growth, freshTake, gives, samplesOut}
 
 -- the sound of some samples alone, the oldest first, as document 01 prints them
 abbrev soundOf : List ℤ → Sound
@@ -125,13 +125,12 @@ numbers =
     ∷ starts filmRate 0 410 256 0 8
     ∷ []
 
-pub numbers-hold : AllHold numbers
-unfolding numbers AllHold Holds settingsNumber startNumber silence heard heardAll fold E H D eighthSample meetsEps meetsFloor offset cdTable filmTable table firstNote notes notePeriod wanted wantedOf ofScale nearer rawRate rawToward wantedPeriod goalOf smoothTotal smoothRate smoothKept curve held through growth cycleRepeated cycleDropped cycles inputAt
-numbers-hold =
-    ((refl, refl, refl), ((refl, refl, refl), ((refl, refl, refl), (refl, (refl, (refl, (refl, (refl, (refl, (refl, (refl, (refl, (refl, (refl, (refl, (refl, ((refl, refl), ((refl, refl), ((refl, refl), (refl, (refl, (refl, (refl, (refl, (refl, (refl, (refl, (refl, (refl, (refl, (refl, (refl, (refl, (refl, (refl, (refl, (refl, (refl, (refl, (refl, (refl, (refl, (refl, (refl, (refl, tt)))))))))))))))))))))))))))))))))))))))))))))
+-- all of them hold
+abbrev pub NumbersHold : Type 0
+NumbersHold = AllHold numbers
 
--- the whole case of document 01: until a period is tracked, output is the input four samples late
-pub whole-case : samplesOut (gives (record { settings = record { scale = 4095; eps = 200; decay = 0; floor = 100; mode = scaleMode; channel = 0 }; key = noNote; hertz = cdRate }) freshTake (pos 1000 ∷ minus 1000 ∷ pos 500 ∷ pos 8 ∷ pos 9 ∷ pos 10 ∷ []))
+-- the whole case of document 01: its samples out, where each block's samples go through one after the other
+abbrev pub WholeCase : Type 0
+WholeCase =
+    samplesOut (gives (record { settings = record { scale = 4095; eps = 200; decay = 0; floor = 100; mode = scaleMode; channel = 0 }; key = noNote; hertz = cdRate }) freshTake (pos 1000 ∷ minus 1000 ∷ pos 500 ∷ pos 8 ∷ pos 9 ∷ pos 10 ∷ []))
     ≡ pos 0 ∷ pos 0 ∷ pos 0 ∷ pos 0 ∷ pos 1000 ∷ minus 1000 ∷ []
-unfolding freshTake silence heard gives samplesOut stepped eighthDue eighthsAfter noTone listened listenedIn growth cycleRepeated cycleDropped cycles inputAt reading curve held through sampleAt wholeOf fractionOf
-whole-case = refl

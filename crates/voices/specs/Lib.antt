@@ -2,3 +2,4 @@ pub mod Voices
 pub mod Singing
 pub mod Accompanying
 pub mod Worked
+pub mod Rates

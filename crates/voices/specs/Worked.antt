@@ -1,9 +1,9 @@
--- Worked rates of voices, one table and one statement over it. They shut out a voice that is bound to the scale, one that keeps the lead's limits, and one that is smoothed: the scale and the decay are nowhere in the rule, and rates go as far as 1,201 and 3,556,721.
-use mathlib.Core.Path.{_≡_, refl}
+-- Worked rates of voices, one table and one statement over it. They shut out a voice that is bound to the scale, one that keeps the lead's limits, and one that is smoothed: the scale and the decay are nowhere in the rule, and rates go as far as 1,201 and 3,556,721. Definitions only.
+use mathlib.Core.Path.{_≡_}
 use mathlib.Core.List.{List, [], _∷_}
 use Prim.Native.Nat.{ℕ}
-use Rattle.rules.specs.Rules.{cdRate, filmRate, cdTable, filmTable, table, firstNote, notes, notePeriod, wantedPeriod, rawRate}
-use Rattle.voices.specs.Voices.{voiceNote, voiceRate}
+use Rattle.rules.specs.Rules.{cdRate, filmRate}
+use Rattle.voices.specs.Voices.{voiceRate}
 
 -- beside this period and this wanted note, at a sample rate, a voice of this interval (12 is none) has this rate; 0 is silent
 pub record Row : Type 0 where
@@ -16,10 +16,12 @@ pub record Row : Type 0 where
 abbrev row : (hertz interval period note rate : ℕ) → Row
 row hertz interval period note rate = record { hertz = hertz; interval = interval; period = period; note = note; rate = rate }
 
+-- each row is what the rule gives
 unfoldable pub AllHold : List Row → Type 0
 AllHold [] = Unit {0}
 AllHold (r ∷ rs) = (voiceRate (r .hertz) (r .interval) (r .period) (r .note) ≡ r .rate) × AllHold rs
 
+-- the table
 unfoldable pub rates : List Row
 rates =
     -- in unison with a lead that is in tune, and with one that is flat: the lead's raw rate
@@ -42,6 +44,6 @@ rates =
     ∷ row cdRate 12 0 69 0
     ∷ []
 
-pub rates-hold : AllHold rates
-unfolding rates AllHold voiceNote voiceRate wantedPeriod rawRate notePeriod table firstNote notes cdTable filmTable
-rates-hold = (refl, (refl, (refl, (refl, (refl, (refl, (refl, (refl, (refl, (refl, (refl, (refl, tt))))))))))))
+-- all of them hold
+abbrev pub RatesHold : Type 0
+RatesHold = AllHold rates

@@ -1,15 +1,16 @@
--- The canonical form of a take as a RIFF WAVE file, a header of 44 bytes and the samples, and what writing promises. Definitions only.
+-- The canonical form of a take as a RIFF WAVE file, a header of 44 bytes and the samples, what writing promises, and that reading and writing give each other back. Definitions only.
 use mathlib.Core.Path.{_≡_}
 use mathlib.Core.Bool.{not}
 use mathlib.Core.List.{List, [], _∷_, _++_}
-use Prim.Native.Nat.{ℕ, _+_, _-_, _*_, _<_}
+use Prim.Native.Nat.{ℕ, _+_, _-_, _*_, _≤_, _<_}
 use lib.Dec.{ltb}
 use lib.IntN.{ℤ, pos, negsuc}
-use lib.ListN.{length, getD}
+use lib.ListN.{length, getD, take}
 use mir.Syntax.{w16}
 use mir.Val.{SFits}
 use Rattle.riff.specs.Riff.{bytesOf, headBytes, fmtName, dataName, refusedBy}
-use Rattle.wave.specs.Waves.{riffName, waveName, known, refusal, rateOf, countOf, samplesOf, over}
+use Rattle.wave.specs.declared.WaveRead.{WaveRead}
+use Rattle.wave.specs.Waves.{riffName, waveName, known, refusal, rateOf, countOf, samplesOf, over, WasRead}
 use Rattle.writing.specs.declared.WaveWritten.{WaveWritten}
 
 -- ---- the canonical form
@@ -75,3 +76,23 @@ pub record TakeOf (file : List ℕ) (hertz : ℕ) (xs : List ℤ) : Type 0 where
 -- the canonical form of a file that is taken
 abbrev pub formOf : List ℕ → List ℕ
 formOf file = canonical (rateOf file) (samplesOf file)
+
+-- a file is read, what was read is written, and these are the bytes written
+pub data Rewritten (file : List ℕ) : List ℕ → Type 0 where
+  rewritten : {room room′ : List ℤ} {r : WaveRead} {out out′ : List ℕ} {w : WaveWritten} → WasRead file room r room′ → r .number ≡ 0 → WasWritten (r .hertz) (take (r .count) room′) out w out′ → w .number ≡ 0 → Rewritten file (take (w .length) out′)
+
+-- where there is room, reading the file gives these samples at this rate
+abbrev pub ReadAs : (file : List ℕ) (hertz : ℕ) → List ℤ → Type 0
+ReadAs file hertz xs = (room room′ : List ℤ) (r : WaveRead) → length xs ≤ length room → WasRead file room r room′ → (r ≡ record { number = 0; count = length xs; hertz = hertz }) × (room′ ≡ over xs room)
+
+-- writing and then reading gives the samples back, from the bytes written alone and from the output with what stands behind them
+abbrev pub WrittenIsRead : Type 0
+WrittenIsRead = (hertz : ℕ) (xs : List ℤ) (out out′ : List ℕ) (w : WaveWritten) → Samples xs → WasWritten hertz xs out w out′ → w .number ≡ 0 → ReadAs (take (w .length) out′) hertz xs × ReadAs out′ hertz xs
+
+-- reading and then writing gives the canonical form
+abbrev pub ReadIsWritten : Type 0
+ReadIsWritten = (file bytes : List ℕ) → Rewritten file bytes → bytes ≡ formOf file
+
+-- which is a fixed point: it holds the same take, and reading and then writing it gives it again
+abbrev pub FormIsFixed : Type 0
+FormIsFixed = (file bytes : List ℕ) → Bytes file → Rewritten file bytes → TakeOf bytes (rateOf file) (samplesOf file) × ((again : List ℕ) → Rewritten bytes again → again ≡ bytes)

@@ -1,7 +1,7 @@
--- Reading and then writing gives the canonical form, which is its own reading and writing again; writing and then reading gives the samples back.
+-- Writing and then reading gives the samples back; reading and then writing gives the canonical form, which is a fixed point: since that form is read as the take that it was made of.
 use mathlib.Core.Path.{_≡_, sym, ap, _∙_, subst}
 use mathlib.Core.Bool.{true, not}
-use mathlib.Core.List.{List, [], append-nil}
+use mathlib.Core.List.{List, [], _++_, append-nil}
 use Prim.Native.Nat.{ℕ, _+_, _*_, _≤_, _<_}
 use native.Mathlib.Omega.{arith}
 use native.Mathlib.Decide.{decLt}
@@ -21,7 +21,7 @@ use Rattle.wave.specs.Waves.{known, refusal, rateOf, placeOf, countOf, sampleOf
 use Rattle.wave.specs.Samples.{sample-fits}
 use Rattle.wave.specs.Judging.{right-of, rate-known}
 use Rattle.writing.specs.declared.WaveWritten.{WaveWritten}
-use Rattle.writing.specs.Canonical.{canonical, limit, unwrittenBy, WasWritten, not-written, written, Bytes, Samples, TakeOf, formOf}
+use Rattle.writing.specs.Canonical.{canonical, limit, unwrittenBy, WasWritten, not-written, written, Bytes, Samples, TakeOf, formOf, Rewritten, rewritten, ReadAs, WrittenIsRead, ReadIsWritten, FormIsFixed}
 use Rattle.writing.specs.Writing.{length-canonical}
 use Rattle.writing.specs.ReadBack.{canonical-back}
 
@@ -41,16 +41,11 @@ samples-fit file b i = by-place (decLt i (countOf file))
         subst (λ (z : ℤ). SFits w16 z) (sym (getD-listOf f (countOf file) i (pos 0) h)) (sample-fits (numberAt file at 2) (omega (arith, two-is file at, b at, b (at + 1))))
     by-place (no n) = subst (λ (z : ℤ). SFits w16 z) (sym (List·getD-eq-default (samplesOf file) (pos 0) (omega (arith, length-samples file)))) (record { sfits = omega arith })
 
-module _ (file : List ℕ) (t : refusal file ≡ 0) (b : Bytes file) (few : countOf file ≤ limit) where
-  -- the canonical form of a file that is taken has its take
-  pub form-back : TakeOf (formOf file) (rateOf file) (samplesOf file)
-  form-back =
-      subst (λ (l : List ℕ). TakeOf l (rateOf file) (samplesOf file)) (append-nil (formOf file))
-      (canonical-back (rateOf file) (samplesOf file) [] (rate-known file (right-of file t)) (omega (arith, length-samples file)) (samples-fit file b))
-
-  -- and is its own canonical form
-  pub form-fixed : formOf (formOf file) ≡ formOf file
-  form-fixed = λ i. canonical (form-back .rate i) (form-back .samples i)
+-- the canonical form of a file that is taken has its take
+form-back : (file : List ℕ) → refusal file ≡ 0 → Bytes file → countOf file ≤ limit → TakeOf (formOf file) (rateOf file) (samplesOf file)
+form-back file t b few =
+    subst (λ (l : List ℕ). TakeOf l (rateOf file) (samplesOf file)) (append-nil (formOf file))
+    (canonical-back (rateOf file) (samplesOf file) [] (rate-known file (right-of file t)) (omega (arith, length-samples file)) (samples-fit file b))
 
 -- ---- calls
 
@@ -81,24 +76,18 @@ written-bytes {hertz} {xs} {out} {w = w} p z =
     ap (take (w .length)) (r .text) ∙ take-at (canonical hertz xs) (drop (length (canonical hertz xs)) out) (w .length) (sym (r .size))
 
 -- a take that is read, where there is room
-take-read : {file : List ℕ} {hertz : ℕ} {xs room room′ : List ℤ} {r : WaveRead} → TakeOf file hertz xs → length xs ≤ length room → WasRead file room r room′ →
-    (r ≡ record { number = 0; count = length xs; hertz = hertz }) × (room′ ≡ over xs room)
-take-read t h (not-taken n p o) = absurd (n (t .taken))
-take-read t h (no-room z l p o) = absurd (omega (arith, t .count))
-take-read {room = room} t h (taken z l p o) = (p ∙ (λ i. record { number = 0; count = t .count i; hertz = t .rate i }), o ∙ ap (λ (l : List ℤ). over l room) (t .samples))
+take-read : {file : List ℕ} {hertz : ℕ} {xs : List ℤ} → TakeOf file hertz xs → ReadAs file hertz xs
+take-read t room room′ r h (not-taken n p o) = absurd (n (t .taken))
+take-read t room room′ r h (no-room z l p o) = absurd (omega (arith, t .count))
+take-read t room room′ r h (taken z l p o) = (p ∙ (λ i. record { number = 0; count = t .count i; hertz = t .rate i }), o ∙ ap (λ (l : List ℤ). over l room) (t .samples))
 
-module _ {hertz : ℕ} {xs : List ℤ} {out out′ : List ℕ} {w : WaveWritten} (p : WasWritten hertz xs out w out′) (z : w .number ≡ 0) (f : Samples xs) where
-  -- what was written is read back: from the output as it is, and from the bytes written alone
-  pub output-read : {room room′ : List ℤ} {r : WaveRead} → length xs ≤ length room → WasRead out′ room r room′ → (r ≡ record { number = 0; count = length xs; hertz = hertz }) × (room′ ≡ over xs room)
-  output-read h q =
-      let r = wrote p z in
-      take-read (subst (λ (l : List ℕ). TakeOf l hertz xs) (sym (r .text)) (canonical-back hertz xs (drop (length (canonical hertz xs)) out) (r .rate) (r .few) f)) h q
-
-  pub written-read : {room room′ : List ℤ} {r : WaveRead} → length xs ≤ length room → WasRead (take (w .length) out′) room r room′ →
-      (r ≡ record { number = 0; count = length xs; hertz = hertz }) × (room′ ≡ over xs room)
-  written-read h q =
-      let r = wrote p z in
-      take-read (subst (λ (l : List ℕ). TakeOf l hertz xs) (append-nil (canonical hertz xs) ∙ sym (written-bytes p z)) (canonical-back hertz xs [] (r .rate) (r .few) f)) h q
+pub written-read : WrittenIsRead
+written-read hertz xs out out′ w f p z =
+    let r = wrote p z in
+    let back : (more : List ℕ) → TakeOf (canonical hertz xs ++ more) hertz xs = λ more. canonical-back hertz xs more (r .rate) (r .few) f in (
+      take-read (subst (λ (l : List ℕ). TakeOf l hertz xs) (append-nil (canonical hertz xs) ∙ sym (written-bytes p z)) (back [])),
+      take-read (subst (λ (l : List ℕ). TakeOf l hertz xs) (sym (r .text)) (back (drop (length (canonical hertz xs)) out))),
+    )
 
 -- a file that was read: it is taken, and its samples stand at the front
 pub record WasTaken (file : List ℕ) (r : WaveRead) (room′ : List ℤ) : Type 0 where
@@ -119,15 +108,19 @@ was-taken {file} {room} {r = r} (taken e l p o) z =
       samples = ap (take (r .count)) o ∙ take-at (samplesOf file) (drop (length (samplesOf file)) room) (r .count) (length-samples file ∙ sym n);
     }
 
--- reading and then writing gives the canonical form
-pub read-written : {file : List ℕ} {room room′ : List ℤ} {r : WaveRead} {out out′ : List ℕ} {w : WaveWritten} → WasRead file room r room′ → r .number ≡ 0 →
-    WasWritten (r .hertz) (take (r .count) room′) out w out′ → w .number ≡ 0 → take (w .length) out′ ≡ formOf file
-read-written p z q y = let t = was-taken p z in written-bytes q y ∙ (λ i. canonical (t .rate i) (t .samples i))
+pub read-written : ReadIsWritten
+read-written file bytes (rewritten p z q y) = let t = was-taken p z in written-bytes q y ∙ (λ i. canonical (t .rate i) (t .samples i))
 
--- which is its own reading and writing again
-pub form-again : (file : List ℕ) {room room′ : List ℤ} {r : WaveRead} {out out′ : List ℕ} {w : WaveWritten} → refusal file ≡ 0 → Bytes file → countOf file ≤ limit →
-    WasRead (formOf file) room r room′ → r .number ≡ 0 → WasWritten (r .hertz) (take (r .count) room′) out w out′ → w .number ≡ 0 → take (w .length) out′ ≡ formOf file
-form-again file t b few p z q y = read-written p z q y ∙ form-fixed file t b few
+-- a file that was read and written: it is taken, and has not too many samples
+within-limit : {file bytes : List ℕ} → Rewritten file bytes → (refusal file ≡ 0) × (countOf file ≤ limit)
+within-limit {file} (rewritten p z q y) = let t = was-taken p z in (t .taken, omega (arith, wrote q y .few, ap length (t .samples), length-samples file))
+
+pub form-fixed : FormIsFixed
+form-fixed file bytes b s =
+    let is = read-written file bytes s in
+    let (t, few) = within-limit s in
+    let back : TakeOf bytes (rateOf file) (samplesOf file) = subst (λ (l : List ℕ). TakeOf l (rateOf file) (samplesOf file)) (sym is) (form-back file t b few) in
+    (back, λ again s′. read-written bytes again s′ ∙ (λ i. canonical (back .rate i) (back .samples i)) ∙ sym is)
 
 -- ---- no second answer
 pub written-one : {hertz : ℕ} {xs : List ℤ} {out o₁ o₂ : List ℕ} {w₁ w₂ : WaveWritten} → WasWritten hertz xs out w₁ o₁ → WasWritten hertz xs out w₂ o₂ → (w₁ ≡ w₂) × (o₁ ≡ o₂)

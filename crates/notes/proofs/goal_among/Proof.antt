@@ -7,7 +7,8 @@ use borrow.Author.Needs.{needs}
 use lib.ListN.{getD}
 use Rattle.rules.specs.Rules.{firstNote, notePeriod, wanted, rawRate, noteOf, goalOf}
 use Rattle.rules.specs.Table.{table-span}
-use Rattle.rules.specs.Notes.{IsWanted, wanted-is, wanted-of-table, note-period-range, raw-range, goal-of-scale}
+use Rattle.rules.specs.Tuning.{IsWanted}
+use Rattle.rules.specs.Notes.{wanted-is, wanted-of-table, note-period-range, raw-range, goal-of-scale}
 use Rattle.notes.specs.Around.{at-place, as-long}
 use Rattle.notes.proofs.goal_among.Statement.{statement}
 use Rattle.notes.proofs.goal_among.Tie as tie
@@ -49,7 +50,7 @@ raw-rate-requires c κs =
     let n = c .before in
     let p = start n .pre in
     let w = is-wanted n in
-    rw (read n) (omega (arith, note-period-range (p .0) (wanted-of-table w)), omega (arith, raw-range (p .0) w (p .4) (p .5) .1))
+    rw (read n) (omega (arith, note-period-range (p .0) (wanted-of-table w)), omega (arith, raw-range _ _ _ _ (p .0) w (p .4) (p .5) .1))
 
 first-note-requires : tie.Need-first-note-requires
 first-note-requires c κs = search needs

@@ -10,12 +10,12 @@ use Rattle.play.proofs.block.Statement.{statement}
 use Rattle.play.proofs.block.Tie as tie
 use Rattle.play.proofs.block.Reads as reads
 use Rattle.play.proofs.block.Lts as lts
+use Rattle.play.proofs.given.Reads as given-reads
 use Rattle.play.proofs.most.Reads as most-reads
 use Rattle.play.proofs.samples.Reads as samples-reads
 use Rattle.play.proofs.say.Reads as say-reads
 use Rattle.play.proofs.show.Reads as show-reads
 use Rattle.play.proofs.word.Reads as word-reads
-use Rattle.tuner.proofs.Tuner.block.Reads as block-reads
 
 word-requires : tie.Need-word-requires
 word-requires c κs = search needs
@@ -44,21 +44,21 @@ array-share-prefix-xs c = search needs
 long : (c : tie.After-xs) → length (c .before .samples .result) ≡ 513
 long c = search needs
 
-slice-aggregate-block : tie.Need-slice-aggregate-block
-slice-aggregate-block c =
+slice-aggregate-given : tie.Need-slice-aggregate-given
+slice-aggregate-given c =
     let n = c .before .before .before .before .before .most in
     sym (length-take-le (n .result) (c .before .samples .result) (omega (arith, long c, n .ensures)))
 
 array-borrow-prefix-out : tie.Need-array-borrow-prefix-out
 array-borrow-prefix-out c = search needs
 
-slice-aggregate-block-2 : tie.Need-slice-aggregate-block-2
-slice-aggregate-block-2 c =
+slice-aggregate-given-2 : tie.Need-slice-aggregate-given-2
+slice-aggregate-given-2 c =
     let n = c .before .before .before .before .most2 in
     sym (length-take-le (n .result) (replicate 513 (pos 7)) (omega (arith, n .ensures)))
 
-block-requires : tie.Need-block-requires
-block-requires c κs = search needs
+given-requires : tie.Need-given-requires
+given-requires c κs = search needs
 
 say-requires : tie.Need-say-requires
 say-requires c κs = search needs
@@ -81,10 +81,10 @@ block-spec =
     cast-number
     samples-requires
     array-share-prefix-xs
-    slice-aggregate-block
+    slice-aggregate-given
     array-borrow-prefix-out
-    slice-aggregate-block-2
-    block-requires
+    slice-aggregate-given-2
+    given-requires
     say-requires
     show-requires
     returns)

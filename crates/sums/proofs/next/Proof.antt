@@ -10,7 +10,8 @@ use mir.Val.{toZ, ofZ}
 use mir.Facts.{toZ-ofZ}
 use Rattle.whole.specs.Words.{Bits}
 use Rattle.rules.specs.Rules.{sq, E}
-use Rattle.rules.specs.Energies.{nextH, E-slides, H-next}
+use Rattle.rules.specs.Sounds.{nextH}
+use Rattle.rules.specs.Energies.{E-slides, H-next}
 use Rattle.ages.specs.Ages.{ago, ago-fits}
 use Rattle.sums.specs.Sweep.{energy-small, correlation-held}
 use Rattle.sums.proofs.next.Statement.{statement}
