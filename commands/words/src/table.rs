@@ -237,7 +237,7 @@ pub const COMMANDS: &[Command] = &[
             A_TAKE,
         ],
         more: &[
-            "With --tsv a row also has its end in seconds and cents: how far the singing was from the note, on average over the row, above it if positive. That takes about ten times as long.",
+            "With --tsv a row also has its end in seconds and cents: how far the singing was from the note, on average over the row, above it if positive. That takes about twenty times as long.",
             "There are 4,096 rows at most; standard error says how many more were left out.",
             "Without words it reads the lines of daxfolin lines from standard input and prints the rows of each take when it ends: note, first sample and length, then a line with end, the rows, and those left out.",
         ],
@@ -305,7 +305,7 @@ pub const COMMANDS: &[Command] = &[
             "Tunes IN.wav once more with the independent program, which shares no line with the one that it checks, and compares every sample of OUT.wav with its own. With --voice it compares OUT-1.wav and so on too. Give it the options that OUT was tuned with.",
             "Prints equal, or the first difference with its sample and time.",
         ],
-        more: &["It takes some seconds for each minute of sound."],
+        more: &["It takes about a second of processor time for each minute of sound."],
         statuses: &[
             (0, "equal"),
             WRONG,
