@@ -4,13 +4,20 @@
  *     tools/run target/example sung.raw tuned.raw
  *     tools/run target/example film.raw tuned.raw 48000
  *
- * The whole take is read and tuned before OUT is opened, so OUT may be IN, and OUT is as it was where the take is refused.
+ * The whole take is read and tuned before OUT is written, so OUT may be IN, and OUT is as it was where the take is refused. It is written
+ * beside OUT, as OUT.part, and renamed when it is on the disk: OUT is there when it is whole. What is no regular file, such as a pipe, is
+ * written as it is.
  * Status 0; 1 where a file cannot be read, tuned or written; 2 where the words are wrong. */
+#define _GNU_SOURCE
 #include "daxfolin.h"
+#include "daxfolin_words.h"
 #include <errno.h>
+#include <fcntl.h>
 #include <stdio.h>
 #include <stdlib.h>
 #include <string.h>
+#include <sys/stat.h>
+#include <unistd.h>
 
 static const char usage[] = "usage: example IN OUT [44100 | 48000]\n"
                             "Tunes IN, raw samples (mono, 16 bits, low byte first, 44,100 a second unless said), to the nearest notes, and writes OUT.\n";
@@ -69,16 +76,30 @@ static uint32_t rate_of(const char *word) {
     return strcmp(word, "48000") ? 0 : DAXFOLIN_FILM;
 }
 
+/* Writes samples to a file that is open, and closes it; 0, or why not. With `regular` it is on the disk then. */
+static int put_all(FILE *to, const int16_t *samples, size_t count, int regular) {
+    int why = fwrite(samples, sizeof *samples, count, to) == count && !fflush(to) ? 0 : errno;
+    if (!why && regular && fsync(fileno(to))) why = errno;
+    if (fclose(to) && !why) why = errno;
+    return why;
+}
+
 static int write_all(const char *file, const int16_t *samples, size_t count) {
-    FILE *to = fopen(file, "wb");
-    if (!to) return fail(file, strerror(errno));
-    if (fwrite(samples, sizeof *samples, count, to) != count) {
-        int why = errno;
-        fclose(to);
-        return fail(file, strerror(why));
-    }
-    if (fclose(to)) return fail(file, strerror(errno));
-    return 0;
+    /* not stat, whose record is another one on every processor, and this is compiled for x86-64 on others too */
+    struct statx is;
+    int there = !statx(AT_FDCWD, file, 0, STATX_TYPE | STATX_MODE, &is), regular = !there || S_ISREG(is.stx_mode);
+    size_t room = strlen(file) + sizeof ".part";
+    char *part = malloc(room);
+    if (!part) return fail(file, "no memory for its name");
+    snprintf(part, room, "%s%s", file, regular ? ".part" : "");
+    FILE *to = fopen(part, regular ? "wbx" : "wb");
+    int why = to ? put_all(to, samples, count, regular) : errno;
+    if (!why && regular && there && chmod(part, is.stx_mode & 07777)) why = errno;
+    if (!why && regular && rename(part, file)) why = errno;
+    /* one that was there before is somebody else's */
+    if (why && to && regular) remove(part);
+    free(part);
+    return why ? fail(file, strerror(why)) : 0;
 }
 
 int main(int argc, char **argv) {
@@ -90,7 +111,7 @@ int main(int argc, char **argv) {
     daxfolin_settings settings = DAXFOLIN_DEFAULTS;
     uint32_t started = daxfolin_start(&tuner, argc == 4 ? rate_of(argv[3]) : DAXFOLIN_CD, settings);
     if (started == DAXFOLIN_RATE_UNKNOWN) return wrong();
-    if (started != DAXFOLIN_TAKEN) return fail(argv[1], "the tuner does not start");
+    if (started != DAXFOLIN_TAKEN) return fail(argv[1], daxfolin_words(started));
 
     size_t count;
     int16_t *take = read_all(argv[1], &count);
@@ -101,7 +122,7 @@ int main(int argc, char **argv) {
     for (size_t k = 0; (part = daxfolin_cut(count, k)).count > 0; k++) {
         int16_t tuned[DAXFOLIN_LONGEST_BLOCK];
         daxfolin_answer answer = daxfolin_block(&tuner, (uint16_t)k, take + part.from, part.count, tuned, part.count);
-        if (answer.number != DAXFOLIN_TAKEN) return fail(argv[1], "a block is refused");
+        if (answer.number != DAXFOLIN_TAKEN) return fail(argv[1], daxfolin_words(answer.number));
         memcpy(take + part.from, tuned, part.count * sizeof *tuned);
         repeated += answer.repeated;
         dropped += answer.dropped;

@@ -20,7 +20,6 @@
 //! })?;
 //! ```
 
-use crate::{no, End};
 use daxfolin::smf::{
     self, Event, Read, Refused, What, DIVISION_WRONG, ENDS_EARLY, FORMAT_UNKNOWN, NO_MIDI_FILE,
     NO_RUNNING_STATUS, QUANTITY_TOO_LONG, STATUS_WITHIN, TEMPO_WRONG, TRACK_TOO_LONG,
@@ -29,6 +28,7 @@ use daxfolin::smf::{
 use daxfolin::{Settings, KEYBOARD_MODE};
 use std::collections::BTreeSet;
 use std::path::Path;
+use words::end::{no, End};
 
 /// The channel on which keys are delivered, from 0 on.
 const CHANNEL: u8 = 0;

@@ -229,6 +229,7 @@ impl Choir {
         let periods = [vec![None; before], tuner.periods.clone()].concat();
         let notes = [vec![None; before], tuner.notes.clone()].concat();
         let lead = Lead {
+            first: 0,
             periods: &periods,
             notes: &notes,
             ..tuner.lead()

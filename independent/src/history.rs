@@ -5,14 +5,18 @@ pub const SILENCE_BEFORE: usize = 1_760;
 
 #[derive(Clone, Debug, PartialEq, Eq)]
 pub struct History {
-    /// The silence before the take, then every sample of it.
+    /// The silence before the take, then every sample of it, but for those
+    /// that are forgotten.
     stored: Vec<i16>,
+    /// How many of the oldest are not stored any more.
+    forgotten: usize,
 }
 
 impl History {
     pub fn fresh() -> History {
         History {
             stored: vec![0; SILENCE_BEFORE],
+            forgotten: 0,
         }
     }
 
@@ -27,9 +31,17 @@ impl History {
         self.stored.push(sample);
     }
 
+    /// Forgets all that nothing looks back to any more, for takes that are
+    /// longer than memory is.
+    pub fn forget(&mut self) {
+        let oldest = self.stored.len() - SILENCE_BEFORE;
+        self.stored.drain(..oldest);
+        self.forgotten += oldest;
+    }
+
     /// Samples received since the start or reset.
     pub fn count(&self) -> usize {
-        self.stored.len() - SILENCE_BEFORE
+        self.stored.len() + self.forgotten - SILENCE_BEFORE
     }
 
     /// The newest `length` samples.
@@ -46,7 +58,7 @@ impl History {
     /// The sample of this index, the first having 0. Below 0 it is 0.
     pub fn at(&self, index: i64) -> i16 {
         match usize::try_from(index) {
-            Ok(index) => self.stored[SILENCE_BEFORE + index],
+            Ok(index) => self.stored[SILENCE_BEFORE + index - self.forgotten],
             Err(_) => 0,
         }
     }

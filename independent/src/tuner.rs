@@ -455,6 +455,16 @@ impl Tuner {
         &self.sounded
     }
 
+    /// Forgets what the next sample does not need: the list, the report and
+    /// the voices are then those of the samples behind it.
+    pub fn forget(&mut self) {
+        self.take.forget();
+        self.eighths.forget();
+        self.notes.clear();
+        self.periods.clear();
+        self.sounded.clear();
+    }
+
     /// Samples of the take.
     pub fn count(&self) -> usize {
         self.take.count()

@@ -21,6 +21,9 @@ pub const OCTAVE: i32 = 12;
 pub struct Lead<'a> {
     pub hertz: u32,
     pub take: &'a History,
+    /// The sample from which on the two below are known; 0 unless some are
+    /// forgotten.
+    pub first: usize,
     pub periods: &'a [Option<i64>],
     pub notes: &'a [Note],
 }
@@ -50,6 +53,7 @@ impl Tuner {
         Lead {
             hertz: self.hertz,
             take: &self.take,
+            first: self.take.count() - self.periods.len(),
             periods: &self.periods,
             notes: &self.notes,
         }
@@ -64,13 +68,19 @@ pub fn voice_note(hertz: u32, note: u8, interval: i32) -> Option<usize> {
 }
 
 impl Lead<'_> {
+    /// The period and the wanted note at a sample.
+    fn at(&self, at: usize) -> (Option<i64>, Note) {
+        (self.periods[at - self.first], self.notes[at - self.first])
+    }
+
     /// The rate of a voice at a sample, counted from 0: the period over the
     /// entry of its note, without smoothing and without limits. None where it
     /// is silent: without a period, without a wanted note, or with its own note
     /// outside the table.
     pub fn voice_rate(&self, interval: i32, at: usize) -> Option<i64> {
-        let note = voice_note(self.hertz, self.notes[at]?, interval)?;
-        Some(raw_rate(self.periods[at]?, period_of(self.hertz, note)))
+        let (period, note) = self.at(at);
+        let note = voice_note(self.hertz, note?, interval)?;
+        Some(raw_rate(period?, period_of(self.hertz, note)))
     }
 
     /// A voice at a sample, counted from 0, before which it stood at this
@@ -84,7 +94,7 @@ impl Lead<'_> {
                 out: 0,
             };
         };
-        let period = self.periods[at].expect("a voice that sounds has a period");
+        let period = self.at(at).0.expect("a voice that sounds has a period");
         let (position, cycle) = turn(position + rate, input, Some(period));
         Sung {
             sounding: Some(Sounding {
@@ -100,7 +110,7 @@ impl Lead<'_> {
     /// A voice at the samples from this one on, before which it stood at this
     /// position.
     pub fn voice_from(&self, interval: i32, from: usize, mut position: i64) -> Vec<Sung> {
-        let samples = from..self.periods.len();
+        let samples = from..self.first + self.periods.len();
         let voice = samples.map(|at| {
             let sung = self.voice_sample(interval, at, position);
             position = sung.position;

@@ -53,6 +53,7 @@ impl MadeUp {
         Lead {
             hertz,
             take: &self.take,
+            first: 0,
             periods: &self.periods,
             notes: &self.notes,
         }

@@ -23,7 +23,7 @@
 //! assert_eq!(answer.night.number, TAKEN);
 //! ```
 
-use crate::{archive, bytes_of, linked, words_of};
+use crate::{archive, bytes_of, linked, words_of, BEHIND};
 use crate::{ListAnswer, ListNightAnswer, Meter, Settings, CD, TAKEN};
 use std::fmt;
 
@@ -235,6 +235,11 @@ impl Choir {
     pub fn meter(&self) -> Meter {
         // SAFETY: the choir is a reference's, and may hold any bytes.
         Meter::of(unsafe { calls::daxfolin_choir_meter(self) })
+    }
+
+    /// [`crate::Record::behind`] of the lead.
+    pub fn behind(&self) -> u64 {
+        self.words[BEHIND]
     }
 
     /// The intervals of the chosen voices, in their order; of a choir that is answered 9, any numbers, three at most.

@@ -23,8 +23,11 @@ use std::fmt;
 use std::mem::offset_of;
 
 pub mod choir;
+mod numbers;
 pub mod smf;
 pub mod wave;
+
+pub use numbers::{remedy, words};
 
 /// The version of the calls.
 pub const VERSION: u32 = 11;
@@ -348,6 +351,9 @@ fn bytes_of<const BYTES: usize>(words: &[u64]) -> [u8; BYTES] {
     bytes
 }
 
+/// Where a record of words has how far its read position lies behind the input.
+const BEHIND: usize = 742;
+
 /// And back.
 fn words_of<const WORDS: usize>(bytes: &[u8]) -> [u64; WORDS] {
     let mut words = [0; WORDS];
@@ -375,6 +381,12 @@ impl Meter {
 impl Record {
     /// The bytes of a record.
     pub const SIZE: usize = 6976;
+
+    /// How far the read position lies behind the input, in 1/65536 sample, up to 1,000 samples; the output lies 4 samples more behind. Of
+    /// a record that is answered 9, any number.
+    pub fn behind(&self) -> u64 {
+        self.words[BEHIND]
+    }
 
     fn blank() -> Record {
         Record::from_bytes(&[0; Record::SIZE])

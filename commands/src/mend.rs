@@ -1,36 +1,26 @@
-//! `./mend FILE.wav`: the two sizes of a recording that was left, in place.
+//! `daxfolin mend`: the two sizes of a recording that was left, in place.
 
-use commands::options::Words;
-use commands::{failed, finish, limits_are_errors, no, print, reason, End, Source};
+use crate::source::Source;
 use daxfolin::wave::{Seek, Size};
-use std::ffi::OsString;
 use std::fs::{File, OpenOptions};
 use std::io;
 use std::os::unix::fs::FileExt;
-use std::path::Path;
-use std::process::ExitCode;
+use words::end::{failed, no, reason, End};
+use words::request::Mend;
+use words::signals::{ended, note_all};
+use words::standard::print;
 
-const HELP: &str = include_str!("../../mend.txt");
+pub const PROGRAM: &str = "daxfolin mend";
 
-fn main() -> ExitCode {
-    finish("mend", HELP, run)
-}
+/// What a disk writes at once, whatever happens: no disk has less.
+const SECTOR: u64 = 512;
 
-fn run(words: Vec<OsString>) -> Result<(), End> {
-    let words = Words::part(words, &[], &["--dry-run", "--help", "--version"], HELP)?;
-    if words.has("--help") {
-        return print(HELP);
-    }
-    if words.has("--version") {
-        return print(&commands::version("mend"));
-    }
-    let name = Path::new(words.files(["FILE.wav"])?[0]);
-
+pub fn run(request: &Mend) -> Result<(), End> {
     // what may only be read is looked at all the same: there may be nothing to write
-    let dry = words.has("--dry-run");
     let mut unwritable = None;
+    let name = &request.file;
     let source = Source::open(name, |name| {
-        if dry {
+        if request.dry {
             return File::open(name);
         }
         let both = OpenOptions::new().read(true).write(true).open(name);
@@ -40,28 +30,69 @@ fn run(words: Vec<OsString>) -> Result<(), End> {
         })
     })?;
     let seek = source.walk(Seek::mending(source.was.len()))?;
-    let (riff, data) = seek
-        .found_mending()
-        .map_err(|number| End::Refused(name.display().to_string(), number))?;
+    let sizes = seek.found_mending();
+    let (riff, data) = sizes.map_err(|number| source.refused(number))?;
     source.unchanged()?;
 
-    let halves = halves(&riff, &data);
-    if !dry && !halves.is_empty() {
+    let changed: Vec<Size> = [riff, data]
+        .into_iter()
+        .filter(|size| size.old != size.new)
+        .collect();
+    if !request.dry && !changed.is_empty() {
         if let Some(error) = unwritable {
             return Err(failed(name, &error));
         }
-        limits_are_errors();
-        store(&source.file, &halves).map_err(|error| {
-            let why = format!("{}; run again, it is mended to the same", reason(&error));
-            no(name, &why)
-        })?;
+        // from here on a signal waits until both sizes are stored and told
+        note_all();
+        let unstored = |error: io::Error| {
+            let why = reason(&error);
+            no(
+                name,
+                &format!("{why}; run it again, and it is mended to the same"),
+            )
+        };
+        store(&source.file, &changed).map_err(unstored)?;
     }
-    let changed = [riff, data].into_iter().filter(|size| size.old != size.new);
-    print(&changed.map(line).collect::<String>())
+    print(&changed.iter().map(line).collect::<String>())?;
+    ended()
 }
 
-fn line(size: Size) -> String {
+fn line(size: &Size) -> String {
     format!("{}\t{}\t{}\n", size.at, size.old, size.new)
+}
+
+/// Both sizes of most recordings lie in the first sector, and go there by one write: they are both old or both new, whatever happens, and
+/// the next run tells what the recorder left. Where they lie apart, they are stored in halves.
+fn store(file: &File, sizes: &[Size]) -> io::Result<()> {
+    match in_one_sector(sizes) {
+        true => store_at_once(file, sizes),
+        false => store_each(file, &halves(sizes)),
+    }
+}
+
+fn in_one_sector(sizes: &[Size]) -> bool {
+    let sectors = sizes
+        .iter()
+        .flat_map(|size| [size.at / SECTOR, (size.at + 3) / SECTOR]);
+    let sectors: Vec<u64> = sectors.collect();
+    sectors.windows(2).all(|pair| pair[0] == pair[1])
+}
+
+/// The bytes between them are written as they are.
+fn store_at_once(file: &File, sizes: &[Size]) -> io::Result<()> {
+    let from = sizes.iter().map(|size| size.at).min().unwrap_or_default();
+    let end = sizes
+        .iter()
+        .map(|size| size.at + 4)
+        .max()
+        .unwrap_or_default();
+    let mut bytes = vec![0; (end - from) as usize];
+    file.read_exact_at(&mut bytes, from)?;
+    for size in sizes {
+        bytes[(size.at - from) as usize..][..4].copy_from_slice(&size.new.to_le_bytes());
+    }
+    file.write_all_at(&bytes, from)?;
+    file.sync_data()
 }
 
 /// Halves of sizes, each with its place.
@@ -78,9 +109,9 @@ type Halves = Vec<(u64, [u8; 2])>;
 /// Four bytes may lie in two sectors of a disk, of which a power cut lets one alone be written. Two bytes at an even place cannot, and chunks
 /// stand at even places. So a size is stored in halves: first 65535 as the upper one, which makes it run past the end of every file that is
 /// mended, whatever the lower half is; then the lower half; and last the upper one.
-fn halves(riff: &Size, data: &Size) -> Halves {
-    let sizes = [data, riff].into_iter().filter(|size| size.old != size.new);
-    sizes
+fn halves(sizes: &[Size]) -> Halves {
+    let last_first = sizes.iter().rev();
+    last_first
         .flat_map(|size| {
             let [a, b, c, d] = size.new.to_le_bytes();
             [
@@ -93,7 +124,7 @@ fn halves(riff: &Size, data: &Size) -> Halves {
 }
 
 /// Each half is on the disk before the next.
-fn store(file: &File, halves: &Halves) -> io::Result<()> {
+fn store_each(file: &File, halves: &Halves) -> io::Result<()> {
     halves.iter().try_for_each(|(place, half)| {
         file.write_all_at(half, *place)?;
         file.sync_data()
@@ -102,8 +133,27 @@ fn store(file: &File, halves: &Halves) -> io::Result<()> {
 
 #[cfg(test)]
 mod tests {
-    use super::{halves, Halves};
-    use daxfolin::wave::{mend, read};
+    use super::{halves, in_one_sector, Halves};
+    use daxfolin::wave::{mend, read, Size};
+
+    #[test]
+    fn sizes_in_one_sector() {
+        let size = |at| Size { at, old: 0, new: 1 };
+        for (places, right) in [
+            (&[4, 40][..], true),
+            (&[4], true),
+            (&[40], true),
+            (&[508], true),
+            (&[510], false),
+            (&[4, 508], true),
+            (&[4, 510], false),
+            (&[4, 512], false),
+            (&[1024], true),
+        ] {
+            let sizes: Vec<Size> = places.iter().map(|at| size(*at)).collect();
+            assert_eq!(in_one_sector(&sizes), right, "{places:?}");
+        }
+    }
 
     /// A file: RIFF's size, chunks that may stand before the data, the data's size, and what follows.
     fn file(riff: u32, before: &[&[u8]], size: u32, body: &[u8]) -> Vec<u8> {
@@ -128,7 +178,8 @@ mod tests {
 
     fn mended(file: &[u8]) -> Option<(Vec<u8>, Halves)> {
         let (riff, data) = mend(file).ok()?;
-        let halves = halves(&riff, &data);
+        let changed = [riff, data].into_iter().filter(|size| size.old != size.new);
+        let halves = halves(&changed.collect::<Vec<_>>());
         Some((stored(file, &halves), halves))
     }
 

@@ -1,0 +1,432 @@
+//! `daxfolin tune`: takes through the tuner, block after block; with voices,
+//! each to a file of its own beside OUT.
+
+use crate::place::{named, places, put, unnamed, Output, Place};
+use crate::source::{Source, WINDOW};
+use crate::{chunks, grouped, seconds, settings, started};
+use daxfolin::choir::{Choir, MOST_VOICES};
+use daxfolin::wave::{self, Take};
+use daxfolin::{Answer, Meter, Record, Settings, LONGEST_BLOCK, TAKEN};
+use std::fs;
+use std::io::{stdout, BufWriter, IsTerminal, Write};
+use std::path::Path;
+use words::end::{say, shown, End, EXISTS, FILE, REFUSED};
+use words::request::{Job, Tune, DASH};
+use words::signals::{ended, note_all};
+use words::standard::{self, print, unwritten, Standard};
+
+pub const PROGRAM: &str = "daxfolin tune";
+
+const HEADING: &str = "file\tout\trefusal\thertz\tsamples\tseconds\trepeated\tdropped\tblocks\tpitched_blocks\tlatency_mean\tlatency_most\n";
+
+pub fn run(request: &Tune) -> Result<(), End> {
+    note_all();
+    if request.tsv {
+        tell(request, HEADING)?;
+    }
+    if !request.named {
+        let done = job(request, &request.jobs[0])?;
+        return tell(request, &done);
+    }
+    let mut worst = 0;
+    for one in &request.jobs {
+        match job(request, one) {
+            Ok(done) => tell(request, &done)?,
+            Err(end @ End::Signal(_)) => return Err(end),
+            Err(end) => {
+                end.say(PROGRAM);
+                refusal(request, one, &end)?;
+                worst = worse(worst, end.status());
+            }
+        }
+    }
+    match worst {
+        0 => Ok(()),
+        status => Err(End::Said(status)),
+    }
+}
+
+/// The status of several files: the first of these that one of them has.
+fn worse(one: u8, other: u8) -> u8 {
+    let order = [FILE, REFUSED, EXISTS];
+    let worst = order
+        .into_iter()
+        .find(|status| [one, other].contains(status));
+    worst.unwrap_or(one.max(other))
+}
+
+/// Lines about what was done: on standard output, unless that has the take.
+fn tell(request: &Tune, text: &str) -> Result<(), End> {
+    if request.quiet {
+        return Ok(());
+    }
+    match request.jobs[0].to == Path::new(DASH) {
+        true => {
+            standard::error(text);
+            Ok(())
+        }
+        false => print(text),
+    }
+}
+
+/// A file of several that was refused has its number on its line.
+fn refusal(request: &Tune, job: &Job, end: &End) -> Result<(), End> {
+    let End::Refused(number, _) = end else {
+        return Ok(());
+    };
+    let (from, to) = (shown(job.from.as_os_str()), shown(job.to.as_os_str()));
+    match request.tsv {
+        true => print(&format!("{from}\t{to}\t{number}{}\n", "\t".repeat(9))),
+        false => print(&format!("{from}: {number}\n")),
+    }
+}
+
+/// One take, and what is told of it.
+fn job(request: &Tune, job: &Job) -> Result<String, End> {
+    ended()?;
+    let source = source(job)?;
+    let (take, header) = source.take()?;
+    let settings = settings(&request.take, take.hertz);
+    let voices = &request.take.voices;
+    let tuner = Tuner::start(take.hertz, settings, voices)?;
+    if request.keep && is_done(&source, &take, &header, job, voices.len()) {
+        let (from, to) = (source.shown(), shown(job.to.as_os_str()));
+        return Ok(format!("{from}: passed over, {to} is done\n"));
+    }
+    let mut outputs = match job.to == Path::new(DASH) {
+        true => Outputs::standard()?,
+        false => Outputs::Places(places(&job.to, voices.len(), &source, request.force)?),
+    };
+    left_out(&source, &take, job);
+    if request.dry {
+        return Ok(outputs.would(&source, &take));
+    }
+    let said = voices_said(voices, &outputs);
+    outputs = outputs.begun(&header)?;
+    let tuned = tune(&source, &take, tuner, &mut outputs)?;
+    source.unchanged()?;
+    outputs.finish()?;
+    Ok(match (request.tsv, request.named) {
+        (true, _) => tuned.row(&source, job, &take),
+        (false, true) => format!("{}: {}", source.shown(), tuned.line(&take)),
+        (false, false) => said + &tuned.line(&take),
+    })
+}
+
+fn source(job: &Job) -> Result<Source, End> {
+    if job.from != Path::new(DASH) {
+        return Source::of(&job.from);
+    }
+    let out = (job.to != Path::new(DASH)).then_some(job.to.as_path());
+    Source::of_input(unnamed(out)?)
+}
+
+/// What of IN is not in OUT is named, and so is a take whose samples are not counted in its data size.
+fn left_out(source: &Source, take: &Take, job: &Job) {
+    let from = source.shown();
+    if let Some(names) = chunks::left_out(&source.file, source.was.len(), take.hertz) {
+        let out = shown(job.to.as_os_str());
+        say(PROGRAM, &format!("{from}: not in {out}: {names}"));
+    }
+    if take.count == 0 && source.mending().is_ok_and(|(_, data)| data.old != data.new) {
+        say(
+            PROGRAM,
+            &format!("{from}: its data size is 0, but bytes follow; mend it: daxfolin mend {from}"),
+        );
+    }
+}
+
+/// Whether OUT and the voices are there and whole: takes as long, at the same rate, and no older than IN.
+fn is_done(source: &Source, take: &Take, header: &[u8], job: &Job, voices: usize) -> bool {
+    let done = |voice| {
+        let name = named(&job.to, voice);
+        let Ok(is) = fs::metadata(&name) else {
+            return false;
+        };
+        let whole = is.is_file() && is.len() == header.len() as u64 + 2 * take.count;
+        let newer = is.modified().ok() >= source.was.modified().ok();
+        whole
+            && newer
+            && Source::of(&name)
+                .is_ok_and(|out| out.take().is_ok_and(|(_, begins)| begins == *header))
+    };
+    (0..=voices).all(done)
+}
+
+/// A line for each voice: its interval, and the file that has it.
+fn voices_said(intervals: &[i32], outputs: &Outputs) -> String {
+    let Outputs::Places(places) = outputs else {
+        return String::new();
+    };
+    let voices = intervals.iter().zip(&places[1..]);
+    let line = |(interval, place): (&i32, &Place)| {
+        format!("voice {interval:+}: {}\n", shown(place.name.as_os_str()))
+    };
+    voices.map(line).collect()
+}
+
+// ---- outputs
+
+/// Where the lead and the voices go.
+enum Outputs {
+    Places(Vec<Place>),
+    Files(Vec<Output>),
+    Standard(BufWriter<Standard>),
+}
+
+impl Outputs {
+    fn standard() -> Result<Outputs, End> {
+        if stdout().is_terminal() {
+            let why = "standard output is a terminal: send the take to a file or a program";
+            return Err(End::Usage(why.to_string()));
+        }
+        let output = standard::output().map_err(|error| unwritten(&error))?;
+        Ok(Outputs::Standard(BufWriter::with_capacity(WINDOW, output)))
+    }
+
+    /// Each with its header.
+    fn begun(self, header: &[u8]) -> Result<Outputs, End> {
+        match self {
+            Outputs::Places(places) => {
+                let outputs = places.into_iter().map(|place| Output::at(place, header));
+                Ok(Outputs::Files(outputs.collect::<Result<_, _>>()?))
+            }
+            Outputs::Standard(mut output) => {
+                output
+                    .write_all(header)
+                    .map_err(|error| unwritten(&error))?;
+                Ok(Outputs::Standard(output))
+            }
+            files => Ok(files),
+        }
+    }
+
+    fn write(&mut self, tuned: &Blocks, count: usize) -> Result<(), End> {
+        let mut bytes = [0; 2 * LONGEST_BLOCK];
+        let bytes = &mut bytes[..2 * count];
+        match self {
+            Outputs::Places(_) => Ok(()),
+            Outputs::Standard(output) => {
+                wave::bytes(&tuned[0][..count], bytes);
+                output.write_all(bytes).map_err(|error| unwritten(&error))
+            }
+            Outputs::Files(outputs) => {
+                outputs
+                    .iter_mut()
+                    .zip(tuned)
+                    .try_for_each(|(output, tuned)| {
+                        wave::bytes(&tuned[..count], bytes);
+                        output.write(bytes)
+                    })
+            }
+        }
+    }
+
+    /// Each is whole, and takes its place.
+    fn finish(self) -> Result<(), End> {
+        match self {
+            Outputs::Places(_) => Ok(()),
+            Outputs::Standard(mut output) => output.flush().map_err(|error| unwritten(&error)),
+            Outputs::Files(mut outputs) => {
+                outputs.iter_mut().try_for_each(Output::flush)?;
+                ended()?;
+                let lost: Vec<String> = outputs.iter().filter_map(Output::owner_lost).collect();
+                put(outputs)?;
+                lost.iter().for_each(|lost| say(PROGRAM, lost));
+                Ok(())
+            }
+        }
+    }
+
+    /// What a dry run says.
+    fn would(&self, source: &Source, take: &Take) -> String {
+        let names = match self {
+            Outputs::Places(places) => {
+                let name = |place: &Place| {
+                    let over = if place.is_over() { "over " } else { "" };
+                    format!("{over}{}", shown(place.name.as_os_str()))
+                };
+                places.iter().map(name).collect::<Vec<_>>().join(", ")
+            }
+            _ => "standard output".to_string(),
+        };
+        format!(
+            "{}: {} samples at {}, {} s; would write {names}\n",
+            source.shown(),
+            take.count,
+            grouped(u64::from(take.hertz)),
+            seconds(take.count, take.hertz)
+        )
+    }
+}
+
+// ---- the take
+
+/// A block of the lead and of each voice.
+type Blocks = [[i16; LONGEST_BLOCK]; 1 + MOST_VOICES];
+
+/// A tuner with voices, or where none is wanted the plain one, which is faster.
+enum Tuner {
+    Alone(Record),
+    WithVoices(Choir),
+}
+
+impl Tuner {
+    fn start(hertz: u32, settings: Settings, intervals: &[i32]) -> Result<Tuner, End> {
+        if intervals.is_empty() {
+            let (number, record) = Record::start(hertz, settings);
+            return started(number).map(|()| Tuner::Alone(record));
+        }
+        let mut choir = Choir::default();
+        let answer = choir.start(hertz, settings, intervals, &[]);
+        started(answer.answer.number).map(|()| Tuner::WithVoices(choir))
+    }
+
+    fn block(&mut self, number: u16, sung: &[i16], [lead, voices @ ..]: &mut Blocks) -> Answer {
+        match self {
+            Tuner::Alone(record) => record.block(number, sung, lead),
+            Tuner::WithVoices(choir) => {
+                let voices = voices.each_mut().map(|voice| &mut voice[..]);
+                choir.block(number, sung, lead, voices, &mut []).answer
+            }
+        }
+    }
+
+    fn meter(&self) -> Meter {
+        match self {
+            Tuner::Alone(record) => record.meter(),
+            Tuner::WithVoices(choir) => choir.meter(),
+        }
+    }
+
+    fn behind(&self) -> u64 {
+        match self {
+            Tuner::Alone(record) => record.behind(),
+            Tuner::WithVoices(choir) => choir.behind(),
+        }
+    }
+}
+
+/// The output is read so many samples behind the read position.
+const READ_BEHIND: u64 = 4;
+/// The units of a position in a sample.
+const UNITS: u64 = 65_536;
+
+/// What was done to a take.
+#[derive(Default)]
+struct Tuned {
+    repeated: u64,
+    dropped: u64,
+    blocks: u64,
+    /// Blocks after which the meter shows a pitch.
+    pitched: u64,
+    /// How far the read position lay behind the input at the end of each block: their sum, and the farthest, in units.
+    behind: u64,
+    farthest: u64,
+}
+
+impl Tuned {
+    fn add(&mut self, answer: Answer, tuner: &Tuner) {
+        let behind = tuner.behind();
+        self.blocks += 1;
+        self.repeated += u64::from(answer.repeated);
+        self.dropped += u64::from(answer.dropped);
+        self.pitched += u64::from(matches!(tuner.meter(), Meter::Pitched { .. }));
+        self.behind += behind;
+        self.farthest = self.farthest.max(behind);
+    }
+
+    /// The latency in samples, to the nearest: the mean, and the greatest.
+    fn latency(&self) -> [u64; 2] {
+        let mean = self.behind / self.blocks.max(1);
+        [mean, self.farthest].map(|units| READ_BEHIND + (units + UNITS / 2) / UNITS)
+    }
+
+    fn line(&self, take: &Take) -> String {
+        let shares = match self.blocks {
+            0 => String::new(),
+            blocks => {
+                let tenths = (1000 * self.pitched + blocks / 2) / blocks;
+                let [mean, most] = self.latency().map(|samples| {
+                    let tenths =
+                        (10_000 * samples + u64::from(take.hertz) / 2) / u64::from(take.hertz);
+                    format!("{samples} samples ({}.{} ms)", tenths / 10, tenths % 10)
+                });
+                format!(
+                    " ({}.{} %), latency {mean} on average, {most} at most",
+                    tenths / 10,
+                    tenths % 10
+                )
+            }
+        };
+        format!(
+            "{} samples, {} s, {} cycles repeated, {} dropped, pitched after {} of {} blocks{shares}\n",
+            take.count,
+            seconds(take.count, take.hertz),
+            self.repeated,
+            self.dropped,
+            self.pitched,
+            self.blocks
+        )
+    }
+
+    fn row(&self, source: &Source, job: &Job, take: &Take) -> String {
+        let [mean, most] = self.latency();
+        format!(
+            "{}\t{}\t0\t{}\t{}\t{}\t{}\t{}\t{}\t{}\t{mean}\t{most}\n",
+            source.shown(),
+            shown(job.to.as_os_str()),
+            take.hertz,
+            take.count,
+            seconds(take.count, take.hertz),
+            self.repeated,
+            self.dropped,
+            self.blocks,
+            self.pitched
+        )
+    }
+}
+
+/// Every block of the take through the tuner, one after the other: the lead to the first output, each voice to its own.
+fn tune(
+    source: &Source,
+    take: &Take,
+    mut tuner: Tuner,
+    outputs: &mut Outputs,
+) -> Result<Tuned, End> {
+    let mut tuned: Blocks = [[0; LONGEST_BLOCK]; 1 + MOST_VOICES];
+    let mut sums = Tuned::default();
+    source.blocks(PROGRAM, take, |number, sung| {
+        ended()?;
+        let answer = tuner.block(number, sung, &mut tuned);
+        if answer.number != TAKEN {
+            return Err(source.refused(answer.number));
+        }
+        outputs.write(&tuned, sung.len())?;
+        sums.add(answer, &tuner);
+        Ok(())
+    })?;
+    Ok(sums)
+}
+
+#[cfg(test)]
+mod tests {
+    use super::*;
+
+    #[test]
+    fn the_status_of_several_files() {
+        for (statuses, right) in [
+            (&[][..], 0),
+            (&[EXISTS], EXISTS),
+            (&[EXISTS, REFUSED], REFUSED),
+            (&[REFUSED, EXISTS], REFUSED),
+            (&[FILE, REFUSED, EXISTS], FILE),
+            (&[EXISTS, FILE], FILE),
+        ] {
+            assert_eq!(
+                statuses.iter().fold(0, |one, other| worse(one, *other)),
+                right
+            );
+        }
+    }
+}

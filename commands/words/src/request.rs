@@ -1,0 +1,447 @@
+//! What a command is asked to do, once its words are right.
+
+use crate::end::shown;
+use crate::parse::{whole, Given};
+use crate::scales;
+use crate::table::Command;
+use std::collections::HashMap;
+use std::ffi::{OsStr, OsString};
+use std::path::{Path, PathBuf};
+
+/// Standard input, or standard output.
+pub const DASH: &str = "-";
+/// The longest time constant that a decay can have, at 44,100.
+const LONGEST_SPEED: f64 = 29.0;
+/// A tracking step comes every so many samples.
+const STEP: f64 = 5.0;
+
+#[derive(Debug, PartialEq)]
+pub enum Request {
+    Tune(Tune),
+    Notes(Notes),
+    Report(Report),
+    Mend(Mend),
+    Check(Check),
+    Lines,
+}
+
+/// How a take is tuned.
+#[derive(Clone, Debug, PartialEq)]
+pub struct Take {
+    pub scale: u32,
+    pub eps: u32,
+    pub floor: u32,
+    pub speed: Speed,
+    /// The intervals of the voices.
+    pub voices: Vec<i32>,
+}
+
+/// How fast a note is reached.
+#[derive(Clone, Copy, Debug, PartialEq)]
+pub enum Speed {
+    Decay(u32),
+    Milliseconds(f64),
+}
+
+impl Take {
+    /// The decay at a sample rate: the one whose time constant is nearest.
+    pub fn decay(&self, hertz: u32) -> u32 {
+        match self.speed {
+            Speed::Decay(decay) => decay,
+            Speed::Milliseconds(time) => {
+                let steps = time / 1000.0 * f64::from(hertz) / STEP;
+                (256.0 * (-1.0 / steps).exp()).round().min(255.0) as u32
+            }
+        }
+    }
+}
+
+#[derive(Debug, PartialEq)]
+pub struct Tune {
+    pub take: Take,
+    pub jobs: Vec<Job>,
+    /// Lines name their IN.
+    pub named: bool,
+    pub force: bool,
+    pub keep: bool,
+    pub dry: bool,
+    pub quiet: bool,
+    pub tsv: bool,
+}
+
+#[derive(Debug, PartialEq)]
+pub struct Job {
+    pub from: PathBuf,
+    pub to: PathBuf,
+}
+
+#[derive(Debug, PartialEq)]
+pub struct Notes {
+    pub take: Take,
+    /// None: lines on standard input.
+    pub from: Option<PathBuf>,
+    /// In milliseconds.
+    pub least: f64,
+    pub form: Form,
+}
+
+#[derive(Clone, Copy, Debug, PartialEq, Eq)]
+pub enum Form {
+    Plain,
+    Tsv,
+    Labels,
+}
+
+#[derive(Debug, PartialEq)]
+pub struct Report {
+    pub take: Take,
+    pub from: Vec<PathBuf>,
+    pub tsv: bool,
+}
+
+#[derive(Debug, PartialEq)]
+pub struct Mend {
+    pub file: PathBuf,
+    pub dry: bool,
+}
+
+#[derive(Debug, PartialEq)]
+pub struct Check {
+    pub take: Take,
+    pub from: PathBuf,
+    pub tuned: PathBuf,
+}
+
+impl Request {
+    /// The files that have to be there.
+    pub fn inputs(&self) -> Vec<&Path> {
+        let inputs: Vec<&PathBuf> = match self {
+            Request::Tune(tune) => tune.jobs.iter().map(|job| &job.from).collect(),
+            Request::Notes(notes) => notes.from.iter().collect(),
+            // one that is not there has its own line in the report
+            Request::Report(report) if report.from.len() > 1 => Vec::new(),
+            Request::Report(report) => report.from.iter().collect(),
+            Request::Mend(mend) => vec![&mend.file],
+            Request::Check(check) => vec![&check.from, &check.tuned],
+            Request::Lines => Vec::new(),
+        };
+        let files = inputs.into_iter().filter(|file| **file != Path::new(DASH));
+        files.map(PathBuf::as_path).collect()
+    }
+}
+
+pub fn of(command: &Command, given: Given) -> Result<Request, String> {
+    match command.name {
+        "tune" => tune(&given).map(Request::Tune),
+        "notes" => notes(&given).map(Request::Notes),
+        "report" => report(&given).map(Request::Report),
+        "mend" => mend(&given).map(Request::Mend),
+        "check" => check(&given).map(Request::Check),
+        "lines" => given.files([]).map(|[]| Request::Lines),
+        name => unreachable!("{name} is in the table"),
+    }
+}
+
+// ---- how a take is tuned
+
+fn take(given: &Given) -> Result<Take, String> {
+    let scale = match given.value("scale") {
+        None => 4095,
+        Some(text) => scales::mask(text).ok_or_else(|| {
+            format!("--scale is notes like C,D,E, a scale like A-minor or Am, chromatic, or a number, not '{text}'; --scale list prints all")
+        })?,
+    };
+    Ok(Take {
+        scale,
+        eps: given.number("eps", 100)?,
+        floor: given.number("floor", 100)?,
+        speed: speed(given)?,
+        voices: intervals(given)?,
+    })
+}
+
+fn speed(given: &Given) -> Result<Speed, String> {
+    let decay = given.number("decay", 230)?;
+    match given.milliseconds("speed")? {
+        None => Ok(Speed::Decay(decay)),
+        Some(_) if given.has("decay") => {
+            Err("--speed and --decay are two ways to say the same: give one".to_string())
+        }
+        Some(time) if time > LONGEST_SPEED => Err(format!(
+            "--speed is 0 to {LONGEST_SPEED} milliseconds, not {time}"
+        )),
+        Some(time) => Ok(Speed::Milliseconds(time)),
+    }
+}
+
+fn intervals(given: &Given) -> Result<Vec<i32>, String> {
+    given.values("voice").into_iter().map(interval).collect()
+}
+
+/// A sign may stand before the digits. What is past the farthest interval that a call takes is refused as that is.
+fn interval(text: &str) -> Result<i32, String> {
+    let (sign, digits) = match text.split_at_checked(1) {
+        Some(("+", digits)) => (1, digits),
+        Some(("-", digits)) => (-1, digits),
+        _ => (1, text),
+    };
+    match whole(digits) {
+        Some(number) => Ok(sign * i32::try_from(number).unwrap_or(i32::MAX)),
+        None => Err(format!(
+            "--voice is a whole number of semitones like +4 or -3, not '{text}'"
+        )),
+    }
+}
+
+// ---- the commands
+
+fn tune(given: &Given) -> Result<Tune, String> {
+    let take = take(given)?;
+    let folder = given.value("output-dir").map(Path::new);
+    let jobs = match folder {
+        None => vec![one(given)?],
+        Some(folder) => many(given, folder)?,
+    };
+    let to_output = jobs.iter().any(|job| job.to == Path::new(DASH));
+    if to_output && !take.voices.is_empty() {
+        return Err("--voice needs an OUT that is a file: each voice is written beside it".into());
+    }
+    if to_output && given.has("keep") {
+        return Err("-k needs an OUT that is a file".into());
+    }
+    Ok(Tune {
+        take,
+        jobs,
+        named: folder.is_some(),
+        force: given.has("force"),
+        keep: given.has("keep"),
+        dry: given.has("dry-run"),
+        quiet: given.has("quiet"),
+        tsv: given.has("tsv"),
+    })
+}
+
+fn one(given: &Given) -> Result<Job, String> {
+    if given.files.len() > 2 {
+        let word = shown(&given.files[2]);
+        return Err(format!(
+            "'{word}' is a word too many; several IN need -o DIR"
+        ));
+    }
+    let [from, to] = given.files(["IN.wav", "OUT.wav"])?;
+    let (from, to) = (from.into(), to.into());
+    Ok(Job { from, to })
+}
+
+/// A job for each file, to the file of its name in a folder. No two have the same.
+fn many(given: &Given, folder: &Path) -> Result<Vec<Job>, String> {
+    if given.files.is_empty() {
+        return Err("IN.wav is missing".to_string());
+    }
+    let mut places: HashMap<&OsStr, &OsString> = HashMap::new();
+    let mut jobs = Vec::new();
+    for file in &given.files {
+        not_a_dash(file)?;
+        let name = Path::new(file)
+            .file_name()
+            .ok_or_else(|| format!("'{}' names no file", shown(file)))?;
+        if let Some(other) = places.insert(name, file) {
+            let (other, file) = (shown(other), shown(file));
+            return Err(format!("{other} and {file} would both be the same OUT"));
+        }
+        jobs.push(Job {
+            from: file.into(),
+            to: folder.join(name),
+        });
+    }
+    Ok(jobs)
+}
+
+fn not_a_dash(file: &OsString) -> Result<(), String> {
+    match file == DASH {
+        true => Err(
+            "'-' is no file here: standard input is taken by daxfolin tune - OUT.wav".to_string(),
+        ),
+        false => Ok(()),
+    }
+}
+
+/// Files that are read, and none of them standard input.
+fn files<const N: usize>(given: &Given, names: [&str; N]) -> Result<[PathBuf; N], String> {
+    given.files.iter().try_for_each(not_a_dash)?;
+    given.files(names).map(|files| files.map(PathBuf::from))
+}
+
+fn notes(given: &Given) -> Result<Notes, String> {
+    let form = match (given.has("tsv"), given.has("labels")) {
+        (true, true) => return Err("--tsv and --labels are two forms: give one".to_string()),
+        (true, false) => Form::Tsv,
+        (false, true) => Form::Labels,
+        (false, false) => Form::Plain,
+    };
+    let take = take(given)?;
+    let from = match given.is_empty() {
+        true => None,
+        false => Some(files(given, ["IN.wav"])?),
+    };
+    Ok(Notes {
+        take,
+        from: from.map(|[file]| file),
+        least: given.milliseconds("min")?.unwrap_or(0.0),
+        form,
+    })
+}
+
+fn report(given: &Given) -> Result<Report, String> {
+    let take = take(given)?;
+    given.files.iter().try_for_each(not_a_dash)?;
+    if given.files.is_empty() {
+        return Err("IN.wav is missing".to_string());
+    }
+    Ok(Report {
+        take,
+        from: given.files.iter().map(PathBuf::from).collect(),
+        tsv: given.has("tsv"),
+    })
+}
+
+fn mend(given: &Given) -> Result<Mend, String> {
+    let [file] = files(given, ["FILE.wav"])?;
+    let dry = given.has("dry-run");
+    Ok(Mend { file, dry })
+}
+
+fn check(given: &Given) -> Result<Check, String> {
+    let take = take(given)?;
+    let [from, tuned] = files(given, ["IN.wav", "OUT.wav"])?;
+    Ok(Check { take, from, tuned })
+}
+
+#[cfg(test)]
+mod tests {
+    use super::*;
+    use crate::parse::{asked, Asked};
+
+    fn request(words: &[&str]) -> Result<Request, String> {
+        match asked(words.iter().map(OsString::from).collect()) {
+            Ok(Asked::Run(command, given)) => of(command, given),
+            other => panic!("{other:?}"),
+        }
+    }
+
+    fn tuned(words: &[&str]) -> Tune {
+        match request(&[&["tune"], words].concat()) {
+            Ok(Request::Tune(tune)) => tune,
+            other => panic!("{other:?}"),
+        }
+    }
+
+    fn wrong(words: &[&str]) -> String {
+        request(words).expect_err("wrong words")
+    }
+
+    #[test]
+    fn a_speed_is_the_nearest_decay() {
+        let decay = |time: &str, hertz| tuned(&["a", "b", "--speed", time]).take.decay(hertz);
+        for (time, at_cd, at_film) in [
+            ("0", 0, 0),
+            ("0.001", 0, 0),
+            ("1.06", 230, 232),
+            ("4.8", 250, 251),
+            ("29", 255, 255),
+            ("26.6", 255, 255),
+        ] {
+            let decays = [44_100, 48_000].map(|hertz| decay(time, hertz));
+            assert_eq!(decays, [at_cd, at_film], "{time}");
+        }
+        assert_eq!(tuned(&["a", "b", "--decay", "7"]).take.decay(48_000), 7);
+        assert_eq!(tuned(&["a", "b"]).take.decay(44_100), 230);
+        assert_eq!(
+            wrong(&["tune", "a", "b", "--speed", "29.1"]),
+            "--speed is 0 to 29 milliseconds, not 29.1"
+        );
+        assert!(wrong(&["tune", "a", "b", "--speed", "1", "--decay", "1"]).contains("give one"));
+    }
+
+    #[test]
+    fn intervals() {
+        for (text, right) in [
+            ("0", Some(0)),
+            ("+4", Some(4)),
+            ("-3", Some(-3)),
+            ("-012", Some(-12)),
+            ("99999999999", Some(i32::MAX)),
+            ("-99999999999", Some(-i32::MAX)),
+            ("", None),
+            ("+", None),
+            ("-", None),
+            ("+-4", None),
+            ("4.5", None),
+            ("♯4", None),
+        ] {
+            assert_eq!(interval(text).ok(), right, "{text}");
+        }
+    }
+
+    #[test]
+    fn a_file_each_in_a_folder() {
+        let tune = tuned(&["-o", "D", "x/a.wav", "b.wav"]);
+        let to: Vec<_> = tune.jobs.iter().map(|job| job.to.clone()).collect();
+        assert_eq!(to, [PathBuf::from("D/a.wav"), PathBuf::from("D/b.wav")]);
+        assert!(tune.named && !tuned(&["a", "b"]).named);
+        for (words, why) in [
+            (
+                &["tune", "a", "b", "c"][..],
+                "'c' is a word too many; several IN need -o DIR",
+            ),
+            (&["tune", "-o", "D"], "IN.wav is missing"),
+            (
+                &["tune", "-o", "D", "x/a", "y/a"],
+                "x/a and y/a would both be the same OUT",
+            ),
+            (&["tune", "-o", "D", ".."], "'..' names no file"),
+        ] {
+            assert_eq!(wrong(words), why);
+        }
+        assert!(wrong(&["tune", "-o", "D", "-"]).starts_with("'-' is no file here"));
+    }
+
+    #[test]
+    fn a_dash_is_taken_by_tune_alone() {
+        let job = &tuned(&["-", "-"]).jobs[0];
+        assert_eq!((&job.from, &job.to), (&DASH.into(), &DASH.into()));
+        for words in [["notes", "-"], ["report", "-"], ["mend", "-"]] {
+            assert!(wrong(&words).starts_with("'-' is no file here"));
+        }
+        assert!(wrong(&["tune", "a", "-", "--voice", "4"]).starts_with("--voice needs"));
+        assert!(wrong(&["tune", "a", "-", "-k"]).starts_with("-k needs"));
+    }
+
+    #[test]
+    fn lines_where_notes_has_no_words() {
+        let notes = |words: &[&str]| request(&[&["notes"], words].concat());
+        assert!(matches!(
+            notes(&[]),
+            Ok(Request::Notes(Notes { from: None, .. }))
+        ));
+        assert_eq!(notes(&["--decay", "7"]), Err("IN.wav is missing".into()));
+        assert!(notes(&["a", "--tsv", "--labels"]).is_err());
+    }
+
+    #[test]
+    fn files_that_have_to_be_there() {
+        for (words, files) in [
+            (&["tune", "a", "b"][..], &["a"][..]),
+            (&["tune", "-", "b"], &[]),
+            (&["check", "a", "b"], &["a", "b"]),
+            (&["mend", "a"], &["a"]),
+            (&["notes", "a"], &["a"]),
+            (&["report", "a"], &["a"]),
+            (&["report", "a", "b"], &[]),
+        ] {
+            let request = request(words).expect("right words");
+            let files: Vec<&Path> = files.iter().map(Path::new).collect();
+            assert_eq!(request.inputs(), files);
+        }
+    }
+}
