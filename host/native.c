@@ -2,6 +2,7 @@
    struct and slice by address and writes a struct that it answers to an address. Here the processor's own C compiler lays out arguments
    and answers, and checks each call against the headers. No number of a take is touched. */
 #include "daxfolin.h"
+#include "daxfolin_smf.h"
 #include "daxfolin_wave.h"
 
 typedef struct {
@@ -94,3 +95,14 @@ ANSWERED(daxfolin_seek, seek_give, (daxfolin_seek seek, const uint8_t *bytes, si
     &seek, LENT(bytes, n))
 ANSWERED(daxfolin_wave_take, seek_found, (daxfolin_seek seek), (daxfolin_wave_take *, const daxfolin_seek *), &seek)
 ANSWERED(daxfolin_wave_mending, seek_mended, (daxfolin_seek seek), (daxfolin_wave_mending *, const daxfolin_seek *), &seek)
+
+/* Standard MIDI Files */
+void module_smf_begin(daxfolin_song *) MODULE(smf_begin);
+daxfolin_song daxfolin_smf_begin(void)
+{
+    daxfolin_song answer;
+    module_smf_begin(&answer);
+    return answer;
+}
+ANSWERED(daxfolin_song, smf_byte, (daxfolin_song song, uint8_t byte), (daxfolin_song *, const daxfolin_song *, uint8_t), &song, byte)
+PASSED(uint32_t, smf_end, (daxfolin_song song), (const daxfolin_song *), (&song))

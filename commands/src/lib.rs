@@ -4,21 +4,29 @@
 
 pub mod check;
 pub mod chunks;
+pub mod delivery;
 pub mod lines;
 pub mod mend;
+pub mod midi;
 pub mod notes;
+pub mod octave;
 pub mod place;
 mod progress;
 mod refusal;
 pub mod report;
+pub mod rows;
+pub mod score;
 pub mod source;
 pub mod tune;
+
+pub use source::Source;
+pub use words::end::{no, End};
 
 use daxfolin::choir::{INTERVAL_OUT_OF_RANGE, TOO_MANY_VOICES};
 use daxfolin::{Settings, TAKEN};
 use std::ffi::OsString;
 use std::process::ExitCode;
-use words::end::{finish, End};
+use words::end::finish;
 use words::request::{Request, Take};
 
 /// The program, over its words.

@@ -20,6 +20,8 @@ pub mod record;
 pub mod report;
 pub mod rules;
 pub mod settings;
+pub mod smf;
+pub mod songs;
 pub mod statistics;
 pub mod table;
 pub mod takes;

@@ -242,18 +242,18 @@ pub fn hex(bytes: &[u8]) -> String {
     bytes.iter().map(|byte| format!("{byte:02x}")).collect()
 }
 
-fn array<const N: usize>(from: &mut impl Read) -> io::Result<[u8; N]> {
+pub fn array<const N: usize>(from: &mut impl Read) -> io::Result<[u8; N]> {
     let mut array = [0; N];
     from.read_exact(&mut array)?;
     Ok(array)
 }
 
-fn number(from: &mut impl Read) -> io::Result<u32> {
+pub fn number(from: &mut impl Read) -> io::Result<u32> {
     Ok(u32::from_le_bytes(array(from)?))
 }
 
 /// So many bytes as a number before them says, each thing having several.
-fn bytes(from: &mut impl Read, each: usize) -> io::Result<Vec<u8>> {
+pub fn bytes(from: &mut impl Read, each: usize) -> io::Result<Vec<u8>> {
     let mut bytes = vec![0; each * number(from)? as usize];
     from.read_exact(&mut bytes)?;
     Ok(bytes)

@@ -1,13 +1,15 @@
-// Takes as WAVE files, for hosts in C and Rust: whole files in memory, and files piece by piece.
+// Takes as WAVE files, for hosts in C and Rust: whole files in memory, and files piece by piece. And Standard MIDI Files, byte by byte.
 ghost use mathlib.Core.Path.{_≡_};
 ghost use Rattle.wave.specs.Waves.{WasRead};
 ghost use Rattle.writing.specs.Canonical.{WasWritten, HeaderWritten};
 ghost use Rattle.mending.specs.Mendings.{mendingOf};
 ghost use Rattle.seeking.specs.Seeks.{begun, givenTo, foundIn, mendedIn};
+ghost use Rattle.smf.specs.Songs.{unread, afterByte, ended};
 ghost use Rattle.files.specs.Files.{SamplesMoved, BytesMoved};
 use mending::Mending;
 use seeking::Piece;
 use seeking::Seek;
+use smf::Song;
 use wave::WaveRead;
 use wave::WaveTake;
 use writing::WaveWritten;
@@ -110,4 +112,28 @@ pub extern "C" fn daxfolin_wave_bytes(samples: &[i16], out: &mut [u8]) -> usize
     let count = wave::least(samples.len(), out.len() / 2);
     writing::put_samples(out, 0, &samples[..count]);
     count
+}
+
+// A Standard MIDI File of which no byte was read.
+#[no_mangle]
+pub extern "C" fn daxfolin_smf_begin() -> Song
+    ensures { λ r. ⌜ r ≡ unread ⌝ }
+{
+    smf::begin()
+}
+
+// Such a file after its next byte.
+#[no_mangle]
+pub extern "C" fn daxfolin_smf_byte(song: Song, b: u8) -> Song
+    ensures { λ r. ⌜ r ≡ afterByte song b ⌝ }
+{
+    smf::byte(song, b)
+}
+
+// What is answered where such a file ends: the refusal, or 0.
+#[no_mangle]
+pub extern "C" fn daxfolin_smf_end(song: Song) -> u32
+    ensures { λ r. ⌜ r ≡ ended song ⌝ }
+{
+    smf::end(song)
 }

@@ -24,6 +24,7 @@ use std::mem::offset_of;
 
 pub mod choir;
 mod numbers;
+pub mod smf;
 pub mod wave;
 
 pub use numbers::{remedy, words};
