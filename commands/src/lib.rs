@@ -19,11 +19,14 @@ pub mod score;
 pub mod source;
 pub mod tune;
 
+pub use source::Source;
+pub use words::end::{no, End};
+
 use daxfolin::choir::{INTERVAL_OUT_OF_RANGE, TOO_MANY_VOICES};
 use daxfolin::{Settings, TAKEN};
 use std::ffi::OsString;
 use std::process::ExitCode;
-use words::end::{finish, End};
+use words::end::finish;
 use words::request::{Request, Take};
 
 /// The program, over its words.

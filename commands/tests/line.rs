@@ -9,7 +9,7 @@ use commands::midi::{by_keys, line, Choice, Key};
 use commands::octave::Octave;
 use commands::rows::rows;
 use commands::score::score;
-use commands::source::Source;
+use commands::{End, Source};
 use daxfolin::{wave, Settings, CD, LONGEST_BLOCK};
 use independent::generator::random::Random;
 use independent::generator::songs::Songs;
@@ -20,10 +20,12 @@ use independent::tuner::{Answer, Tuner};
 use singers::{play, sung, tuned};
 use std::fs::File;
 use std::path::Path;
-use words::end::End;
 
 fn right<T>(done: Result<T, End>) -> T {
-    done.unwrap_or_else(|end| panic!("{end:?}"))
+    match done {
+        Ok(done) => done,
+        Err(end) => panic!("{end:?}"),
+    }
 }
 
 /// The example's list as a file, two octaves too high: in the octave found it gives what the scale gave, and exactly as it stands it does not.
