@@ -1,0 +1,4 @@
+pub mod Tuners
+pub mod Parted
+pub mod Starts
+pub mod Voices
