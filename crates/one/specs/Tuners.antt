@@ -45,7 +45,7 @@ forceOf t = let n = t .numbers in record { settings = n .settings; key = n .keyb
 abbrev pub layoutNumber : ℕ
 layoutNumber = 40000
 
--- voice j; past the last, one in unison
+-- voice j; past the last, one whose numbers are 0
 abbrev pub voiceAt : List Voice → ℕ → Voice
 voiceAt vs j = getD vs j (record { interval = 0; behind = 0 })
 

@@ -39,7 +39,8 @@ ghost use Rattle.one.specs.Parted.{tunerOf};
 ghost use Rattle.one.specs.Taking.{forceBy, beginsAt, Hears, Follows, Followed};
 ghost use Rattle.one.specs.declared.Numbers.{Numbers};
 ghost use Rattle.one.specs.Following.{RatesUpto, noOut, SangBeside, AllSung, listedOf, four, writtenBy, givenBy, Judged};
-ghost use Rattle.one.specs.Tuners.{layoutNumber, keptPlaces, VoiceIn, VoicesIn, parts, Roomy, written, plain, answerBy, listAfter, afterBlock, Took, Good, levelVoice, chosenVoices, freshNumbers, silentTuner, freshTuner, defaultTuner, keptList, storeFits, beginNumber, Started, withNumbers, withSettings, withBytes, begunAgain, Changed, Keyed, Reset, Metered};
+ghost use Rattle.one.specs.Tuners.{layoutNumber, keptPlaces, VoiceIn, VoicesIn, parts, Roomy, written, plain, answerBy, listAfter, afterBlock, Took, Good, levelVoice, chosenVoices};
+ghost use Rattle.one.specs.Tuners.{freshNumbers, silentTuner, freshTuner, defaultTuner, keptList, storeFits, beginNumber, Started, withNumbers, withSettings, withBytes, begunAgain, Changed, Keyed, Reset, Metered};
 
 // The number of this layout of the record.
 pub const LAYOUT: u64 = 40000;
@@ -485,7 +486,8 @@ pub fn take(
 ) -> Numbers
     requires good { ⌜ Good (tunerOf n (now energies) (now correlations) (now heard) (now eighths) (now outs)) × Stores (heardOf (n .count) (now energies) (now correlations) (now heard) (now eighths)) × (length (now outs) ≡ keptPlaces) ⌝ }
     requires fits { ⌜ (0 < length (now samples)) × (length (now samples) ≤ longestBlock) × (n .count + length (now samples) ≤ takeLimit) ⌝ }
-    ensures tuner { λ r. ⌜ tunerOf r (now (energies .exit)) (now (correlations .exit)) (now (heard .exit)) (now (eighths .exit)) (now (outs .exit)) ≡ afterBlock (tunerOf n (now (energies .entry)) (now (correlations .entry)) (now (heard .entry)) (now (eighths .entry)) (now (outs .entry))) number (now (samples .entry)) (now (store .entry)) ⌝ }
+    ensures tuner { λ r. ⌜ tunerOf r (now (energies .exit)) (now (correlations .exit)) (now (heard .exit)) (now (eighths .exit)) (now (outs .exit))
+        ≡ afterBlock (tunerOf n (now (energies .entry)) (now (correlations .entry)) (now (heard .entry)) (now (eighths .entry)) (now (outs .entry))) number (now (samples .entry)) (now (store .entry)) ⌝ }
     ensures rows { λ r. ⌜ now (store .exit) ≡ listAfter (tunerOf n (now (energies .entry)) (now (correlations .entry)) (now (heard .entry)) (now (eighths .entry)) (now (outs .entry))) (now (samples .entry)) (now (store .entry)) .store ⌝ }
     ensures stores { λ r. ⌜ Stores (heardOf (r .count) (now (energies .exit)) (now (correlations .exit)) (now (heard .exit)) (now (eighths .exit))) × (length (now (outs .exit)) ≡ keptPlaces) ⌝ }
 {
@@ -636,7 +638,9 @@ pub fn block_lent(
     store: &mut [u32],
 ) -> Left
     requires { ⌜ Stores (heardOf (n .count) (now energies) (now correlations) (now heard) (now eighths)) × (length (now outs) ≡ keptPlaces) ⌝ }
-    ensures { λ r. ⌜ Took (tunerOf n (now (energies .entry)) (now (correlations .entry)) (now (heard .entry)) (now (eighths .entry)) (now (outs .entry))) number (now (samples .entry)) (four (now (out .entry)) (now (first .entry)) (now (second .entry)) (now (third .entry))) (now (store .entry)) (tunerOf (r .numbers) (now (energies .exit)) (now (correlations .exit)) (now (heard .exit)) (now (eighths .exit)) (now (outs .exit))) (r .answer) (four (now (out .exit)) (now (first .exit)) (now (second .exit)) (now (third .exit))) (now (store .exit)) ⌝ }
+    ensures { λ r. ⌜ Took (tunerOf n (now (energies .entry)) (now (correlations .entry)) (now (heard .entry)) (now (eighths .entry)) (now (outs .entry)))
+        number (now (samples .entry)) (four (now (out .entry)) (now (first .entry)) (now (second .entry)) (now (third .entry))) (now (store .entry))
+        (tunerOf (r .numbers) (now (energies .exit)) (now (correlations .exit)) (now (heard .exit)) (now (eighths .exit)) (now (outs .exit))) (r .answer) (four (now (out .exit)) (now (first .exit)) (now (second .exit)) (now (third .exit))) (now (store .exit)) ⌝ }
 {
     if !right(n, energies, correlations, heard, eighths) {
         let list = n.list;
@@ -950,7 +954,8 @@ pub fn reset_lent(
     store: &[u32],
 ) -> Told
     requires { ⌜ Stores (heardOf (n .count) (now energies) (now correlations) (now heard) (now eighths)) ⌝ }
-    ensures { λ r. ⌜ Reset (tunerOf n (now (energies .entry)) (now (correlations .entry)) (now (heard .entry)) (now (eighths .entry)) (now (outs .entry))) (now (store .entry)) (tunerOf (r .numbers) (now (energies .exit)) (now (correlations .exit)) (now (heard .exit)) (now (eighths .exit)) (now (outs .exit))) (r .number) ⌝ }
+    ensures { λ r. ⌜ Reset (tunerOf n (now (energies .entry)) (now (correlations .entry)) (now (heard .entry)) (now (eighths .entry)) (now (outs .entry)))
+        (now (store .entry)) (tunerOf (r .numbers) (now (energies .exit)) (now (correlations .exit)) (now (heard .exit)) (now (eighths .exit)) (now (outs .exit))) (r .number) ⌝ }
 {
     let good = right(n, energies, correlations, heard, eighths);
     let number = reset_number(good, n.listed, store.len());
@@ -1058,7 +1063,8 @@ impl Tuner {
         third: &mut [i16],
         store: &mut [u32],
     ) -> Taken
-        ensures { λ r. ⌜ Took self number (now (samples .entry)) (four (now (out .entry)) (now (first .entry)) (now (second .entry)) (now (third .entry))) (now (store .entry)) (r .tuner) (r .answer) (four (now (out .exit)) (now (first .exit)) (now (second .exit)) (now (third .exit))) (now (store .exit)) ⌝ }
+        ensures { λ r. ⌜ Took self number (now (samples .entry)) (four (now (out .entry)) (now (first .entry)) (now (second .entry)) (now (third .entry))) (now (store .entry))
+            (r .tuner) (r .answer) (four (now (out .exit)) (now (first .exit)) (now (second .exit)) (now (third .exit))) (now (store .exit)) ⌝ }
     {
         let n = self.numbers;
         let mut energies = self.energies;
