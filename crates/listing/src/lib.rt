@@ -10,27 +10,24 @@ use rules::EIGHTH_LAGS;
 use rules::KEPT_EIGHTHS;
 use rules::KEPT_SAMPLES;
 use rules::LONGEST_BLOCK;
-use rules::NO_NOTE;
 use rules::Settings;
 use rules::Tone;
 use tuner::LastNumbers;
 use tuner::Left;
 use tuner::Tuner;
 ghost use mathlib.Core.Path.{_≡_};
-ghost use mathlib.Core.Bool.{cond};
 ghost use Prim.Native.Nat.{_+_, _≤_, _<_};
-ghost use lib.Dec.{eqb};
 ghost use lib.ListN.{length, take, drop};
 ghost use Rattle.whole.specs.Tests.{Decides};
-ghost use Rattle.rules.specs.Rules.{noNote, longestBlock, takeLimit};
+ghost use Rattle.rules.specs.Rules.{longestBlock, takeLimit};
 ghost use Rattle.answers.specs.Numbering.{plain};
 ghost use Rattle.lists.specs.Lists.{emptyListing, sungNote, sheet, afterNotes, ListingIn};
+ghost use Rattle.lists.specs.Hushes.{hushed};
 ghost use Rattle.record.specs.declared.Last.{Last};
 ghost use Rattle.record.specs.Records.{AllRight, noLast};
 ghost use Rattle.record.specs.Parts.{heardOf, Stores};
 ghost use Rattle.tuner.specs.Parted.{tunerOf, lastWith, given};
 ghost use Rattle.tuner.specs.Tuners.{afterBlock, Took};
-ghost use Rattle.listing.specs.Hushes.{hushed};
 ghost use Rattle.listing.specs.Listings.{listTuner, ListGood, listAnswer, listNumber, ListStarted, ListReset, blockNotes, ListedBy, ListTook};
 
 // A tuner, and the list of its take.
@@ -135,28 +132,6 @@ pub fn start(hertz: u32, s: Settings, store: &[u32]) -> ListTaken
     begin(t, number)
 }
 
-// The note of a sample, none without a period.
-fn sung_at(period: u32, note: u32) -> u32
-    ensures { λ r. ⌜ r ≡ cond (eqb period 0) noNote note ⌝ }
-{
-    if period == 0 {
-        return NO_NOTE;
-    }
-    note
-}
-
-// Of the first n samples, those without a period have no note.
-fn hush(notes: &mut [u32; LONGEST_BLOCK], periods: &[u32; LONGEST_BLOCK], n: usize)
-    requires { ⌜ (n ≤ longestBlock) × (length (now notes) ≡ longestBlock) × (length (now periods) ≡ longestBlock) ⌝ }
-    ensures { λ r. ⌜ now (notes .exit) ≡ hushed n (now (periods .entry)) (now (notes .entry)) ⌝ }
-{
-    let mut i: usize = 0;
-    while i < n {
-        notes[i] = sung_at(periods[i], notes[i]);
-        i += 1;
-    }
-}
-
 // Where all of them have a period there is nothing to hush, and counting runs in vectors.
 fn hush_if(notes: &mut [u32; LONGEST_BLOCK], periods: &[u32; LONGEST_BLOCK], n: usize)
     requires { ⌜ (n ≤ longestBlock) × (length (now notes) ≡ longestBlock) × (length (now periods) ≡ longestBlock) ⌝ }
@@ -165,7 +140,7 @@ fn hush_if(notes: &mut [u32; LONGEST_BLOCK], periods: &[u32; LONGEST_BLOCK], n: 
     if lists::count_of(periods, n, 0) == 0 {
         return;
     }
-    hush(notes, periods, n);
+    lists::hush(notes, periods, n);
 }
 
 // The list goes on with the notes sung of a block's n samples, by what was told of them; this was the tone before the block.

@@ -7,3 +7,4 @@ pub mod Worked
 pub mod Sung
 pub mod Longest
 pub mod Counting
+pub mod Hushes

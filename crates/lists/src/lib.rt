@@ -1,13 +1,15 @@
 // The list of the notes sung: rows of note, first sample and length in a lent store, three numbers a row. The store is written and never read.
 ghost use mathlib.Core.Path.{_≡_};
-ghost use mathlib.Core.Bool.{true};
+ghost use mathlib.Core.Bool.{true, cond};
 ghost use Prim.Native.Nat.{_+_, _-_, _*_, _≤_, _<_};
+ghost use lib.Dec.{eqb};
 ghost use lib.ListN.{length, take};
 ghost use Rattle.whole.specs.Tests.{Decides};
-ghost use Rattle.rules.specs.Rules.{takeLimit};
+ghost use Rattle.rules.specs.Rules.{noNote, longestBlock, takeLimit};
 ghost use Rattle.lists.specs.Lists.{sungNote, row, room, put, emptyListing, sheet, begun, listingAfter, storeAfter, afterNotes, PlaceIn, ListingIn};
 ghost use Rattle.lists.specs.Folds.{afterStretch, Level, Four};
 ghost use Rattle.lists.specs.Counting.{oneIf, counted};
+ghost use Rattle.lists.specs.Hushes.{hushed};
 
 // The most rows of a list.
 pub const MOST_ROWS: u32 = 4096;
@@ -245,6 +247,32 @@ fn level(notes: &[u32], from: usize, n: usize) -> usize
         to += 1;
     }
     to
+}
+
+// The note of a sample, none without a period.
+fn sung_at(period: u32, note: u32) -> u32
+    ensures { λ r. ⌜ r ≡ cond (eqb period 0) noNote note ⌝ }
+{
+    if period == 0 {
+        return rules::NO_NOTE;
+    }
+    note
+}
+
+// Of the first n samples, those without a period have no note.
+pub fn hush(
+    notes: &mut [u32; rules::LONGEST_BLOCK],
+    periods: &[u32; rules::LONGEST_BLOCK],
+    n: usize,
+)
+    requires { ⌜ (n ≤ longestBlock) × (length (now notes) ≡ longestBlock) × (length (now periods) ≡ longestBlock) ⌝ }
+    ensures { λ r. ⌜ now (notes .exit) ≡ hushed n (now (periods .entry)) (now (notes .entry)) ⌝ }
+{
+    let mut i: usize = 0;
+    while i < n {
+        notes[i] = sung_at(periods[i], notes[i]);
+        i += 1;
+    }
 }
 
 // The notes of n samples more, behind so many and the last note: the listing after them, and their rows in the store.

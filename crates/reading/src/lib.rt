@@ -129,10 +129,10 @@ pub fn turn(
     period: u32,
     s: &[i16],
     m: usize,
-    out: &mut [i16; LONGEST_BLOCK],
+    out: &mut [i16],
     i: usize,
 ) -> Growth
-    requires { ⌜ (g .behind ≤ rules.farthest) × (g .repeated < longestBlock) × (g .dropped < longestBlock) × Paced rate period × (m ≤ length (now s)) × (1006 ≤ m) × (i < longestBlock) ⌝ }
+    requires { ⌜ (g .behind ≤ rules.farthest) × (g .repeated < longestBlock) × (g .dropped < longestBlock) × Paced rate period × (m ≤ length (now s)) × (1006 ≤ m) × (i < length (now out)) ⌝ }
     ensures { λ r. ⌜ Grown g rate period r × ((n : ℕ) → now (out .exit) ≡ set (now (out .entry)) i (rules.reading (ago (now (s .entry)) m) n (rules.inputAt n -ℤ pos (r .behind)))) ⌝ }
 {
     let r = grow(g, rate, period);
@@ -149,7 +149,7 @@ pub fn glide(
     s: &[i16],
     m: usize,
     b: usize,
-    out: &mut [i16; LONGEST_BLOCK],
+    out: &mut [i16],
 ) -> Growth
     requires { ⌜ (behind ≤ rules.farthest) × PacedAll b (now rates) (now periods) × (m + b ≤ length (now s)) × (1005 ≤ m) × (b ≤ longestBlock) × (length (now out) ≡ longestBlock) ⌝ }
     ensures { λ r. ⌜ Glided behind (now (rates .entry)) (now (periods .entry)) (now (s .entry)) m b (now (out .entry)) (now (out .exit)) r ⌝ }

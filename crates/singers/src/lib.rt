@@ -170,7 +170,7 @@ pub fn give_all(vs: Voices, n: usize, first: &mut [i16], second: &mut [i16], thi
 }
 
 // An interval in semitones as it is kept.
-fn kept_interval(z: i32) -> u32
+pub fn kept_interval(z: i32) -> u32
     ensures { λ r. ⌜ r ≡ keptInterval z ⌝ }
 {
     if z < -12 {

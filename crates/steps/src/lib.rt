@@ -116,7 +116,7 @@ fn step(
 }
 
 // The samples of the store after the first m, b of them, are heard: the tone after each. The head stays where it is.
-fn hear_all(
+pub fn hear_all(
     p: Progress,
     f: InForce,
     y: &mut [i16; OPEN_EIGHTHS],

@@ -149,15 +149,7 @@ fn read(s: &[i16], m: usize, behind: u32) -> i16
 }
 
 // One sample, the newest of the first m: the output goes to place i. Silent, it is 0, and the position is put level with the input.
-fn sound(
-    behind: u32,
-    rate: u32,
-    period: u32,
-    s: &[i16],
-    m: usize,
-    out: &mut [i16; LONGEST_BLOCK],
-    i: usize,
-) -> u32
+fn sound(behind: u32, rate: u32, period: u32, s: &[i16], m: usize, out: &mut [i16], i: usize) -> u32
     requires { ⌜ (behind ≤ farthest) × Kept rate period × (m ≤ length (now s)) × (1006 ≤ m) × (i < longestBlock) × (length (now out) ≡ longestBlock) ⌝ }
     ensures { λ r. ⌜ Sounded behind rate period (now (s .entry)) m i (now (out .entry)) (now (out .exit)) r ⌝ }
 {
@@ -201,7 +193,7 @@ fn stretch(
     m: usize,
     from: usize,
     b: usize,
-    out: &mut [i16; LONGEST_BLOCK],
+    out: &mut [i16],
 ) -> Sung
     requires { ⌜ Sings (v .behind) (v .rate) (v .period) (v .note) (now periods) (now notes) (now s) m from b × (length (now out) ≡ longestBlock) ⌝ }
     ensures { λ r. ⌜ (from < r .at) × (r .at ≤ b) × SangTo (v .rate) (v .period) (v .note) (v .behind) (now (periods .entry)) (now (notes .entry)) (now (s .entry)) m from (now (out .entry)) (now (out .exit)) (r .at) (r .behind) ⌝ }
@@ -231,7 +223,7 @@ pub fn sing(
     s: &[i16],
     m: usize,
     b: usize,
-    out: &mut [i16; LONGEST_BLOCK],
+    out: &mut [i16],
 ) -> u32
     requires { ⌜ (behind ≤ farthest) × SampleRate hertz × IntervalIn interval × TrackedAll b (now periods) (now notes) × (m + b ≤ length (now s)) × (1005 ≤ m) × (b ≤ longestBlock) × (length (now out) ≡ longestBlock) ⌝ }
     ensures { λ r. ⌜ Sang hertz interval behind (now (periods .entry)) (now (notes .entry)) (now (s .entry)) m b (now (out .entry)) (now (out .exit)) r ⌝ }

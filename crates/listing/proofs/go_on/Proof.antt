@@ -7,7 +7,7 @@ use native.Mathlib.Omega.{arith}
 use borrow.Author.Needs.{needs}
 use lib.ListN.{length, take}
 use Rattle.lists.specs.Lists.{sheet, afterNotes}
-use Rattle.listing.specs.Hushes.{hushed-length}
+use Rattle.lists.specs.Hushes.{hushed-length}
 use Rattle.listing.proofs.go_on.Statement.{statement}
 use Rattle.listing.proofs.go_on.Tie as tie
 

@@ -3,7 +3,7 @@
 use mathlib.Core.Path.{sym, _∙_}
 use native.Mathlib.Omega.{arith}
 use borrow.Author.Needs.{needs}
-use Rattle.listing.specs.Hushes.{hushed-none}
+use Rattle.lists.specs.Hushes.{hushed-none}
 use Rattle.listing.proofs.hush_if.Statement.{statement}
 use Rattle.listing.proofs.hush_if.Tie as tie
 

@@ -1,21 +1,21 @@
 -- `reading::glide` meets its contract: after i turns it is so of the first i samples (`Glided`).
 -- Assumes nothing.
-use mathlib.Core.Path.{_≡_, refl, subst}
+use mathlib.Core.Path.{_≡_, refl, ap, _∙_, subst}
 use Prim.Native.Nat.{ℕ, _+_, _-_, _≤_}
 use native.Mathlib.Omega.{arith}
-use lib.ListN.{length}
+use lib.ListN.{length, length-set}
 use Rattle.reading.specs.Gliding.{Glided, glided-none, glided-more}
 use Rattle.reading.proofs.glide.Statement.{statement}
 use Rattle.reading.proofs.glide.Tie as tie
 
 abbrev Inv-loop : tie.InvT-loop
-Inv-loop behind rates periods s m b out₀ g₀ i₀ out g i = (i ≤ b) × Glided behind rates periods s m i out₀ out g
+Inv-loop behind rates periods s m b out₀ g₀ i₀ out g i = (i ≤ b) × Glided behind rates periods s m i out₀ out g × (length out ≡ length out₀)
 
 abbrev μ-loop : tie.MeasureT-loop
 μ-loop behind rates periods s m b out₀ g₀ i₀ out g i = b - i
 
 loop-holds : tie.Need-loop-holds Inv-loop μ-loop
-loop-holds c = let a = c .args in (omega arith, glided-none (a .behind) (a .rates .now) (a .periods .now) (a .s .now) (a .m) (a .out .now) (c .pre .0) refl refl refl)
+loop-holds c = let a = c .args in (omega arith, glided-none (a .behind) (a .rates .now) (a .periods .now) (a .s .now) (a .m) (a .out .now) (c .pre .0) refl refl refl, refl)
 
 mul-turn : tie.Need-mul-turn Inv-loop μ-loop
 mul-turn c = omega arith
@@ -51,11 +51,14 @@ loop-less c = omega arith
 
 loop-again : tie.Need-loop-again Inv-loop μ-loop
 loop-again c =
-    let l = c .before .before .before .before .before in
+    let l = c .before .before .before .before .before .before in
     let a = l .before .args in
     let p = l .before .pre in
-    let t = c .before .before .before .before .loop-test .taken in
-    (omega (arith, t), glided-more (a .behind) (a .rates .now) (a .periods .now) (a .s .now) (a .m) (a .out .now) (omega (arith, t, p .4, p .5)) (l .loop .inv .1) (c .turn .ensures .0) (c .turn .ensures .1))
+    let t = c .before .before .before .before .before .loop-test .taken in
+    (omega (arith, t), glided-more (a .behind) (a .rates .now) (a .periods .now) (a .s .now) (a .m) (a .out .now) (omega (arith, t, p .4, p .5)) (l .loop .inv .1) (c .before .turn .ensures .0) (c .before .turn .ensures .1), ap length (c .before .turn .ensures .1 0) ∙ length-set (l .loop .out) (l .loop .i) _ ∙ l .loop .inv .2)
+
+same-length : tie.Need-same-length Inv-loop μ-loop
+same-length c = c .before .loop .inv .2
 
 returns : tie.Need-returns Inv-loop μ-loop
 returns c =
@@ -81,4 +84,5 @@ glide-spec =
     add-i
     loop-less
     loop-again
+    same-length
     returns)

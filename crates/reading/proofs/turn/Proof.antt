@@ -17,8 +17,11 @@ read-requires c κs = let p = c .before .pre in (p .4, p .5, c .grow .ensures .n
 mul-o : tie.Need-mul-o
 mul-o c = search needs
 
-element-set-from-o : tie.Need-element-set-from-o
-element-set-from-o c = search needs
+slice-set-from-o : tie.Need-slice-set-from-o
+slice-set-from-o c = search needs
+
+same-length : tie.Need-same-length
+same-length c = search needs
 
 returns : tie.Need-returns
 returns c =
@@ -26,4 +29,4 @@ returns c =
     (c .before .grow .ensures, λ n. ap (set (a .out .now) (a .i)) (toZ-ofZ {w = w16} (sfits-of (c .read .ok)) ∙ c .read .ensures n))
 
 pub turn-spec : {M : Type 1} → statement M
-turn-spec = tie.close (tie.spec grow-requires read-requires mul-o element-set-from-o returns)
+turn-spec = tie.close (tie.spec grow-requires read-requires mul-o slice-set-from-o same-length returns)

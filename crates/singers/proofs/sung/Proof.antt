@@ -14,6 +14,9 @@ returns c = beyond (omega arith) refl
 sub-sing : tie.Need-sub-sing
 sub-sing c = search needs
 
+slice-aggregate-sing : tie.Need-slice-aggregate-sing
+slice-aggregate-sing c = search needs
+
 sing-requires : tie.Need-sing-requires
 sing-requires c κs =
     let s = c .before .before .before in
@@ -22,7 +25,7 @@ sing-requires c κs =
     (p .0 h .behind, p .1, p .0 h .interval, p .2, omega (arith, p .3, p .4), omega (arith, p .4), p .4, refl)
 
 returns-2 : tie.Need-returns-2
-returns-2 c = sang (omega arith) refl (c .sing .ensures)
+returns-2 c = sang (omega arith) refl (c .before .sing .ensures)
 
 pub sung-spec : {M : Type 1} → statement M
-sung-spec = tie.close (tie.spec returns sub-sing sing-requires returns-2)
+sung-spec = tie.close (tie.spec returns sub-sing slice-aggregate-sing sing-requires returns-2)

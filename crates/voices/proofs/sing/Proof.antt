@@ -60,20 +60,23 @@ stretch-requires c κs =
     )
 
 loop-less : tie.Need-loop-less Inv-loop μ-loop
-loop-less c = let d = c .stretch .ensures in omega (arith, d .0, d .1)
+loop-less c = let d = c .before .stretch .ensures in omega (arith, d .0, d .1)
 
 loop-again : tie.Need-loop-again Inv-loop μ-loop
 loop-again c =
-    let w = c .before .before in
+    let w = c .before .before .before in
     let l = w .before .before .before .before in
     let a = l .before .args in
     let v = l .loop .inv in
     let r = w .beside .result in
     let e = w .beside .ensures in
-    let d = c .stretch .ensures in
+    let d = c .before .stretch .ensures in
     let known : Reckoned (a .hertz) (a .interval) (r .period) (r .note) (r .entry) (r .rate) = transport (λ j. Reckoned (a .hertz) (a .interval) (sym (e .1) j) (sym (e .2) j) (r .entry) (r .rate)) (e .3) in
     let here = subst (λ (k : ℕ). Sang (a .hertz) (a .interval) (a .behind) (a .periods .now) (a .notes .now) (a .s .now) (a .m) (l .loop .i) (a .out .now) (l .loop .out) k) (sym (e .0)) (v .3) in
     (d .1, d .2 .same ∙ v .1, known, d .2 .sang (a .hertz) (a .interval) (a .behind) (a .out .now) (l .before .pre .7) (known .1) here)
+
+same-length : tie.Need-same-length Inv-loop μ-loop
+same-length c = c .before .loop .inv .1
 
 returns : tie.Need-returns Inv-loop μ-loop
 returns c =
@@ -97,4 +100,5 @@ sing-spec =
     stretch-requires
     loop-less
     loop-again
+    same-length
     returns)

@@ -13,8 +13,11 @@ use Rattle.voices.proofs.sound.Tie as tie
 mul-out : tie.Need-mul-out
 mul-out c = search needs
 
-element-set-of-out : tie.Need-element-set-of-out
-element-set-of-out c = search needs
+slice-set-of-out : tie.Need-slice-set-of-out
+slice-set-of-out c = search needs
+
+same-length : tie.Need-same-length
+same-length c = search needs
 
 returns : tie.Need-returns
 returns c = voiced-silent (c .before .args .rate) (c .if1 .taken)
@@ -28,8 +31,11 @@ read-requires c κs = search needs
 mul-o : tie.Need-mul-o
 mul-o c = search needs
 
-element-set-from-o : tie.Need-element-set-from-o
-element-set-from-o c = search needs
+slice-set-from-o : tie.Need-slice-set-from-o
+slice-set-from-o c = search needs
+
+same-length-2 : tie.Need-same-length-2
+same-length-2 c = search needs
 
 returns-2 : tie.Need-returns-2
 returns-2 c =
@@ -41,10 +47,12 @@ sound-spec =
     tie.close
     (tie.spec
     mul-out
-    element-set-of-out
+    slice-set-of-out
+    same-length
     returns
     grown-requires
     read-requires
     mul-o
-    element-set-from-o
+    slice-set-from-o
+    same-length-2
     returns-2)

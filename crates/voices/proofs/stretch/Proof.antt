@@ -42,18 +42,21 @@ sound-requires c κs =
     (v .near, p .kept, omega (arith, here t, p .stored), omega (arith, p .enough), omega (arith, here t, p .most), v .same ∙ l .before .pre .1)
 
 add-i : tie.Need-add-i Inv-loop μ-loop
-add-i c = omega (arith, here (c .before .before))
+add-i c = omega (arith, here (c .before .before .before))
 
 loop-less : tie.Need-loop-less Inv-loop μ-loop
-loop-less c = omega (arith, here (c .before .before))
+loop-less c = omega (arith, here (c .before .before .before))
 
 loop-again : tie.Need-loop-again Inv-loop μ-loop
 loop-again c =
-    let t = c .before .before in
+    let t = c .before .before .before in
     let l = t .before .before in
     let v = l .loop .inv in
     let test = t .before .goes-on .ensures .yes (t .if1 .taken) in
-    (omega (arith, v .0), omega (arith, test .0), sang-to-more (omega (arith, test .0, l .before .pre .0 .most)) (test .1) (test .2) (v .2) (c .sound .ensures))
+    (omega (arith, v .0), omega (arith, test .0), sang-to-more (omega (arith, test .0, l .before .pre .0 .most)) (test .1) (test .2) (v .2) (c .before .sound .ensures))
+
+same-length : tie.Need-same-length Inv-loop μ-loop
+same-length c = c .before .before .loop .inv .2 .same
 
 returns : tie.Need-returns Inv-loop μ-loop
 returns c =
@@ -82,4 +85,5 @@ stretch-spec =
     add-i
     loop-less
     loop-again
+    same-length
     returns)

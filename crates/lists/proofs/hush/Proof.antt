@@ -1,4 +1,4 @@
--- `listing::hush` meets its contract: after i turns the first i are hushed.
+-- `lists::hush` meets its contract: after i turns the first i are hushed.
 -- Assumes nothing.
 use mathlib.Core.Path.{_≡_, refl, sym, ap, subst, _∙_}
 use mathlib.Core.Bool.{cond}
@@ -9,9 +9,9 @@ use native.Mathlib.Omega.{arith}
 use lib.Dec.{eqb}
 use lib.ListN.{length, getD, set}
 use Rattle.rules.specs.Rules.{noNote}
-use Rattle.listing.specs.Hushes.{hushed, hushed-length, hushed-behind, hushed-more}
-use Rattle.listing.proofs.hush.Statement.{statement}
-use Rattle.listing.proofs.hush.Tie as tie
+use Rattle.lists.specs.Hushes.{hushed, hushed-length, hushed-behind, hushed-more}
+use Rattle.lists.proofs.hush.Statement.{statement}
+use Rattle.lists.proofs.hush.Tie as tie
 
 abbrev Inv-loop : tie.InvT-loop
 Inv-loop notes₀ periods n i₀ notes i = (i ≤ n) × (notes ≡ hushed i periods notes₀)

@@ -1,10 +1,10 @@
--- `listing::sung_at` meets its contract.
+-- `lists::sung_at` meets its contract.
 -- Assumes nothing.
 use mathlib.Core.Path.{sym}
 use borrow.Author.Tests.{eq-eqb, ne-eqb}
 use Rattle.whole.specs.Tests.{cond-yes, cond-no}
-use Rattle.listing.proofs.sung_at.Statement.{statement}
-use Rattle.listing.proofs.sung_at.Tie as tie
+use Rattle.lists.proofs.sung_at.Statement.{statement}
+use Rattle.lists.proofs.sung_at.Tie as tie
 
 returns : tie.Need-returns
 returns c = sym (cond-yes _ _ (eq-eqb _ _ (c .if1 .taken)))

@@ -1,0 +1,13 @@
+-- `one::silent` meets its contract: all its arrays are 0.
+-- Assumes nothing.
+use mathlib.Core.Path.{refl}
+use Rattle.one.specs.Tuners.{silentTuner}
+use Rattle.one.proofs.silent.Statement.{statement}
+use Rattle.one.proofs.silent.Tie as tie
+
+returns : tie.Need-returns
+unfolding silentTuner
+returns c = refl
+
+pub silent-spec : {M : Type 1} → statement M
+silent-spec = tie.close (tie.spec returns)
