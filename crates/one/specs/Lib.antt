@@ -2,3 +2,4 @@ pub mod Tuners
 pub mod Parted
 pub mod Starts
 pub mod Voices
+pub mod Verdicts
