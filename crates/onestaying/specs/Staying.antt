@@ -1,7 +1,7 @@
 -- Every call leaves a good tuner good and its arrays as long as they were; what the answer to a block says of the tuner; a block that is not taken changes nothing.
 -- Of the lead each part follows from the rules' own laws, of the list from its fold, of a voice from its bounds beside the lead; the other calls change a few numbers.
 use mathlib.Core.Path.{_≡_, refl, sym, ap, _∙_, subst}
-use mathlib.Core.Bool.{true, cond}
+use mathlib.Core.Bool.{true}
 use mathlib.Core.List.{List, [], _∷_, _++_, map, flatten}
 use Prim.Native.Nat.{ℕ, zero, suc, _+_, _-_, _*_, _≤_, _<_}
 use native.Mathlib.Omega.{arith}
@@ -14,7 +14,7 @@ use Rattle.whole.specs.Tests.{by, cond-case, cond-yes, cond-no, and-left, and-r
 use Rattle.whole.specs.Lists.{length-listOf}
 use Rattle.rules.specs.declared.Settings.{Settings}
 use Rattle.rules.specs.declared.InForce.{InForce}
-use Rattle.rules.specs.Rules.{silence, noTone, Take, Given, stepped, defaults, cdRate, startNumber, settingsNumber, after, gives, samplesOut, longestBlock, refuse}
+use Rattle.rules.specs.Rules.{silence, noTone, Take, Given, stepped, defaults, cdRate, startNumber, gives, samplesOut}
 use Rattle.rules.specs.Ranges.{unrefused-start, default-start}
 use Rattle.rules.specs.Facts.{InRange, SampleRate, ForceIn, unpitched, valueAt, keeping}
 use Rattle.rules.specs.Position.{behind-in-bounds, in-bounds-behind}
@@ -38,7 +38,7 @@ use Rattle.one.specs.declared.Voice.{Voice}
 use Rattle.one.specs.declared.Numbers.{Numbers}
 use Rattle.one.specs.declared.Tuner.{Tuner}
 use Rattle.one.specs.declared.Answer.{Answer}
-use Rattle.one.specs.Tuners.{takeOf, forceOf, voiceAt, VoiceIn, VoicesIn, heardBy, Good, levelVoice, chosenVoices, freshNumbers, silentTuner, freshTuner, defaultTuner, keptOut, standsAt, voiceBeside, voiceOut, voicesBeside, outsBeside, listAfter, afterBlock, keptOuts, written, Verdict, answerBy, counted, plain, Took, keptList, beginNumber, storeFits, Started, NineThen, record-out-of-range, record-good, Done, withNumbers, withKeys, withSettings, withBytes, begunAgain, Changed, Keyed, Reset}
+use Rattle.one.specs.Tuners.{takeOf, forceOf, voiceAt, VoiceIn, VoicesIn, Good, levelVoice, chosenVoices, freshNumbers, silentTuner, freshTuner, defaultTuner, keptOut, standsAt, voiceBeside, voiceOut, voicesBeside, listAfter, afterBlock, keptOuts, written, answerBy, counted, plain, Took, keptList, beginNumber, storeFits, Started, NineThen, record-out-of-range, record-good, Done, withNumbers, withKeys, begunAgain, Changed, Keyed, Reset}
 use Rattle.one.specs.Starts.{number-own, number-17, number-on}
 use Rattle.one.specs.Verdicts.{verdict-fits, verdict-zero}
 
