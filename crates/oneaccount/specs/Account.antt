@@ -1,14 +1,21 @@
 -- The account: what holds of the tuner after any series of calls, nights among them. Definitions only, and two statements (`SentAgain`, `NeverNine`); their proofs are `again-holds` and `never-nine` in Calls.antt.
 use mathlib.Core.Path.{_≡_}
-use mathlib.Core.List.{List, [], _∷_, map}
+use mathlib.Core.Bool.{cond}
+use mathlib.Core.List.{List, [], _∷_, _++_, map}
 use Prim.Native.Nat.{ℕ, _+_, _<_}
+use lib.Dec.{eqb}
 use lib.IntN.{ℤ}
-use lib.ListN.{length, take}
+use lib.ListN.{length, take, drop}
 use Rattle.rules.specs.declared.Settings.{Settings}
+use Rattle.rules.specs.Rules.{defaults, cdRate}
+use Rattle.history.specs.History.{Event, sample, new-settings, byte, Course, freshCourse, courseAfter}
+use Rattle.reports.specs.declared.Figures.{Figures}
+use Rattle.reports.specs.Reports.{added, noFigures}
+use Rattle.singers.specs.Singers.{keptInterval}
 use Rattle.meters.specs.declared.Meter.{Meter}
 use Rattle.one.specs.declared.Tuner.{Tuner}
 use Rattle.one.specs.declared.Answer.{Answer}
-use Rattle.one.specs.Tuners.{defaultTuner, keptOuts, Roomy, Took, Started, Changed, Keyed, Reset, Metered}
+use Rattle.one.specs.Tuners.{defaultTuner, keptList, keptOuts, Roomy, Took, Started, Changed, Keyed, Reset, Metered}
 use Rattle.onenight.specs.declared.NightAnswer.{NightAnswer}
 use Rattle.onenight.specs.Night.{Nighted}
 
@@ -38,6 +45,64 @@ pub data Leaves (t : Tuner) : Call → Tuner → Type 0 where
 pub data Series : List Call → Tuner → Type 0 where
   fresh-start : Series [] defaultTuner
   and-then : {cs : List Call} {c : Call} {t t′ : Tuner} → Series cs t → Leaves t c t′ → Series (c ∷ cs) t′
+
+-- since the last start or reset: the sample rate and the settings with which the take began, whether a list is kept, and the voices chosen; what happened in it; and what the answers count, added up
+pub record Received : Type 0 where
+  pub hertz : ℕ
+  pub settings : Settings
+  pub listed : ℕ
+  pub intervals : List ℕ
+  pub events : List Event
+  pub figures : Figures
+
+-- nothing was received yet
+abbrev pub begun : ℕ → Settings → ℕ → List ℕ → Received
+begun hertz s listed is = record { hertz = hertz; settings = s; listed = listed; intervals = is; events = []; figures = noFigures }
+
+-- how far the take has come by it
+abbrev pub courseOf : Received → Course
+courseOf r = courseAfter (freshCourse (r .hertz) (r .settings)) (r .events)
+
+-- more has happened
+abbrev pub withEvents : Received → List Event → Received
+withEvents r es = record { hertz = r .hertz; settings = r .settings; listed = r .listed; intervals = r .intervals; events = r .events ++ es; figures = r .figures }
+
+-- samples that were taken: of a recording n from a place on, and what was counted
+abbrev pub withSamples : Received → (from n : ℕ) → List ℤ → Figures → Received
+withSamples r from n xs f =
+    record {
+      hertz = r .hertz;
+      settings = r .settings;
+      listed = r .listed;
+      intervals = r .intervals;
+      events = r .events ++ map sample (take n (drop from xs));
+      figures = added (r .figures) f;
+    }
+
+-- what the answers to a block and to a night count
+abbrev pub countedBy : Answer → Figures
+countedBy a = record { samples = a .written; pitched = a .pitched; repeated = a .repeated; dropped = a .dropped; sum = a .strayed }
+
+abbrev pub countedIn : NightAnswer → Figures
+countedIn a = record { samples = a .written; pitched = a .pitched; repeated = a .repeated; dropped = a .dropped; sum = a .strayed }
+
+-- what is taken is received once: a call that is refused, and a block given again, add nothing
+abbrev pub ifTaken : (number : ℕ) → Received → Received → Received
+ifTaken v r′ r = cond (eqb v 0) r′ r
+
+-- what one call adds; a start or a reset begins the account again, a refused start with the default tuner's. Of a night a first block that was given again adds nothing
+unfoldable pub plus : Call → Received → Received
+plus (start hertz s listed zs store v) r = ifTaken v (begun hertz s (keptList listed) (map keptInterval zs)) (begun cdRate defaults 0 [])
+plus (change s v) r = ifTaken v (withEvents r (new-settings s ∷ [])) r
+plus (block k xs os store a os′ store′) r = ifTaken (a .number) (withSamples r 0 (a .written) xs (countedBy a)) r
+plus (night k size xs os store a os′ store′) r = withSamples r (a .again .written) (a .written) xs (countedIn a)
+plus (midi bytes v) r = ifTaken v (withEvents r (map byte bytes)) r
+plus (reset store v) r = ifTaken v (begun (r .hertz) (courseOf r .settings) (r .listed) (r .intervals)) r
+plus (meter m) r = r
+
+unfoldable pub received : List Call → Received
+received [] = begun cdRate defaults 0 []
+received (c ∷ cs) = plus c (received cs)
 
 -- ---- a block sent again
 

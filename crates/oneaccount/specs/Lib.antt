@@ -1,2 +1,4 @@
 pub mod Account
 pub mod Calls
+pub mod Newest
+pub mod Following
