@@ -1,21 +1,24 @@
--- The account: what holds of the tuner after any series of calls, nights among them. Definitions only, and two statements (`SentAgain`, `NeverNine`); their proofs are `again-holds` and `never-nine` in Calls.antt.
+-- The account: what holds of the tuner after any series of calls, nights among them. Definitions only, and three statements (`Theorem`, `SentAgain`, `NeverNine`); their proofs are `holds` in Holds.antt, `again-holds` and `never-nine` in Calls.antt.
 use mathlib.Core.Path.{_≡_}
 use mathlib.Core.Bool.{cond}
 use mathlib.Core.List.{List, [], _∷_, _++_, map}
 use Prim.Native.Nat.{ℕ, _+_, _<_}
 use lib.Dec.{eqb}
-use lib.IntN.{ℤ}
+use lib.IntN.{ℤ, pos, _+ℤ_, _-ℤ_}
 use lib.ListN.{length, take, drop}
 use Rattle.rules.specs.declared.Settings.{Settings}
-use Rattle.rules.specs.Rules.{defaults, cdRate}
-use Rattle.history.specs.History.{Event, sample, new-settings, byte, Course, freshCourse, courseAfter}
+use Rattle.rules.specs.Rules.{Sound, silence, heardAll, Given, cycles, defaults, cdRate, after, allRepeated, allDropped, eighthLags}
+use Rattle.rules.specs.Facts.{InBounds, Right}
+use Rattle.history.specs.History.{Event, sample, new-settings, byte, Course, freshCourse, courseAfter, givenBy, samplesIn, ratesUsed, totalOf}
 use Rattle.reports.specs.declared.Figures.{Figures}
-use Rattle.reports.specs.Reports.{added, noFigures}
+use Rattle.reports.specs.Reports.{figuresOf, added, noFigures}
 use Rattle.singers.specs.Singers.{keptInterval}
 use Rattle.meters.specs.declared.Meter.{Meter}
+use Rattle.tuner.specs.Tuners.{made}
+use Rattle.one.specs.declared.Voice.{Voice}
 use Rattle.one.specs.declared.Tuner.{Tuner}
 use Rattle.one.specs.declared.Answer.{Answer}
-use Rattle.one.specs.Tuners.{defaultTuner, keptList, keptOuts, Roomy, Took, Started, Changed, Keyed, Reset, Metered}
+use Rattle.one.specs.Tuners.{takeOf, forceOf, Good, defaultTuner, keptList, keptOuts, Roomy, Took, Started, Changed, Keyed, Reset, Metered}
 use Rattle.onenight.specs.declared.NightAnswer.{NightAnswer}
 use Rattle.onenight.specs.Night.{Nighted}
 
@@ -103,6 +106,47 @@ plus (meter m) r = r
 unfoldable pub received : List Call → Received
 received [] = begun cdRate defaults 0 []
 received (c ∷ cs) = plus c (received cs)
+
+-- what the rules give for each sample received
+abbrev pub givenOf : Received → List Given
+givenOf r = givenBy (freshCourse (r .hertz) (r .settings)) (r .events)
+
+-- all samples received; their sound, and that of the eighth-rate samples made of them: 0 before the first
+abbrev pub samplesOf : Received → List ℤ
+samplesOf r = samplesIn (r .events)
+
+abbrev pub heardOf : Received → Sound
+heardOf r = heardAll silence (samplesOf r)
+
+abbrev pub eighthsOf : Received → Sound
+eighthsOf r = heardAll silence (made 0 silence (samplesOf r))
+
+-- ---- what holds
+
+-- the account of the tuner t over what was received
+pub record Accounted (r : Received) (t : Tuner) : Type 0 where
+  -- the record is good, so no call is answered 9; settings, sample rate, keyboard, whether a list is kept and the voices are what the calls made them; each sample is counted once
+  pub good : Good t
+  pub settings : t .numbers .settings ≡ courseOf r .settings
+  pub hertz : t .numbers .hertz ≡ r .hertz
+  pub keyboard : t .numbers .keyboard ≡ courseOf r .keyboard
+  pub listed : t .numbers .listed ≡ r .listed
+  pub intervals : map (λ (v : Voice). v .interval) (take (t .numbers .chosen) (t .numbers .voices)) ≡ r .intervals
+  pub count : t .numbers .count ≡ length (samplesOf r)
+  -- sums: those at eighth rate and, while tracking, the eight at full rate are the direct sums over all that was received
+  pub sums : Right (eighthsOf r) 2 eighthLags (t .energies) (t .correlations)
+  pub lags : t .numbers .pitch .tracking ≡ 1 → Right (heardOf r) (t .numbers .pitch .tracker .low) 8 (t .numbers .pitch .tracker .e) (t .numbers .pitch .tracker .h)
+  -- position: all rates used, minus the period of every cycle repeated, plus the period of every cycle dropped
+  pub position : let gs = givenOf r in takeOf t .position ≡ pos (totalOf (ratesUsed gs)) -ℤ pos (cycles (allRepeated gs)) +ℤ pos (cycles (allDropped gs))
+  -- what was answered adds up to what the report counts of all that was received: its samples, those with a period, the cycles repeated and dropped, and the sum of the rates' distances from 65536
+  pub figures : r .figures ≡ figuresOf (givenOf r)
+  -- never ahead of the input nor over 1,000 samples behind: now, and after any beginning xs of the block that comes next
+  pub bounds : InBounds (t .numbers .count) (takeOf t .position)
+  pub within : (xs : List ℤ) → InBounds (length (samplesOf r) + length xs) (after (forceOf t) (courseOf r .take) xs .position)
+
+-- after any series of calls
+abbrev pub Theorem : Type 0
+Theorem = (cs : List Call) (t : Tuner) → Series cs t → Accounted (received cs) t
 
 -- ---- a block sent again
 

@@ -23,35 +23,8 @@ use Rattle.staying.specs.Staying.{silent-right}
 use Rattle.one.specs.declared.Voice.{Voice}
 use Rattle.one.specs.declared.Tuner.{Tuner}
 use Rattle.one.specs.Tuners.{takeOf, forceOf, layoutNumber, freshNumbers, silentTuner, afterBlock, withNumbers, withKeys, withSettings, withBytes}
-use Rattle.oneaccount.specs.Newest.{newest, newest-length, newest-sound, keeping-newest, newest-right, zeros-newest, kept-newest}
-
--- the tuner t with the lead of a course: the stores hold the newest samples, the sums are taken directly, and nothing in it knows of blocks; last block, list, voices and outputs are t's
-unfoldable pub leadAfter : Course → Tuner → Tuner
-leadAfter c t =
-    let n = t .numbers in
-    let u = c .take in
-    record {
-      numbers =
-          record {
-            layout = layoutNumber;
-            settings = c .settings;
-            hertz = c .hertz;
-            keyboard = c .keyboard;
-            count = u .count;
-            pitch = keptOf (u .pitch) (u .sound);
-            behind = natAbs (inputAt (u .count) -ℤ u .position);
-            last = n .last;
-            listed = n .listed;
-            chosen = n .chosen;
-            list = n .list;
-            voices = n .voices;
-          };
-      energies = energiesOf (u .eighths) 2 eighthLags;
-      correlations = correlationsOf (u .eighths) 2 eighthLags;
-      heard = newest keptSamples (u .sound);
-      eighths = newest keptEighths (u .eighths);
-      outs = t .outs;
-    }
+use Rattle.oneaccount.specs.Cutting.{newest, leadAfter}
+use Rattle.oneaccount.specs.Newest.{newest-length, newest-sound, keeping-newest, newest-right, zeros-newest, kept-newest}
 
 -- ---- a fresh tuner
 module _ (hertz : ℕ) (s : Settings) (listed chosen : ℕ) (vs : List Voice) where

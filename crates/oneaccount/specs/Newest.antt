@@ -5,7 +5,6 @@ use Prim.Native.Nat.{ℕ, _+_, _-_, _*_, _≤_}
 use native.Mathlib.Omega.{arith}
 use lib.IntN.{ℤ, pos}
 use lib.ListN.{length, replicate, length-replicate, getD-replicate}
-use Rattle.whole.specs.Numbers.{listOf}
 use Rattle.whole.specs.Lists.{length-listOf, getD-listOf, is-listOf}
 use Rattle.rules.specs.Rules.{Sound, silence, heardAll, Mode, searching, tracking, Pitch, keptSamples}
 use Rattle.rules.specs.Facts.{ModeIn, PitchIn, valueAt, Right, energiesOf, correlationsOf, keeping}
@@ -14,11 +13,8 @@ use Rattle.rules.specs.Local.{SameNewest}
 use Rattle.pitch.specs.Pitches.{trackingOf, trackerOf, keptOf}
 use Rattle.pitch.specs.Keeping.{right-energies, right-correlations, listed-right}
 use Rattle.record.specs.Records.{soundOf}
+use Rattle.oneaccount.specs.Cutting.{newest}
 use Rattle.tuner.specs.Taking.{keeping-length, sound-at, kept-age, right-alike}
-
--- the newest n samples of a sound, the oldest of them first
-abbrev pub newest : ℕ → Sound → List ℤ
-newest n x = listOf (λ (k : ℕ). x (n - 1 - k)) n
 
 pub newest-length : (n : ℕ) (x : Sound) → length (newest n x) ≡ n
 newest-length n x = length-listOf (λ (k : ℕ). x (n - 1 - k)) n
