@@ -1,0 +1,199 @@
+-- The account: what holds of the tuner after any series of calls, nights among them. Definitions only, and three statements (`Theorem`, `SentAgain`, `NeverNine`); their proofs are `holds` in Holds.antt, `again-holds` and `never-nine` in Calls.antt.
+use mathlib.Core.Path.{_≡_}
+use mathlib.Core.Bool.{cond}
+use mathlib.Core.List.{List, [], _∷_, _++_, map}
+use Prim.Native.Nat.{ℕ, _+_, _<_}
+use lib.Dec.{eqb}
+use lib.IntN.{ℤ, pos, _+ℤ_, _-ℤ_}
+use lib.ListN.{length, take, drop}
+use Rattle.rules.specs.declared.Settings.{Settings}
+use Rattle.rules.specs.Rules.{Sound, silence, heardAll, Given, cycles, defaults, cdRate, after, allRepeated, allDropped, eighthLags}
+use Rattle.rules.specs.Facts.{InBounds, Right}
+use Rattle.history.specs.History.{Event, sample, new-settings, byte, Course, freshCourse, courseAfter, givenBy, samplesIn, ratesUsed, totalOf}
+use Rattle.reports.specs.declared.Figures.{Figures}
+use Rattle.reports.specs.Reports.{figuresOf, added, noFigures}
+use Rattle.singers.specs.Singers.{keptInterval}
+use Rattle.meters.specs.declared.Meter.{Meter}
+use Rattle.tuner.specs.Tuners.{made}
+use Rattle.one.specs.declared.Voice.{Voice}
+use Rattle.one.specs.declared.Tuner.{Tuner}
+use Rattle.one.specs.declared.Answer.{Answer}
+use Rattle.one.specs.Tuners.{takeOf, forceOf, Good, defaultTuner, keptList, keptOuts, Roomy, Took, Started, Changed, Keyed, Reset, Metered}
+use Rattle.onenight.specs.declared.NightAnswer.{NightAnswer}
+use Rattle.onenight.specs.Night.{Nighted}
+
+-- ---- the history
+
+-- a call with what was lent to it, what it answered, and what it left of outputs and store. The start with the defaults is a start like any other
+pub data Call : Type 0 where
+  start : (hertz : ℕ) → Settings → (listed : ℕ) → (intervals : List ℤ) → (store : List ℕ) → (number : ℕ) → Call
+  change : Settings → (number : ℕ) → Call
+  block : ℕ → List ℤ → List (List ℤ) → List ℕ → Answer → List (List ℤ) → List ℕ → Call
+  night : (k size : ℕ) → List ℤ → List (List ℤ) → List ℕ → NightAnswer → List (List ℤ) → List ℕ → Call
+  midi : List ℕ → (number : ℕ) → Call
+  reset : (store : List ℕ) → (number : ℕ) → Call
+  meter : Meter → Call
+
+-- the call to the tuner t keeps its promise and leaves t′; a start asks nothing of t, and the meter leaves it
+pub data Leaves (t : Tuner) : Call → Tuner → Type 0 where
+  by-start : {hertz : ℕ} {s : Settings} {listed : ℕ} {zs : List ℤ} {store : List ℕ} {v : ℕ} {t′ : Tuner} → Started hertz s listed zs store t′ v → Leaves t (start hertz s listed zs store v) t′
+  by-change : {s : Settings} {v : ℕ} {t′ : Tuner} → Changed t s t′ v → Leaves t (change s v) t′
+  by-block : {k : ℕ} {xs : List ℤ} {os os′ : List (List ℤ)} {store store′ : List ℕ} {a : Answer} {t′ : Tuner} → Took t k xs os store t′ a os′ store′ → Leaves t (block k xs os store a os′ store′) t′
+  by-night : {k size : ℕ} {xs : List ℤ} {os os′ : List (List ℤ)} {store store′ : List ℕ} {a : NightAnswer} {t′ : Tuner} → Nighted t k size xs os store t′ a os′ store′ → Leaves t (night k size xs os store a os′ store′) t′
+  by-midi : {bytes : List ℕ} {v : ℕ} {t′ : Tuner} → Keyed t bytes t′ v → Leaves t (midi bytes v) t′
+  by-reset : {store : List ℕ} {v : ℕ} {t′ : Tuner} → Reset t store t′ v → Leaves t (reset store v) t′
+  by-meter : {m : Meter} → Metered t m → Leaves t (meter m) t
+
+-- any calls one after the other, the newest first, from a fresh start on
+pub data Series : List Call → Tuner → Type 0 where
+  fresh-start : Series [] defaultTuner
+  and-then : {cs : List Call} {c : Call} {t t′ : Tuner} → Series cs t → Leaves t c t′ → Series (c ∷ cs) t′
+
+-- since the last start or reset: the sample rate and the settings with which the take began, whether a list is kept, and the voices chosen; what happened in it; and what the answers count, added up
+pub record Received : Type 0 where
+  pub hertz : ℕ
+  pub settings : Settings
+  pub listed : ℕ
+  pub intervals : List ℕ
+  pub events : List Event
+  pub figures : Figures
+
+-- nothing was received yet
+abbrev pub begun : ℕ → Settings → ℕ → List ℕ → Received
+begun hertz s listed is = record { hertz = hertz; settings = s; listed = listed; intervals = is; events = []; figures = noFigures }
+
+-- how far the take has come by it
+abbrev pub courseOf : Received → Course
+courseOf r = courseAfter (freshCourse (r .hertz) (r .settings)) (r .events)
+
+-- more has happened
+abbrev pub withEvents : Received → List Event → Received
+withEvents r es = record { hertz = r .hertz; settings = r .settings; listed = r .listed; intervals = r .intervals; events = r .events ++ es; figures = r .figures }
+
+-- samples that were taken: of a recording n from a place on, and what was counted
+abbrev pub withSamples : Received → (from n : ℕ) → List ℤ → Figures → Received
+withSamples r from n xs f =
+    record {
+      hertz = r .hertz;
+      settings = r .settings;
+      listed = r .listed;
+      intervals = r .intervals;
+      events = r .events ++ map sample (take n (drop from xs));
+      figures = added (r .figures) f;
+    }
+
+-- what the answers to a block and to a night count
+abbrev pub countedBy : Answer → Figures
+countedBy a = record { samples = a .written; pitched = a .pitched; repeated = a .repeated; dropped = a .dropped; sum = a .strayed }
+
+abbrev pub countedIn : NightAnswer → Figures
+countedIn a = record { samples = a .written; pitched = a .pitched; repeated = a .repeated; dropped = a .dropped; sum = a .strayed }
+
+-- what is taken is received once: a call that is refused, and a block given again, add nothing
+abbrev pub ifTaken : (number : ℕ) → Received → Received → Received
+ifTaken v r′ r = cond (eqb v 0) r′ r
+
+-- what one call adds; a start or a reset begins the account again, a refused start with the default tuner's. Of a night a first block that was given again adds nothing
+unfoldable pub plus : Call → Received → Received
+plus (start hertz s listed zs store v) r = ifTaken v (begun hertz s (keptList listed) (map keptInterval zs)) (begun cdRate defaults 0 [])
+plus (change s v) r = ifTaken v (withEvents r (new-settings s ∷ [])) r
+plus (block k xs os store a os′ store′) r = ifTaken (a .number) (withSamples r 0 (a .written) xs (countedBy a)) r
+plus (night k size xs os store a os′ store′) r = withSamples r (a .again .written) (a .written) xs (countedIn a)
+plus (midi bytes v) r = ifTaken v (withEvents r (map byte bytes)) r
+plus (reset store v) r = ifTaken v (begun (r .hertz) (courseOf r .settings) (r .listed) (r .intervals)) r
+plus (meter m) r = r
+
+unfoldable pub received : List Call → Received
+received [] = begun cdRate defaults 0 []
+received (c ∷ cs) = plus c (received cs)
+
+-- what the rules give for each sample received
+abbrev pub givenOf : Received → List Given
+givenOf r = givenBy (freshCourse (r .hertz) (r .settings)) (r .events)
+
+-- all samples received; their sound, and that of the eighth-rate samples made of them: 0 before the first
+abbrev pub samplesOf : Received → List ℤ
+samplesOf r = samplesIn (r .events)
+
+abbrev pub heardOf : Received → Sound
+heardOf r = heardAll silence (samplesOf r)
+
+abbrev pub eighthsOf : Received → Sound
+eighthsOf r = heardAll silence (made 0 silence (samplesOf r))
+
+-- ---- what holds
+
+-- the account of the tuner t over what was received
+pub record Accounted (r : Received) (t : Tuner) : Type 0 where
+  -- the record is good, so no call is answered 9; settings, sample rate, keyboard, whether a list is kept and the voices are what the calls made them; each sample is counted once
+  pub good : Good t
+  pub settings : t .numbers .settings ≡ courseOf r .settings
+  pub hertz : t .numbers .hertz ≡ r .hertz
+  pub keyboard : t .numbers .keyboard ≡ courseOf r .keyboard
+  pub listed : t .numbers .listed ≡ r .listed
+  pub intervals : map (λ (v : Voice). v .interval) (take (t .numbers .chosen) (t .numbers .voices)) ≡ r .intervals
+  pub count : t .numbers .count ≡ length (samplesOf r)
+  -- sums: those at eighth rate and, while tracking, the eight at full rate are the direct sums over all that was received
+  pub sums : Right (eighthsOf r) 2 eighthLags (t .energies) (t .correlations)
+  pub lags : t .numbers .pitch .tracking ≡ 1 → Right (heardOf r) (t .numbers .pitch .tracker .low) 8 (t .numbers .pitch .tracker .e) (t .numbers .pitch .tracker .h)
+  -- position: all rates used, minus the period of every cycle repeated, plus the period of every cycle dropped
+  pub position : let gs = givenOf r in takeOf t .position ≡ pos (totalOf (ratesUsed gs)) -ℤ pos (cycles (allRepeated gs)) +ℤ pos (cycles (allDropped gs))
+  -- what was answered adds up to what the report counts of all that was received: its samples, those with a period, the cycles repeated and dropped, and the sum of the rates' distances from 65536
+  pub figures : r .figures ≡ figuresOf (givenOf r)
+  -- never ahead of the input nor over 1,000 samples behind: now, and after any beginning xs of the block that comes next
+  pub bounds : InBounds (t .numbers .count) (takeOf t .position)
+  pub within : (xs : List ℤ) → InBounds (length (samplesOf r) + length xs) (after (forceOf t) (courseOf r .take) xs .position)
+
+-- after any series of calls
+abbrev pub Theorem : Type 0
+Theorem = (cs : List Call) (t : Tuner) → Series cs t → Accounted (received cs) t
+
+-- ---- a block sent again
+
+-- a call that neither takes a block nor begins anew: settings changed or refused, keyboard bytes, a block refused or given again, a night that took none, a reset refused, the meter read
+unfoldable pub TakesNone : Call → Type 0
+TakesNone (start hertz s listed zs store v) = ⊥
+TakesNone (change s v) = Unit
+TakesNone (block k xs os store a os′ store′) = 0 < a .number
+TakesNone (night k size xs os store a os′ store′) = a .taken ≡ 0
+TakesNone (midi bytes v) = Unit
+TakesNone (reset store v) = 0 < v
+TakesNone (meter m) = Unit
+
+-- any such calls one after the other
+pub data Meanwhile (u : Tuner) : Tuner → Type 0 where
+  nothing : Meanwhile u u
+  and-meanwhile : {c : Call} {w w′ : Tuner} → Meanwhile u w → Leaves w c w′ → TakesNone c → Meanwhile u w′
+
+-- the same answer, but for its number: given again
+abbrev pub again : Answer → Answer
+again a = record { number = 1; written = a .written; repeated = a .repeated; dropped = a .dropped; pitched = a .pitched; strayed = a .strayed; rows = a .rows; left = a .left }
+
+-- a block of n samples answered a was given again: 1, with the same counts and figures and the same list; tuner and store as they were; and the same samples out of the lead and each chosen voice
+pub record GivenAgain (n : ℕ) (w w′ : Tuner) (a b : Answer) (ps qs : List (List ℤ)) (store store′ : List ℕ) : Type 0 where
+  pub answer : b ≡ again a
+  pub unchanged : w′ ≡ w
+  pub rows : store′ ≡ store
+  pub samples : let many = 1 + w .numbers .chosen in map (take n) (take many qs) ≡ map (take n) (take many ps)
+
+-- after any series of calls: a block taken, and sent again with room for its samples and only such calls between, gives the same again and changes nothing
+abbrev pub SentAgain : Type 0
+SentAgain =
+    (cs : List Call) (t u w w′ : Tuner) (k : ℕ) (xs : List ℤ) (os ps os₂ qs : List (List ℤ)) (store store₁ store₂ store₃ : List ℕ) (a b : Answer)
+    → Series cs t → Took t k xs os store u a ps store₁ → a .number ≡ 0 → Meanwhile u w → Roomy (length xs) (keptOuts w) os₂ → Took w k xs os₂ store₂ w′ b qs store₃ → GivenAgain (length xs) w w′ a b ps qs store₂ store₃
+
+-- ---- never 9
+
+-- the call is not answered 9, and a meter not refused
+unfoldable pub NotNine : Call → Type 0
+NotNine (start hertz s listed zs store v) = v ≡ 9 → ⊥
+NotNine (change s v) = v ≡ 9 → ⊥
+NotNine (block k xs os store a os′ store′) = a .number ≡ 9 → ⊥
+NotNine (night k size xs os store a os′ store′) = a .number ≡ 9 → ⊥
+NotNine (midi bytes v) = v ≡ 9 → ⊥
+NotNine (reset store v) = v ≡ 9 → ⊥
+NotNine (meter m) = m ≡ Meter.Refused → ⊥
+
+-- no tuner reached from a start by calls is ever answered 9
+abbrev pub NeverNine : Type 0
+NeverNine = (cs : List Call) (t t′ : Tuner) (c : Call) → Series cs t → Leaves t c t′ → NotNine c

@@ -1,0 +1,79 @@
+-- The cutting of a take does not matter, nor do the voices beside it: but for its last block, the lead of a tuner is what happened in its take. Definitions only, and two statements (`LeadTheorem`, `CuttingTheorem`); their proofs are `lead-holds` and `cutting-holds` in Holds.antt.
+use mathlib.Core.Path.{_≡_}
+use mathlib.Core.List.{List}
+use Prim.Native.Nat.{ℕ, _-_}
+use lib.IntN.{ℤ, natAbs, _-ℤ_}
+use Rattle.whole.specs.Numbers.{listOf}
+use Rattle.rules.specs.Rules.{Sound, inputAt, keptSamples, keptEighths, eighthLags}
+use Rattle.rules.specs.Facts.{energiesOf, correlationsOf}
+use Rattle.history.specs.History.{Course}
+use Rattle.pitch.specs.Pitches.{keptOf}
+use Rattle.meters.specs.declared.Meter.{Meter}
+use Rattle.one.specs.declared.Tuner.{Tuner}
+use Rattle.one.specs.Tuners.{layoutNumber, Metered}
+use Rattle.oneaccount.specs.Account.{Call, Series, Received, courseOf, received}
+
+-- ---- what a tuner is, by what happened in its take
+
+-- the newest n samples of a sound, the oldest of them first
+abbrev pub newest : ℕ → Sound → List ℤ
+newest n x = listOf (λ (k : ℕ). x (n - 1 - k)) n
+
+-- the tuner t with the lead of a course: the stores hold the newest samples, the sums are taken directly, and nothing in it knows of blocks; last block, list, voices and outputs are t's
+unfoldable pub leadAfter : Course → Tuner → Tuner
+leadAfter c t =
+    let n = t .numbers in
+    let u = c .take in
+    record {
+      numbers =
+          record {
+            layout = layoutNumber;
+            settings = c .settings;
+            hertz = c .hertz;
+            keyboard = c .keyboard;
+            count = u .count;
+            pitch = keptOf (u .pitch) (u .sound);
+            behind = natAbs (inputAt (u .count) -ℤ u .position);
+            last = n .last;
+            listed = n .listed;
+            chosen = n .chosen;
+            list = n .list;
+            voices = n .voices;
+          };
+      energies = energiesOf (u .eighths) 2 eighthLags;
+      correlations = correlationsOf (u .eighths) 2 eighthLags;
+      heard = newest keptSamples (u .sound);
+      eighths = newest keptEighths (u .eighths);
+      outs = t .outs;
+    }
+
+-- after any series of calls the lead is the one that what happened makes, whatever list, voices and last block are beside it
+abbrev pub LeadTheorem : Type 0
+LeadTheorem = (cs : List Call) (t : Tuner) → Series cs t → t ≡ leadAfter (courseOf (received cs)) t
+
+-- ---- two series of calls, cut in two ways
+
+-- the same take was received: it began with equal settings at one sample rate, and the same happened in it: the same samples, with changes of settings and keyboard bytes after the same sample and in the same order. List and voices may differ
+pub record SameTake (r r′ : Received) : Type 0 where
+  pub hertz : r .hertz ≡ r′ .hertz
+  pub settings : r .settings ≡ r′ .settings
+  pub events : r .events ≡ r′ .events
+
+-- the same was given: all that was counted, every reading of the meter, and every part of the record but the last block, the list, the voices and the kept outputs
+pub record Alike (r r′ : Received) (t t′ : Tuner) : Type 0 where
+  pub figures : r .figures ≡ r′ .figures
+  pub meter : {m m′ : Meter} → Metered t m → Metered t′ m′ → m ≡ m′
+  pub settings : t .numbers .settings ≡ t′ .numbers .settings
+  pub hertz : t .numbers .hertz ≡ t′ .numbers .hertz
+  pub keyboard : t .numbers .keyboard ≡ t′ .numbers .keyboard
+  pub count : t .numbers .count ≡ t′ .numbers .count
+  pub pitch : t .numbers .pitch ≡ t′ .numbers .pitch
+  pub behind : t .numbers .behind ≡ t′ .numbers .behind
+  pub energies : t .energies ≡ t′ .energies
+  pub correlations : t .correlations ≡ t′ .correlations
+  pub heard : t .heard ≡ t′ .heard
+  pub eighths : t .eighths ≡ t′ .eighths
+
+-- any two series of calls that received the same take: in blocks of whatever legal lengths and in nights, with keyboard bytes in whatever calls, repeats, refused calls and readings of the meter anywhere among them, and whatever voices and list there were
+abbrev pub CuttingTheorem : Type 0
+CuttingTheorem = (cs cs′ : List Call) (t t′ : Tuner) → Series cs t → Series cs′ t′ → SameTake (received cs) (received cs′) → Alike (received cs) (received cs′) t t′

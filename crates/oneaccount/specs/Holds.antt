@@ -1,0 +1,125 @@
+-- The proofs of the account, and that the cutting of a take does not matter: after any calls the lead is that of what happened in its take (`Keeps`), and the account is read off it.
+use mathlib.Core.Path.{_≡_, refl, sym, ap, _∙_, subst}
+use mathlib.Core.List.{List, [], _∷_}
+use Prim.Native.Nat.{ℕ, _+_}
+use native.Mathlib.Nat.{zero-add}
+use lib.ListN.{length}
+use Rattle.rules.specs.Rules.{Sound, heardAll, freshTake, stepped, after, eighthLags}
+use Rattle.rules.specs.Facts.{InBounds, Right, energiesOf, correlationsOf}
+use Rattle.rules.specs.Sane.{always-in-bounds}
+use Rattle.history.specs.History.{Event, sample, new-settings, byte, Course, freshCourse, forceAt, happened, courseAfter, givenBy, samplesIn}
+use Rattle.history.specs.Courses.{course-hertz, course-count, course-sound, course-force}
+use Rattle.history.specs.Accounts.{account}
+use Rattle.pitch.specs.Pitches.{PitchRight, keptOf}
+use Rattle.pitch.specs.Keeping.{listed-right, kept-right}
+use Rattle.meters.specs.declared.Meter.{Meter}
+use Rattle.meters.specs.Meters.{shownOf}
+use Rattle.reports.specs.Reports.{figuresOf}
+use Rattle.tuner.specs.Tuners.{made}
+use Rattle.tuner.specs.Taking.{eighths-next}
+use Rattle.one.specs.declared.Tuner.{Tuner}
+use Rattle.one.specs.Tuners.{takeOf, Good, Metered, record-out-of-range, read}
+use Rattle.onestaying.specs.Staying.{good-sane}
+use Rattle.oneaccount.specs.Account.{Received, courseOf, heardOf, eighthsOf, Accounted, Theorem}
+use Rattle.oneaccount.specs.Cutting.{leadAfter, LeadTheorem, SameTake, Alike, CuttingTheorem}
+use Rattle.oneaccount.specs.Following.{lead-agree}
+use Rattle.oneaccount.specs.Keeps.{Keeps, course-right, series-keeps}
+
+pub lead-holds : LeadTheorem
+lead-holds cs t h = series-keeps h .is
+
+-- ---- the account of what is kept
+
+-- the eighth-rate samples of a course are those of its samples
+eighths-from : (c : Course) (es : List Event) → courseAfter c es .take .eighths ≡ heardAll (c .take .eighths) (made (c .take .count) (c .take .sound) (samplesIn es))
+unfolding courseAfter happened samplesIn stepped made heardAll
+eighths-from c [] = refl
+eighths-from c (sample x ∷ es) = eighths-from (happened c (sample x)) es ∙ eighths-next (c .take .count) (c .take .sound) (c .take .eighths) x (samplesIn es)
+eighths-from c (new-settings s ∷ es) = eighths-from (happened c (new-settings s)) es
+eighths-from c (byte b ∷ es) = eighths-from (happened c (byte b)) es
+
+module _ {r : Received} {t : Tuner} (k : Keeps r t) where
+  abbrev start : Course
+  start = freshCourse (r .hertz) (r .settings)
+
+  eighths-are : courseOf r .take .eighths ≡ eighthsOf r
+  unfolding freshTake
+  eighths-are = eighths-from start (r .events)
+
+  sound-is : courseOf r .take .sound ≡ heardOf r
+  unfolding freshTake
+  sound-is = course-sound start (r .events)
+
+  count-is : courseOf r .take .count ≡ length (samplesIn (r .events))
+  unfolding freshTake
+  count-is = course-count start (r .events) ∙ zero-add _
+
+  -- of the lead of what happened
+  course-accounted : Good (leadAfter (courseOf r) t) → Accounted r (leadAfter (courseOf r) t)
+  unfolding leadAfter takeOf
+  course-accounted good =
+      let c = courseOf r in
+      let right = course-right k in
+      let pitch : PitchRight (heardOf r) (keptOf (c .take .pitch) (c .take .sound)) =
+      subst (λ (x : Sound). PitchRight x (keptOf (c .take .pitch) (c .take .sound))) sound-is (kept-right (c .take .pitch) (c .take .sound) (right .take .pitch)) in
+      record {
+        good = good;
+        settings = refl;
+        hertz = course-hertz start (r .events);
+        keyboard = refl;
+        listed = k .listed;
+        intervals = k .intervals;
+        count = count-is;
+        sums =
+            subst (λ (x : Sound). Right x 2 eighthLags (energiesOf (c .take .eighths) 2 eighthLags) (correlationsOf (c .take .eighths) 2 eighthLags)) eighths-are
+            (listed-right (c .take .eighths) 2 eighthLags);
+        lags = λ e. pitch .sums e;
+        position = sym (lead-agree right t .position) ∙ account (r .hertz) (r .settings) (r .events);
+        figures = k .figures;
+        bounds = good-sane good .bounds;
+        within = λ xs. subst (λ (m : ℕ). InBounds (m + length xs) (after (forceAt c) (c .take) xs .position)) count-is (always-in-bounds (course-force right) (right .take) xs);
+      }
+
+  kept-accounted : Accounted r t
+  kept-accounted = subst (Accounted r) (sym (k .is)) (course-accounted (subst Good (k .is) (k .stays .0)))
+
+pub holds : Theorem
+holds cs t h = kept-accounted (series-keeps h)
+
+-- ---- the cutting does not matter
+
+-- a good tuner's meter shows what its sample rate and pitch make of it
+meter-shows : {t : Tuner} {m : Meter} → Good t → Metered t m → m ≡ shownOf (t .numbers .hertz) (t .numbers .pitch)
+meter-shows g (record-out-of-range n e) = absurd (n g)
+meter-shows g (read h e x) = e
+
+module _ {r r′ : Received} {t t′ : Tuner} (k : Keeps r t) (k′ : Keeps r′ t′) (same : SameTake r r′) where
+  course-same : courseOf r ≡ courseOf r′
+  course-same i = courseAfter (freshCourse (same .hertz i) (same .settings i)) (same .events i)
+
+  -- a part that is the course's is the same
+  part-same : {A : Type 0} (part : Tuner → A) → part (leadAfter (courseOf r′) t) ≡ part (leadAfter (courseOf r′) t′) → part t ≡ part t′
+  part-same part e = ap part (k .is) ∙ ap (λ (c : Course). part (leadAfter c t)) course-same ∙ e ∙ sym (ap part (k′ .is))
+
+  take-alike : Alike r r′ t t′
+  unfolding leadAfter
+  take-alike =
+      let hertz : t .numbers .hertz ≡ t′ .numbers .hertz = part-same (λ (u : Tuner). u .numbers .hertz) refl in
+      let pitch = part-same (λ (u : Tuner). u .numbers .pitch) refl in
+      record {
+        figures = k .figures ∙ (λ i. figuresOf (givenBy (freshCourse (same .hertz i) (same .settings i)) (same .events i))) ∙ sym (k′ .figures);
+        meter = λ p p′. meter-shows (k .stays .0) p ∙ (λ i. shownOf (hertz i) (pitch i)) ∙ sym (meter-shows (k′ .stays .0) p′);
+        settings = part-same (λ (u : Tuner). u .numbers .settings) refl;
+        hertz = hertz;
+        keyboard = part-same (λ (u : Tuner). u .numbers .keyboard) refl;
+        count = part-same (λ (u : Tuner). u .numbers .count) refl;
+        pitch = pitch;
+        behind = part-same (λ (u : Tuner). u .numbers .behind) refl;
+        energies = part-same (λ (u : Tuner). u .energies) refl;
+        correlations = part-same (λ (u : Tuner). u .correlations) refl;
+        heard = part-same (λ (u : Tuner). u .heard) refl;
+        eighths = part-same (λ (u : Tuner). u .eighths) refl;
+      }
+
+pub cutting-holds : CuttingTheorem
+cutting-holds cs cs′ t t′ h h′ same = take-alike (series-keeps h) (series-keeps h′) same

@@ -1,0 +1,402 @@
+-- After any calls the lead of a tuner is that of what happened in its take, and what the answers count adds up to what the rules give (`Keeps`).
+-- A night is its single calls: a first block that is given again adds nothing, and behind it none is given again, since its number is not the last one's.
+use mathlib.Core.Path.{_≡_, refl, sym, ap, _∙_, subst}
+use mathlib.Core.List.{List, [], _∷_, _++_, append-nil, append-assoc, map, flatten}
+use Prim.Native.Nat.{ℕ, zero, suc, _+_, _≤_, _<_}
+use native.Mathlib.Nat.{add-zero, zero-add, add-assoc}
+use native.Mathlib.Omega.{arith}
+use borrow.Author.Tests.{eqb-true, eqb-false}
+use lib.Dec.{eqb}
+use lib.IntN.{ℤ}
+use lib.ListN.{length, take, drop, length-drop, take-append-drop}
+use lib.Seq.{take-append-add, drop-append-seam}
+use Rattle.whole.specs.Tests.{by, cond-case, cond-yes, cond-no}
+use Rattle.rules.specs.declared.Settings.{Settings}
+use Rattle.rules.specs.Rules.{gives, defaults, cdRate}
+use Rattle.rules.specs.Ranges.{unrefused-start, default-start}
+use Rattle.rules.specs.Facts.{InRange, SampleRate}
+use Rattle.rules.specs.Blocks.{given-length}
+use Rattle.history.specs.History.{Event, sample, new-settings, byte, Course, freshCourse, courseAfter, givenBy}
+use Rattle.history.specs.Courses.{courseAfter-append, givenBy-append, given-bytes, course-hertz, CourseIn, EventsIn, fresh-course-in, course-in, events-in-append, samples-in, bytes-in}
+use Rattle.reports.specs.declared.Figures.{Figures}
+use Rattle.reports.specs.Reports.{figuresOf, added, noFigures}
+use Rattle.reports.specs.Counting.{figures-append, figures-none}
+use Rattle.singers.specs.Singers.{keptInterval}
+use Rattle.singers.specs.Voicing.{number-says}
+use Rattle.one.specs.declared.Voice.{Voice}
+use Rattle.one.specs.declared.Tuner.{Tuner}
+use Rattle.one.specs.declared.Answer.{Answer}
+use Rattle.one.specs.Tuners.{takeOf, forceOf, levelVoice, chosenVoices, freshNumbers, silentTuner, freshTuner, defaultTuner, afterBlock, IsLast, Verdict, record-out-of-range, block-empty, block-over-512, output-short, number-neither, other-samples, given-again, take-full, taken, counted, Took, keptList, Started, Done, withNumbers, withKeys, withSettings, withBytes, begunAgain, Changed, Keyed, Reset}
+use Rattle.onestaying.specs.Staying.{Stays, default-stays, begin-says, own-number, took-stays, changed-stays, keyed-stays, started-stays, begun-stays, took-number, took-keeps, took-taken, untaken-unchanged}
+use Rattle.onenight.specs.declared.NightAnswer.{NightAnswer}
+use Rattle.onenight.specs.Night as Night
+use Rattle.onenight.specs.Night.{firstStretches, numberAfter, OneByOne, all-done, and-on, refused, addedBy, Untouched, Nighted}
+use Rattle.oneaccount.specs.Account.{Call, Leaves, by-start, by-change, by-block, by-night, by-midi, by-reset, by-meter, Series, fresh-start, and-then, Received, begun, courseOf, givenOf, withEvents, withSamples, countedBy, countedIn, ifTaken, plus, received}
+use Rattle.oneaccount.specs.Cutting.{leadAfter}
+use Rattle.oneaccount.specs.Following.{fresh-after, block-gives, block-after, change-after, bytes-after}
+
+-- ---- what each call keeps
+
+-- the intervals of the voices that are chosen
+abbrev pub chosenOf : Tuner → List ℕ
+chosenOf t = map (λ (v : Voice). v .interval) (take (t .numbers .chosen) (t .numbers .voices))
+
+pub record Keeps (r : Received) (t : Tuner) : Type 0 where
+  pub stays : Stays t
+  pub began : CourseIn (freshCourse (r .hertz) (r .settings))
+  pub ranges : EventsIn (r .events)
+  pub is : t ≡ leadAfter (courseOf r) t
+  pub listed : t .numbers .listed ≡ r .listed
+  pub intervals : chosenOf t ≡ r .intervals
+  pub figures : r .figures ≡ figuresOf (givenOf r)
+
+-- ---- a fresh tuner
+silent-keeps : (hertz : ℕ) (s : Settings) (listed chosen : ℕ) (vs : List Voice) (is : List ℕ) → SampleRate hertz → InRange s → Stays (silentTuner (freshNumbers hertz s listed chosen vs))
+    → map (λ (v : Voice). v .interval) (take chosen vs) ≡ is → Keeps (begun hertz s listed is) (silentTuner (freshNumbers hertz s listed chosen vs))
+unfolding silentTuner freshNumbers courseAfter givenBy
+silent-keeps hertz s listed chosen vs is rate e g same =
+    record { stays = g; began = fresh-course-in rate e; ranges = tt; is = fresh-after hertz s listed chosen vs; listed = refl; intervals = same; figures = sym figures-none }
+
+chosen-intervals : (zs : List ℤ) → length zs ≤ 3 → map (λ (v : Voice). v .interval) (take (length zs) (chosenVoices zs)) ≡ map keptInterval zs
+unfolding chosenVoices
+chosen-intervals [] h = refl
+chosen-intervals (a ∷ []) h = refl
+chosen-intervals (a ∷ b ∷ []) h = refl
+chosen-intervals (a ∷ b ∷ c ∷ []) h = refl
+chosen-intervals (a ∷ b ∷ c ∷ d ∷ zs) h = absurd (omega arith)
+
+default-keeps : Keeps (begun cdRate defaults 0 []) defaultTuner
+default-keeps = let r = unrefused-start defaults default-start in silent-keeps cdRate defaults 0 0 (chosenVoices []) [] (r .0) (r .1) default-stays refl
+
+start-keeps : {hertz : ℕ} {s : Settings} {listed : ℕ} {zs : List ℤ} {store : List ℕ} {t′ : Tuner} {v : ℕ}
+    → Started hertz s listed zs store t′ v → Keeps (ifTaken v (begun hertz s (keptList listed) (map keptInterval zs)) (begun cdRate defaults 0 [])) t′
+start-keeps {hertz} {s} {listed} {zs} {store} {t′} {v} p =
+    by (eqb v 0)
+    (λ e. let q = begin-says hertz s listed zs (length store) (sym (p .number) ∙ eqb-true v 0 e) in
+    let r = unrefused-start s (q .0) in
+    let is : t′ ≡ freshTuner hertz s (keptList listed) zs = p .tuner ∙ cond-yes (freshTuner hertz s (keptList listed) zs) defaultTuner e in
+    rw e
+    (subst (λ (u : Tuner). Keeps (begun hertz s (keptList listed) (map keptInterval zs)) u) (sym is)
+    (silent-keeps hertz s (keptList listed) (length zs) (chosenVoices zs) (map keptInterval zs) (r .0) (r .1) (subst Stays is (started-stays p)) (chosen-intervals zs (number-says zs (q .1) .1)))))
+    (λ e. rw e (subst (λ (u : Tuner). Keeps (begun cdRate defaults 0 []) u) (sym (p .tuner ∙ cond-no (freshTuner hertz s (keptList listed) zs) defaultTuner e)) default-keeps))
+
+-- ---- more has happened, and more was counted
+abbrev more : Received → List Event → Figures → Received
+more r es f = record { hertz = r .hertz; settings = r .settings; listed = r .listed; intervals = r .intervals; events = r .events ++ es; figures = added (r .figures) f }
+
+-- nothing counted
+added-none : (f : Figures) → added f noFigures ≡ f
+unfolding added
+added-none f = λ i. record { samples = add-zero (f .samples) i; pitched = add-zero (f .pitched) i; repeated = add-zero (f .repeated) i; dropped = add-zero (f .dropped) i; sum = add-zero (f .sum) i }
+
+none-added : (f : Figures) → added noFigures f ≡ f
+unfolding added
+none-added f = λ i. record { samples = zero-add (f .samples) i; pitched = zero-add (f .pitched) i; repeated = zero-add (f .repeated) i; dropped = zero-add (f .dropped) i; sum = zero-add (f .sum) i }
+
+added-assoc : (f g h : Figures) → added (added f g) h ≡ added f (added g h)
+unfolding added
+added-assoc f g h =
+    λ i. record {
+      samples = add-assoc (f .samples) (g .samples) (h .samples) i;
+      pitched = add-assoc (f .pitched) (g .pitched) (h .pitched) i;
+      repeated = add-assoc (f .repeated) (g .repeated) (h .repeated) i;
+      dropped = add-assoc (f .dropped) (g .dropped) (h .dropped) i;
+      sum = add-assoc (f .sum) (g .sum) (h .sum) i;
+    }
+
+more-none : (r : Received) → more r [] noFigures ≡ r
+more-none r = λ i. record { hertz = r .hertz; settings = r .settings; listed = r .listed; intervals = r .intervals; events = append-nil (r .events) i; figures = added-none (r .figures) i }
+
+-- the lead of a tuner is its own
+along : (d : Course) {t u : Tuner} → t ≡ u → u ≡ leadAfter d u → t ≡ leadAfter d t
+along d e p = subst (λ (v : Tuner). v ≡ leadAfter d v) (sym e) p
+
+module _ {r : Received} {t : Tuner} (k : Keeps r t) where
+  pub course-right : CourseIn (courseOf r)
+  course-right = course-in (r .events) (k .began) (k .ranges)
+
+  module _ (es : List Event) (q : EventsIn es) {t′ : Tuner} (g : Stays t′) (l : t′ .numbers .listed ≡ t .numbers .listed) (v : chosenOf t′ ≡ chosenOf t) (e : t′ ≡ leadAfter (courseAfter (courseOf r) es) t′) where
+    is-more : t′ ≡ leadAfter (courseAfter (freshCourse (r .hertz) (r .settings)) (r .events ++ es)) t′
+    is-more = e ∙ ap (λ (c : Course). leadAfter c t′) (sym (courseAfter-append (freshCourse (r .hertz) (r .settings)) (r .events) es))
+
+    given-more : givenBy (freshCourse (r .hertz) (r .settings)) (r .events ++ es) ≡ givenOf r ++ givenBy (courseOf r) es
+    given-more = givenBy-append (freshCourse (r .hertz) (r .settings)) (r .events) es
+
+    more-keeps : {f : Figures} → f ≡ figuresOf (givenBy (courseOf r) es) → Keeps (more r es f) t′
+    more-keeps f =
+        record {
+          stays = g;
+          began = k .began;
+          ranges = events-in-append (r .events) es (k .ranges) q;
+          is = is-more;
+          listed = l ∙ k .listed;
+          intervals = v ∙ k .intervals;
+          figures = (λ i. added (k .figures i) (f i)) ∙ sym (ap figuresOf given-more ∙ figures-append (givenOf r) (givenBy (courseOf r) es));
+        }
+
+    -- no sample among it
+    events-keep : givenBy (courseOf r) es ≡ [] → Keeps (withEvents r es) t′
+    events-keep none =
+        subst (λ (f : Figures). Keeps (record { hertz = r .hertz; settings = r .settings; listed = r .listed; intervals = r .intervals; events = r .events ++ es; figures = f }) t′) (added-none (r .figures))
+        (more-keeps (sym (ap figuresOf none ∙ figures-none)))
+
+  -- ---- a block taken
+  beside-intervals : (f : Voice → Voice) → ((v : Voice) → f v .interval ≡ v .interval) → (n : ℕ) (vs : List Voice)
+      → map (λ (v : Voice). v .interval) (take n (map f (take n vs) ++ drop n vs)) ≡ map (λ (v : Voice). v .interval) (take n vs)
+  beside-intervals f e zero vs = refl
+  beside-intervals f e (suc n) [] = refl
+  beside-intervals f e (suc n) (v ∷ vs) = λ i. e v i ∷ beside-intervals f e n vs i
+
+  module _ {n : ℕ} {xs : List ℤ} {os os′ : List (List ℤ)} {store store′ : List ℕ} {t′ : Tuner} {a : Answer} (p : Took t n xs os store t′ a os′ store′) where
+    module _ (z : a .number ≡ 0) where
+      taken-is : t′ ≡ afterBlock t n xs store
+      taken-is = took-taken p z .0
+
+      taken-lead : t′ ≡ leadAfter (courseAfter (courseOf r) (map sample xs)) t′
+      taken-lead = along (courseAfter (courseOf r) (map sample xs)) (taken-is ∙ ap (λ (u : Tuner). afterBlock u n xs store) (k .is)) (block-after course-right t xs n store)
+
+      gives-is : gives (forceOf t) (takeOf t) xs ≡ givenBy (courseOf r) (map sample xs)
+      gives-is = ap (λ (u : Tuner). gives (forceOf u) (takeOf u) xs) (k .is) ∙ block-gives course-right t xs
+
+      counted-is : countedBy a ≡ figuresOf (givenBy (courseOf r) (map sample xs))
+      unfolding afterBlock figuresOf
+      counted-is =
+          let g = gives (forceOf t) (takeOf t) xs in
+          let f = figuresOf g in
+          ap countedBy (took-keeps p (omega arith) .0)
+          ∙ ap (λ (u : Tuner). countedBy (counted 0 (length xs) (u .numbers))) taken-is
+          ∙ (λ i. record { samples = sym (given-length (forceOf t) (takeOf t) xs) i; pitched = f .pitched; repeated = f .repeated; dropped = f .dropped; sum = f .sum })
+          ∙ ap figuresOf gives-is
+
+      pub taken-keeps : Keeps (more r (map sample xs) (countedBy a)) t′
+      unfolding afterBlock
+      taken-keeps =
+          more-keeps (map sample xs) (samples-in xs) (took-stays (k .stays .0) (k .stays .1) p) (ap (λ (u : Tuner). u .numbers .listed) taken-is)
+          (ap chosenOf taken-is ∙ beside-intervals _ (λ v. refl) (t .numbers .chosen) (t .numbers .voices)) taken-lead counted-is
+
+      taken-length : a .written ≡ length xs
+      taken-length = ap (λ (b : Answer). b .written) (took-keeps p (omega arith) .0)
+
+    untaken-keeps : 0 < a .number → Keeps r t′
+    untaken-keeps h = subst (Keeps r) (sym (untaken-unchanged p h .0)) k
+
+    block-keeps : Keeps (ifTaken (a .number) (withSamples r 0 (a .written) xs (countedBy a)) r) t′
+    block-keeps =
+        cond-case (eqb (a .number) 0) (withSamples r 0 (a .written) xs (countedBy a)) r (λ (q : Received). Keeps q t′)
+        (λ e. let z = eqb-true (a .number) 0 e in subst (λ (ys : List ℤ). Keeps (more r (map sample ys) (countedBy a)) t′) (sym (ap (λ (m : ℕ). take m xs) (taken-length z) ∙ take-all xs)) (taken-keeps z))
+        (λ e. let some = eqb-false (a .number) 0 e in untaken-keeps (omega arith))
+      where
+        take-all : (ys : List ℤ) → take (length ys) ys ≡ ys
+        take-all [] = refl
+        take-all (y ∷ ys) = ap (λ (l : List ℤ). y ∷ l) (take-all ys)
+
+  -- ---- the other calls: taken, they leave u; refused, all is as it was
+  if-taken : {own v : ℕ} {u t′ : Tuner} (r′ : Received) → Done own t u t′ v → (v ≡ 0 → t′ ≡ u → Keeps r′ t′) → Keeps (ifTaken v r′ r) t′
+  if-taken {v = v} {u} {t′} r′ p left =
+      cond-case (eqb v 0) r′ r (λ (q : Received). Keeps q t′)
+      (λ f. left (eqb-true v 0 f) (p .tuner ∙ cond-yes u t f))
+      (λ f. subst (Keeps r) (sym (p .tuner ∙ cond-no u t f)) k)
+
+  change-keeps : (s : Settings) {t′ : Tuner} {v : ℕ} → Changed t s t′ v → Keeps (ifTaken v (withEvents r (new-settings s ∷ [])) r) t′
+  unfolding givenBy withKeys
+  change-keeps s {t′} p =
+      if-taken (withEvents r (new-settings s ∷ [])) p
+      (λ z e.
+      events-keep (new-settings s ∷ []) (sym (own-number (k .stays .0) (k .stays .1) (p .number)) ∙ z, tt) (changed-stays (k .stays .0) (k .stays .1) s p)
+      (ap (λ (u : Tuner). u .numbers .listed) e) (ap chosenOf e)
+      (along (courseAfter (courseOf r) (new-settings s ∷ [])) (e ∙ ap (λ (u : Tuner). withNumbers u (withSettings (u .numbers) s)) (k .is)) (change-after (courseOf r) t s)) refl)
+
+  midi-keeps : (bytes : List ℕ) {t′ : Tuner} {v : ℕ} → Keyed t bytes t′ v → Keeps (ifTaken v (withEvents r (map byte bytes)) r) t′
+  unfolding withKeys
+  midi-keeps bytes {t′} p =
+      if-taken (withEvents r (map byte bytes)) p
+      (λ z e.
+      events-keep (map byte bytes) (bytes-in bytes) (keyed-stays (k .stays .0) (k .stays .1) bytes p) (ap (λ (u : Tuner). u .numbers .listed) e) (ap chosenOf e)
+      (along (courseAfter (courseOf r) (map byte bytes)) (e ∙ ap (λ (u : Tuner). withNumbers u (withBytes (u .numbers) bytes)) (k .is)) (bytes-after (courseOf r) t bytes)) (given-bytes (courseOf r) bytes))
+
+  -- settings and sample rate are the course's
+  settings-are : t .numbers .settings ≡ courseOf r .settings
+  unfolding leadAfter
+  settings-are = ap (λ (u : Tuner). u .numbers .settings) (k .is)
+
+  hertz-is : t .numbers .hertz ≡ r .hertz
+  unfolding leadAfter
+  hertz-is = ap (λ (u : Tuner). u .numbers .hertz) (k .is) ∙ course-hertz (freshCourse (r .hertz) (r .settings)) (r .events)
+
+  level-intervals : (n : ℕ) (vs : List Voice) → map (λ (v : Voice). v .interval) (take n (map (λ (v : Voice). levelVoice (v .interval)) vs)) ≡ map (λ (v : Voice). v .interval) (take n vs)
+  level-intervals zero vs = refl
+  level-intervals (suc n) [] = refl
+  level-intervals (suc n) (v ∷ vs) = ap (λ (is : List ℕ). v .interval ∷ is) (level-intervals n vs)
+
+  reset-keeps : (store : List ℕ) {t′ : Tuner} {v : ℕ} → Reset t store t′ v → Keeps (ifTaken v (begun (r .hertz) (courseOf r .settings) (r .listed) (r .intervals)) r) t′
+  unfolding begunAgain
+  reset-keeps store {t′} p =
+      let n = t .numbers in
+      let level = map (λ (v : Voice). levelVoice (v .interval)) (n .voices) in
+      if-taken (begun (r .hertz) (courseOf r .settings) (r .listed) (r .intervals)) p
+      (λ z e.
+      rw (e, sym settings-are, sym hertz-is, sym (k .listed))
+      (silent-keeps (n .hertz) (n .settings) (n .listed) (n .chosen) level (r .intervals) (k .stays .0 .lead .hertz) (k .stays .0 .lead .settings) (begun-stays (k .stays .0) (k .stays .1)) (level-intervals (n .chosen) (n .voices) ∙ k .intervals)))
+
+-- ---- a night
+
+-- samples, and more samples after them
+more-more : (r : Received) (xs ys : List ℤ) (f g : Figures) → more (more r (map sample xs) f) (map sample ys) g ≡ more r (map sample (xs ++ ys)) (added f g)
+more-more r xs ys f g =
+    λ i. record {
+      hertz = r .hertz;
+      settings = r .settings;
+      listed = r .listed;
+      intervals = r .intervals;
+      events = (append-assoc (r .events) (map sample xs) (map sample ys) ∙ ap (λ (es : List Event). r .events ++ es) (joined xs)) i;
+      figures = added-assoc (r .figures) f g i;
+    }
+  where
+    joined : (xs : List ℤ) → map sample xs ++ map sample ys ≡ map sample (xs ++ ys)
+    joined [] = refl
+    joined (x ∷ xs) = ap (λ (es : List Event). sample x ∷ es) (joined xs)
+
+-- what a single call adds to the answer of a night
+added-zero : (n : NightAnswer) (k : ℕ) (a : Answer) (v : ℕ) → v ≡ 0 → (countedIn (addedBy v n k a) ≡ added (countedIn n) (countedBy a)) × (addedBy v n k a .again ≡ n .again)
+unfolding addedBy added
+added-zero n k a zero e = (refl, refl)
+added-zero n k a (suc v) e = absurd (omega arith)
+
+added-again : (n : NightAnswer) (k : ℕ) (a : Answer) (v : ℕ) → v ≡ 1 → (countedIn (addedBy v n k a) ≡ countedIn n) × (addedBy v n k a .again ≡ a)
+unfolding addedBy
+added-again n k a zero e = absurd (omega arith)
+added-again n k a (suc zero) e = (refl, refl)
+added-again n k a (suc (suc v)) e = absurd (omega arith)
+
+added-refused : (n : NightAnswer) (k : ℕ) (a : Answer) (v : ℕ) → 1 < v → (countedIn (addedBy v n k a) ≡ countedIn n) × (addedBy v n k a .again ≡ n .again)
+unfolding addedBy
+added-refused n k a zero e = absurd (omega arith)
+added-refused n k a (suc zero) e = absurd (omega arith)
+added-refused n k a (suc (suc v)) e = (refl, refl)
+
+-- what is given again is the last block
+again-last : {t : Tuner} {k : ℕ} {xs : List ℤ} {os : List (List ℤ)} {v : ℕ} → Verdict t k xs os v → v ≡ 1 → IsLast t k
+again-last (given-again f l p) e = l
+again-last (record-out-of-range n) e = absurd (omega arith)
+again-last (block-empty g p) e = absurd (omega arith)
+again-last (block-over-512 g p) e = absurd (omega arith)
+again-last (output-short g a b p) e = absurd (omega arith)
+again-last (number-neither f l n) e = absurd (omega arith)
+again-last (other-samples f l n) e = absurd (omega arith)
+again-last (take-full f l n c) e = absurd (omega arith)
+again-last (taken f l n c) e = absurd (omega arith)
+
+-- what is taken is not
+taken-new : {t : Tuner} {k : ℕ} {xs : List ℤ} {os : List (List ℤ)} {v : ℕ} → Verdict t k xs os v → v ≡ 0 → IsLast t k → ⊥
+taken-new (taken f l n c) e = l
+taken-new (given-again f l p) e = absurd (omega arith)
+taken-new (record-out-of-range n) e = absurd (omega arith)
+taken-new (block-empty g p) e = absurd (omega arith)
+taken-new (block-over-512 g p) e = absurd (omega arith)
+taken-new (output-short g a b p) e = absurd (omega arith)
+taken-new (number-neither f l n) e = absurd (omega arith)
+taken-new (other-samples f l n) e = absurd (omega arith)
+taken-new (take-full f l n c) e = absurd (omega arith)
+
+-- no block is followed by its own number
+not-itself : (t : Tuner) (k : ℕ) → t .numbers .last .number ≡ k → IsLast t (numberAfter k) → ⊥
+not-itself t k e l = let n = l .1 in omega arith
+
+-- blocks of which none is given again: what they count, and what is received of their samples
+record Went (r : Received) (t′ : Tuner) (n n′ : NightAnswer) (xss : List (List ℤ)) : Type 0 where
+  counts : Figures
+  keeps : Keeps (more r (map sample (take (counts .samples) (flatten xss))) counts) t′
+  figures : countedIn n′ ≡ added (countedIn n) counts
+  again : n′ .again ≡ n .again
+
+went-none : {r : Received} {t′ : Tuner} (n n′ : NightAnswer) (xss : List (List ℤ)) → Keeps r t′ → countedIn n′ ≡ countedIn n → n′ .again ≡ n .again → Went r t′ n n′ xss
+went-none {r} {t′} n n′ xss k e f = record { counts = noFigures; keeps = subst (λ (q : Received). Keeps q t′) (sym (more-none r)) k; figures = e ∙ sym (added-none (countedIn n)); again = f }
+
+goes : {r : Received} {t t′ : Tuner} {k : ℕ} {n n′ : NightAnswer} {xss os ps : List (List ℤ)} {store s : List ℕ} → Keeps r t → (IsLast t k → ⊥) → OneByOne t k n xss os store t′ n′ ps s → Went r t′ n n′ xss
+unfolding flatten added afterBlock
+goes {n = n} h l all-done = went-none n n [] h refl refl
+goes {k = k} {n} h l (refused {xs = xs} {xss = xss} {a = a} p m) = let e = added-refused n k a (a .number) m in went-none n (addedBy (a .number) n k a) (xs ∷ xss) (untaken-keeps h p (omega arith)) (e .0) (e .1)
+goes {r} {t} {t′} {k} {n} {n′} h l (and-on {u = u} {xs = xs} {xss = xss} {store = store} {a = a} p m o) =
+    let zero-is : a .number ≡ 0 = by-zero in
+    let w = goes (taken-keeps h p zero-is) (not-itself u k (ap (λ (v : Tuner). v .numbers .last .number) (taken-is h p zero-is))) o in
+    let e = added-zero n k a (a .number) zero-is in
+    let c = w .counts in
+    let many : a .written + c .samples ≡ length xs + c .samples = ap (λ (m : ℕ). m + c .samples) (taken-length h p zero-is) in
+    record {
+      counts = added (countedBy a) c;
+      keeps =
+          subst (λ (q : Received). Keeps q t′)
+          (more-more r xs (take (c .samples) (flatten xss)) (countedBy a) c
+          ∙ ap (λ (ys : List ℤ). more r (map sample ys) (added (countedBy a) c)) (sym (ap (λ (m : ℕ). take m (xs ++ flatten xss)) many ∙ take-append-add xs (flatten xss) (c .samples))))
+          (w .keeps);
+      figures = w .figures ∙ ap (λ (f : Figures). added f c) (e .0) ∙ added-assoc (countedIn n) (countedBy a) c;
+      again = w .again ∙ e .1;
+    }
+  where
+    by-zero : a .number ≡ 0
+    by-zero = by (eqb (a .number) 0) (λ e. eqb-true (a .number) 0 e) (λ e. let some = eqb-false (a .number) 0 e in absurd (l (again-last (p .verdict) (took-number p ∙ (omega arith)))))
+
+-- all blocks of a night, from nothing on
+abbrev Nights : Received → NightAnswer → List ℤ → Tuner → Type 0
+Nights r a xs t′ = Keeps (withSamples r (a .again .written) (a .written) xs (countedIn a)) t′
+
+-- what went, behind the samples ys of a first block that was given again
+behind : {r : Received} {t′ : Tuner} {n n′ : NightAnswer} {xss : List (List ℤ)} (ys : List ℤ) → Went r t′ n n′ xss → countedIn n ≡ noFigures → n .again .written ≡ length ys → Nights r n′ (ys ++ flatten xss) t′
+behind {r} {t′} {n} {n′} {xss} ys w none long =
+    let is : countedIn n′ ≡ w .counts = w .figures ∙ ap (λ (f : Figures). added f (w .counts)) none ∙ none-added (w .counts) in
+    let from : n′ .again .written ≡ length ys = ap (λ (b : Answer). b .written) (w .again) ∙ long in
+    let rest : drop (n′ .again .written) (ys ++ flatten xss) ≡ flatten xss = ap (λ (m : ℕ). drop m (ys ++ flatten xss)) from ∙ drop-append-seam ys (flatten xss) in
+    subst (λ (q : Received). Keeps q t′) (sym (λ i. more r (map sample (take (is i .samples) (rest i))) (is i))) (w .keeps)
+
+night-keeps : {r : Received} {t t′ : Tuner} {k : ℕ} {n n′ : NightAnswer} {xss os ps : List (List ℤ)} {store s : List ℕ} → Keeps r t → countedIn n ≡ noFigures → n .again .written ≡ 0 → OneByOne t k n xss os store t′ n′ ps s → Nights r n′ (flatten xss) t′
+unfolding flatten afterBlock
+night-keeps {n = n} h none long all-done = behind {n = n} [] (went-none n n [] h refl refl) none long
+night-keeps {k = k} {n} h none long (refused {xs = xs} {xss = xss} {a = a} p m) =
+    let e = added-refused n k a (a .number) m in behind {n = n} [] (went-none n (addedBy (a .number) n k a) (xs ∷ xss) (untaken-keeps h p (omega arith)) (e .0) (e .1)) none long
+night-keeps {r} {t} {t′} {k} {n} {n′} h none long (and-on {u = u} {xs = xs} {xss = xss} {a = a} p m o) =
+    by (eqb (a .number) 0)
+    (λ e. behind {n = n} [] (goes h (taken-new (p .verdict) (took-number p ∙ eqb-true (a .number) 0 e)) (and-on p m o)) none long)
+    (λ e. let some = eqb-false (a .number) 0 e in
+    let one : a .number ≡ 1 = omega arith in
+    let last = again-last (p .verdict) (took-number p ∙ one) in
+    let same : u .numbers .last .number ≡ k = ap (λ (v : Tuner). v .numbers .last .number) (untaken-unchanged p (omega arith) .0) ∙ sym (last .1) in
+    let q = added-again n k a (a .number) one in
+    behind {n = addedBy (a .number) n k a} xs (goes (untaken-keeps h p (omega arith)) (not-itself u k same) o) (q .0 ∙ none)
+    (ap (λ (b : Answer). b .written) (q .1) ∙ ap (λ (b : Answer). b .written) (took-keeps p m .0)))
+
+-- the stretches of a recording are the recording
+stretches-all : (n size : ℕ) (xs : List ℤ) → 0 < size → length xs ≤ n → flatten (firstStretches n size xs) ≡ xs
+unfolding firstStretches flatten
+stretches-all zero size [] h l = refl
+stretches-all zero size (x ∷ xs) h l = absurd (omega arith)
+stretches-all (suc n) size [] h l = refl
+stretches-all (suc n) zero (x ∷ xs) h l = absurd (omega arith)
+stretches-all (suc n) (suc size) (x ∷ xs) h l =
+    ap (λ (zs : List ℤ). take (suc size) (x ∷ xs) ++ zs) (stretches-all n (suc size) (drop size xs) h (omega (arith, length-drop size xs))) ∙ take-append-drop (suc size) (x ∷ xs)
+
+untouched-keeps : {r : Received} {v : ℕ} {t t′ : Tuner} {os ps : List (List ℤ)} {store s : List ℕ} {a : NightAnswer} (xs : List ℤ) → Keeps r t → Untouched v t os store t′ a ps s → Nights r a xs t′
+untouched-keeps {r} {v} {t} {t′} xs k u =
+    subst (λ (b : NightAnswer). Nights r b xs t′) (sym (u .answer)) (subst (λ (q : Received). Keeps q t′) (sym (more-none r)) (subst (Keeps r) (sym (u .tuner)) k))
+
+nighted-keeps : {r : Received} {t t′ : Tuner} {k size : ℕ} {xs : List ℤ} {os ps : List (List ℤ)} {store s : List ℕ} {a : NightAnswer} → Keeps r t → Nighted t k size xs os store t′ a ps s → Nights r a xs t′
+nighted-keeps {xs = xs} k (Night.record-out-of-range n u) = untouched-keeps xs k u
+nighted-keeps {xs = xs} k (Night.size-out-of-range g z u) = untouched-keeps xs k u
+nighted-keeps {xs = xs} k (Night.output-short g z m r u) = untouched-keeps xs k u
+nighted-keeps {r} {t′ = t′} {size = size} {xs = xs} {a = a} k (Night.one-by-one g z m room o) =
+    subst (λ (ys : List ℤ). Nights r a ys t′) (stretches-all (length xs) size xs z (omega arith)) (night-keeps k refl refl o)
+
+-- ---- after any series of calls
+call-keeps : {r : Received} {t t′ : Tuner} {c : Call} → Keeps r t → Leaves t c t′ → Keeps (plus c r) t′
+unfolding plus
+call-keeps k (by-start p) = start-keeps p
+call-keeps k (by-change {s = s} p) = change-keeps k s p
+call-keeps k (by-block p) = block-keeps k p
+call-keeps k (by-night p) = nighted-keeps k p
+call-keeps k (by-midi {bytes = bytes} p) = midi-keeps k bytes p
+call-keeps k (by-reset {store = store} p) = reset-keeps k store p
+call-keeps k (by-meter p) = k
+
+pub series-keeps : {cs : List Call} {t : Tuner} → Series cs t → Keeps (received cs) t
+unfolding received
+series-keeps fresh-start = default-keeps
+series-keeps (and-then h p) = call-keeps (series-keeps h) p

@@ -1,0 +1,7 @@
+pub mod Account
+pub mod Calls
+pub mod Cutting
+pub mod Newest
+pub mod Following
+pub mod Keeps
+pub mod Holds
