@@ -20,11 +20,11 @@
 //! })?;
 //! ```
 
-use crate::{no, End};
 use daxfolin::smf::{self, Event, Read, Refused, What, NO_MIDI_FILE};
 use daxfolin::{Settings, KEYBOARD_MODE};
 use std::collections::BTreeSet;
 use std::path::Path;
+use words::end::{no, End};
 
 /// The channel on which keys are delivered, from 0 on.
 const CHANNEL: u8 = 0;

@@ -17,9 +17,10 @@
 
 use crate::midi::{Key, Line};
 use crate::rows::{rows, Row};
-use crate::{End, Source};
+use crate::source::Source;
 use daxfolin::wave::Take;
 use daxfolin::{Settings, SCALE_MODE};
+use words::end::End;
 
 /// Semitones of an octave.
 const OCTAVE: i32 = 12;

@@ -2,9 +2,11 @@
 //! to 4,096 rows in a lent store, and here whole rows are moved out of it after
 //! each block, so that it is never full.
 
-use crate::{started, End, Source};
+use crate::source::Source;
+use crate::started;
 use daxfolin::wave::Take;
 use daxfolin::{Answer, Listing, Record, Settings, LONGEST_BLOCK, MOST_ROWS, ROW, TAKEN};
+use words::end::End;
 
 /// A longest run of samples with the same wanted note.
 #[derive(Clone, Copy, Debug, PartialEq, Eq)]

@@ -5,12 +5,12 @@
 mod played;
 
 use commands::midi::{line, played as keys_of, words, Choice, Key, Line};
-use commands::End;
 use daxfolin::smf::{self, Refused};
 use independent::generator::songs::Songs as Source;
 use independent::songs::{Case, Independent};
 use played::Played;
 use std::path::Path;
+use words::end::End;
 
 #[test]
 fn two_readers_agree() {
