@@ -5,7 +5,7 @@
 
 #include <stdint.h>
 
-/* What a number from 0 to 29 means, in a few words of English; of any other number, that it is unknown. */
+/* What a number means, in a few words of English; of one that no call answers, that it is unknown. */
 static inline const char *daxfolin_words(uint32_t number) {
     static const char *const words[] = {
         /* 0 */ "taken",
@@ -38,6 +38,17 @@ static inline const char *daxfolin_words(uint32_t number) {
         /* 27 */ "no data chunk is reached",
         /* 28 */ "a report has 1,000 takes at most",
         /* 29 */ "the file has 2,147,483,648 bytes or more",
+        /* 30 */ "this is no Standard MIDI File",
+        /* 31 */ "the format is not 0 or 1; files of format 2 hold several songs",
+        /* 32 */ "the header does not say how long a tick is",
+        /* 33 */ "the header, a chunk or the file ends too early, or a track is missing",
+        /* 34 */ "a track ends within an event",
+        /* 35 */ "a delta time or a length has more than four bytes",
+        /* 36 */ "a data byte stands where there is no running status",
+        /* 37 */ "a status byte stands within a message",
+        /* 38 */ "this status byte is in no MIDI file",
+        /* 39 */ "a tempo is 0 or does not have three bytes",
+        /* 40 */ "a track has more than 281,474,976,710,656 ticks",
     };
     return number < sizeof words / sizeof *words ? words[number] : "an unknown number";
 }

@@ -20,11 +20,7 @@
 //! })?;
 //! ```
 
-use daxfolin::smf::{
-    self, Event, Read, Refused, What, DIVISION_WRONG, ENDS_EARLY, FORMAT_UNKNOWN, NO_MIDI_FILE,
-    NO_RUNNING_STATUS, QUANTITY_TOO_LONG, STATUS_WITHIN, TEMPO_WRONG, TRACK_TOO_LONG,
-    UNKNOWN_STATUS, WITHIN_AN_EVENT,
-};
+use daxfolin::smf::{self, Event, Read, Refused, What, NO_MIDI_FILE};
 use daxfolin::{Settings, KEYBOARD_MODE};
 use std::collections::BTreeSet;
 use std::path::Path;
@@ -107,21 +103,11 @@ pub fn line(name: &Path, file: &[u8], hertz: u32, choice: &Choice) -> Result<Lin
 
 /// The sentence for a refusal.
 pub fn words(Refused { number, at }: Refused) -> String {
-    let why = match number {
-        NO_MIDI_FILE => return format!("{number}, this is no Standard MIDI File"),
-        FORMAT_UNKNOWN => "the format is not 0 or 1; files of format 2 hold several songs",
-        DIVISION_WRONG => "the header does not say how long a tick is",
-        ENDS_EARLY => "the header, a chunk or the file ends too early, or a track is missing",
-        WITHIN_AN_EVENT => "a track ends within an event",
-        QUANTITY_TOO_LONG => "a delta time or a length has more than four bytes",
-        NO_RUNNING_STATUS => "a data byte stands where there is no running status",
-        STATUS_WITHIN => "a status byte stands within a message",
-        UNKNOWN_STATUS => "this status byte is in no MIDI file",
-        TEMPO_WRONG => "a tempo is 0 or does not have three bytes",
-        TRACK_TOO_LONG => "a track has more than 281,474,976,710,656 ticks",
-        _ => "the library refuses it",
-    };
-    format!("byte {at}: {number}, {why}")
+    let why = daxfolin::words(number);
+    match number {
+        NO_MIDI_FILE => format!("{number}, {why}"),
+        _ => format!("byte {at}: {number}, {why}"),
+    }
 }
 
 // ---- ticks and samples

@@ -2,7 +2,7 @@
 
 const TABLE: &str = include_str!("../../numbers.txt");
 
-/// What a number from 0 to 29 means, in a few words of English; of any other number, that it is unknown.
+/// What a number means, in a few words of English; of one that no call answers, that it is unknown.
 pub fn words(number: u32) -> &'static str {
     field(number, 1).unwrap_or("an unknown number")
 }

@@ -1,6 +1,7 @@
 //! The words of numbers, in the places where the constants of the calls have them.
 
 use daxfolin::choir::TOO_MANY_VOICES;
+use daxfolin::smf::TRACK_TOO_LONG;
 use daxfolin::wave::{FILE_TOO_LONG, NOT_RIFF_WAVE, RUNS_PAST};
 use daxfolin::{remedy, words, DECAY_OUT_OF_RANGE, TAKEN, TAKE_FULL};
 
@@ -13,11 +14,17 @@ fn each_number_has_words() {
         (TOO_MANY_VOICES, "there are three voices at most"),
         (NOT_RIFF_WAVE, "this is no RIFF WAVE file"),
         (FILE_TOO_LONG, "the file has 2,147,483,648 bytes or more"),
-        (30, "an unknown number"),
+        (
+            TRACK_TOO_LONG,
+            "a track has more than 281,474,976,710,656 ticks",
+        ),
+        (TRACK_TOO_LONG + 1, "an unknown number"),
         (u32::MAX, "an unknown number"),
     ] {
         assert_eq!(words(number), right);
     }
     assert_eq!(remedy(RUNS_PAST), "Mend it: daxfolin mend FILE.wav");
-    assert!((0..30).all(|number| !words(number).is_empty() && !remedy(number).is_empty()));
+    assert!(
+        (0..=TRACK_TOO_LONG).all(|number| !words(number).is_empty() && !remedy(number).is_empty())
+    );
 }
