@@ -15,7 +15,7 @@ use std::time::Duration;
 
 const PAUSE: Duration = Duration::from_millis(100);
 /// More empty lines than fit between two programs.
-const EMPTY_LINES: usize = 1_000_000;
+const EMPTY_LINES: usize = 320_000;
 
 fn main() -> ExitCode {
     let arguments: Vec<String> = std::env::args().skip(1).collect();
