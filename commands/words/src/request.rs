@@ -117,6 +117,7 @@ pub enum Form {
 #[derive(Debug, PartialEq)]
 pub struct Report {
     pub take: Take,
+    pub song: Option<Song>,
     pub from: Vec<PathBuf>,
     pub tsv: bool,
 }
@@ -137,11 +138,13 @@ pub struct Check {
 impl Request {
     /// The files that have to be there.
     pub fn inputs(&self) -> Vec<&Path> {
+        let song = match self {
+            Request::Tune(Tune { song, .. }) | Request::Report(Report { song, .. }) => song,
+            _ => &None,
+        };
+        let song = song.iter().map(|song| &song.file);
         let inputs: Vec<&PathBuf> = match self {
-            Request::Tune(tune) => {
-                let song = tune.song.iter().map(|song| &song.file);
-                song.chain(tune.jobs.iter().map(|job| &job.from)).collect()
-            }
+            Request::Tune(tune) => tune.jobs.iter().map(|job| &job.from).collect(),
             Request::Notes(notes) => notes.from.iter().collect(),
             // one that is not there has its own line in the report
             Request::Report(report) if report.from.len() > 1 => Vec::new(),
@@ -150,7 +153,8 @@ impl Request {
             Request::Check(check) => vec![&check.from, &check.tuned],
             Request::Lines => Vec::new(),
         };
-        let files = inputs.into_iter().filter(|file| **file != Path::new(DASH));
+        let inputs = song.chain(inputs);
+        let files = inputs.filter(|file| **file != Path::new(DASH));
         files.map(PathBuf::as_path).collect()
     }
 }
@@ -403,12 +407,14 @@ fn notes(given: &Given) -> Result<Notes, String> {
 
 fn report(given: &Given) -> Result<Report, String> {
     let take = take(given)?;
+    let song = song(given)?;
     given.files.iter().try_for_each(not_a_dash)?;
     if given.files.is_empty() {
         return Err("IN.wav is missing".to_string());
     }
     Ok(Report {
         take,
+        song,
         from: given.files.iter().map(PathBuf::from).collect(),
         tsv: given.has("tsv"),
     })
@@ -649,6 +655,7 @@ mod tests {
             (&["notes", "a"], &["a"]),
             (&["report", "a"], &["a"]),
             (&["report", "a", "b"], &[]),
+            (&["report", "a", "b", "--midi", "m"], &["m"]),
         ] {
             let request = request(words).expect("right words");
             let files: Vec<&Path> = files.iter().map(Path::new).collect();

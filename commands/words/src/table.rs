@@ -245,7 +245,7 @@ const REFUSED: (u8, &str) = (
     "a take or a setting is refused; standard output has the number of the refusal (docs/NUMBERS.md)",
 );
 
-const A_LINE: &str = "With --midi the key held at a place is the note there, the latest where there are several. Where none is held nothing is tuned. The file has format 0 or 1. It is read before the first take; one that is refused or cannot be read ends the command, and nothing is written.";
+const A_LINE: &str = "With --midi the key held at a place is the note there, the latest where there are several. Where none is held nothing is tuned. The file has format 0 or 1. It is read before the first take; one that is refused or cannot be read ends the command before anything is written or printed.";
 
 const A_TAKE: &str = "A take is a WAVE file: PCM, one channel, 16 bits, 44,100 or 48,000 samples a second, up to 1,000,000,000 samples.";
 
@@ -311,12 +311,13 @@ pub const COMMANDS: &[Command] = &[
         name: "report",
         short: "figures of takes, and their total",
         forms: &["[OPTION..] IN.wav ..", "<LINES"],
-        options: &[TAKE, TSV, COMMON],
+        options: &[TAKE, MIDI, TSV, COMMON],
         about: &[
             "Prints a line for each take, tuned as daxfolin tune would, and a last line for the total: samples, samples with a pitch, cycles repeated, cycles dropped, the sum over all samples of the distance of the rate from 65536 (the rate of what is not altered), and the mean of that distance as whole part and remainder; tab-separated.",
             A_TAKE,
         ],
         more: &[
+            A_LINE,
             "Of several files, one that is refused has the number of its refusal as its line, and one that cannot be read has - as its line; the others have their figures, and the total is theirs. Of a single file that is refused the number is printed alone. Nothing is printed before all is read. A report has 1,000 takes at most; of more, 28 is printed alone.",
             "Without words it reads the lines of daxfolin lines from standard input and prints the same figures of their takes. Its status is then 0 if all was read and printed, 1 if a read or a write failed, 2 if the program could not be built.",
         ],
@@ -324,7 +325,10 @@ pub const COMMANDS: &[Command] = &[
             (0, "the report is printed"),
             WRONG,
             REFUSED,
-            (3, "a file cannot be read, or the report cannot be written"),
+            (
+                3,
+                "a file cannot be read, a MIDI file is refused, or the report cannot be written",
+            ),
             UNBUILT,
         ],
         offer: Offer::Waves,
