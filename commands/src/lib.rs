@@ -16,6 +16,7 @@ mod refusal;
 pub mod report;
 pub mod rows;
 pub mod score;
+pub mod song;
 pub mod source;
 pub mod tune;
 

@@ -231,7 +231,8 @@ impl Line {
         if self.keys.is_empty() {
             said.push("no note of the file is played".to_string());
         }
-        if choice.channel.is_none() && channels.len() > 1 {
+        let all = choice.channel.is_none() && choice.track.is_none();
+        if all && channels.len() > 1 {
             let channels = channels.join(", ");
             said.push(format!(
                 "there are notes on channels {channels}, and all are played; --channel chooses one"

@@ -2,6 +2,9 @@
 //! takes of the line program's input.
 
 use crate::lines::{each, Takes};
+use crate::place::{places, put, Output};
+use crate::rows::rows;
+use crate::score::score;
 use crate::source::Source;
 use crate::{seconds, settings, started};
 use daxfolin::wave::Take;
@@ -14,6 +17,7 @@ use std::path::Path;
 use words::end::{say, End};
 use words::request::{Form, Notes};
 use words::scales::name;
+use words::signals::{ended, note_all};
 use words::standard::{self, print, unread};
 
 pub const PROGRAM: &str = "daxfolin notes";
@@ -29,6 +33,9 @@ pub fn run(request: &Notes) -> Result<(), End> {
 
 /// The rows of the take in a file, once it is known that nobody wrote to it meanwhile.
 fn notes(file: &Path, request: &Notes) -> Result<(), End> {
+    if let Form::Midi { to, over } = &request.form {
+        return midi(file, request, to, *over);
+    }
     let source = Source::of(file)?;
     let (take, _) = source.take()?;
     let mut list = List::start(take.hertz, settings(&request.take, take.hertz))?;
@@ -45,7 +52,7 @@ fn notes(file: &Path, request: &Notes) -> Result<(), End> {
     let heading = if steps { HEADING } else { "" };
     let least = request.least * f64::from(take.hertz) / 1000.0;
     let rows = list.rows().filter(|row| f64::from(row.length) >= least);
-    let lines: String = rows.map(|row| row.line(&take, request.form)).collect();
+    let lines: String = rows.map(|row| row.line(&take, &request.form)).collect();
     print(&format!("{heading}{lines}"))?;
     if list.listing.left > 0 {
         let left = list.listing.left;
@@ -53,6 +60,29 @@ fn notes(file: &Path, request: &Notes) -> Result<(), End> {
         say(PROGRAM, &most);
     }
     Ok(())
+}
+
+/// The rows of the take in a file as a MIDI file, which is whole or not there.
+fn midi(file: &Path, request: &Notes, to: &Path, over: bool) -> Result<(), End> {
+    note_all();
+    let source = Source::of(file)?;
+    let (take, _) = source.take()?;
+    let settings = settings(&request.take, take.hertz);
+    started(Record::start(take.hertz, settings).0)?;
+    let mut places = places(to, 0, &[&source], over)?;
+    let least = request.least * f64::from(take.hertz) / 1000.0;
+    let mut rows = rows(PROGRAM, &source, &take, settings)?;
+    rows.retain(|row| row.length as f64 >= least);
+    source.unchanged()?;
+    let score = score(&rows, take.count, take.hertz);
+    let outputs = places.drain(..).map(|place| Output::at(place, &score));
+    let mut outputs = outputs.collect::<Result<Vec<_>, _>>()?;
+    outputs.iter_mut().try_for_each(Output::flush)?;
+    ended()?;
+    let lost: Vec<String> = outputs.iter().filter_map(Output::owner_lost).collect();
+    put(outputs)?;
+    lost.iter().for_each(|lost| say(PROGRAM, lost));
+    print(&format!("{} notes\n", rows.len()))
 }
 
 /// A row of the list.
@@ -65,7 +95,7 @@ struct Row {
 }
 
 impl Row {
-    fn line(&self, take: &Take, form: Form) -> String {
+    fn line(&self, take: &Take, form: &Form) -> String {
         let Row {
             note,
             first,
@@ -76,7 +106,9 @@ impl Row {
         let at = |sample: u32| seconds(u64::from(sample), take.hertz);
         let exact = |sample: u32| f64::from(sample) / f64::from(take.hertz);
         match form {
-            Form::Plain => format!("{note}\t{first}\t{length}\t{name}\t{}\n", at(*first)),
+            Form::Plain | Form::Midi { .. } => {
+                format!("{note}\t{first}\t{length}\t{name}\t{}\n", at(*first))
+            }
             Form::Tsv => format!(
                 "{note}\t{first}\t{length}\t{name}\t{}\t{}\t{cents:.1}\n",
                 at(*first),

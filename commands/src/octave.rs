@@ -152,6 +152,14 @@ fn found(key: u8, note: u8) -> u8 {
 #[cfg(test)]
 mod tests {
     use super::*;
+    use words::table::OCTAVES;
+
+    #[test]
+    fn each_word_of_the_table_is_one() {
+        let octaves: Vec<_> = OCTAVES.iter().map(|word| Octave::of(word)).collect();
+        assert_eq!(octaves, [Some(Octave::Nearest), Some(Octave::Exact)]);
+        assert_eq!(Octave::of(OCTAVES[0]), Some(Octave::default()));
+    }
 
     fn keys(keys: &[(u64, u8, bool)]) -> Vec<Key> {
         let key = |&(sample, key, down): &(u64, u8, bool)| Key { sample, key, down };

@@ -80,9 +80,12 @@ impl Place {
     }
 }
 
-/// The places of OUT and of so many voices; none of them is IN or another of them.
-pub fn places(out: &Path, voices: usize, source: &Source, over: bool) -> Result<Vec<Place>, End> {
-    let mut taken = vec![(source.name.clone(), identity(&source.was))];
+/// The places of OUT and of so many voices; none of them is a file that is read, or another of them.
+pub fn places(out: &Path, voices: usize, read: &[&Source], over: bool) -> Result<Vec<Place>, End> {
+    let read = read.iter();
+    let mut taken: Vec<(PathBuf, Identity)> = read
+        .map(|source| (source.name.clone(), identity(&source.was)))
+        .collect();
     let place = |voice| {
         let place = place(named(out, voice), &taken, over)?;
         let file = place.over.as_ref().map(identity);

@@ -1,6 +1,9 @@
 //! `daxfolin report`: figures of the takes in files, each of them a take, and
 //! of them all.
 
+use crate::delivery::{Delivery, Part};
+use crate::midi::by_keys;
+use crate::song::Song;
 use crate::source::Source;
 use crate::{settings, started};
 use daxfolin::{Meter, Record, LONGEST_BLOCK, TAKEN};
@@ -27,9 +30,10 @@ pub fn run(request: &Report) -> Result<(), End> {
     }
     // settings that no take could have are refused before the first is read
     started(Record::start(daxfolin::CD, settings(&request.take, daxfolin::CD)).0)?;
+    let song = request.song.as_ref().map(Song::of).transpose()?;
     let mut takes = Vec::new();
     for file in &request.from {
-        match figures(file, &request.take) {
+        match figures(file, &request.take, song.as_ref()) {
             Err(end) if count == 1 => return Err(end),
             Err(end) => {
                 end.say(PROGRAM);
@@ -123,22 +127,32 @@ impl fmt::Display for Figures {
 }
 
 /// Those of the take in a file, once it is known that nobody wrote to it meanwhile.
-fn figures(name: &Path, how: &Take) -> Result<Figures, End> {
+fn figures(name: &Path, how: &Take, song: Option<&Song>) -> Result<Figures, End> {
     let source = Source::of(name)?;
     let (take, _) = source.take()?;
-    let (number, tuner) = Record::start(take.hertz, settings(how, take.hertz));
+    let settings = settings(how, take.hertz);
+    let wanted = match song {
+        Some(_) => by_keys(settings),
+        None => settings,
+    };
+    let (number, tuner) = Record::start(take.hertz, wanted);
     started(number)?;
+    let played = song.map(|song| song.played(PROGRAM, &source, &take, settings));
+    let played = played.transpose()?;
+    let mut delivery = Delivery::of(played.as_ref().map_or(&[], |played| &played.keys));
     let mut counting = Counting {
         tuner,
         number: 0,
         figures: Figures::default(),
     };
     source.blocks(PROGRAM, &take, |_, sung| {
-        let mut blocks = steps(counting.figures.samples, sung);
-        let counted = blocks.try_for_each(|block| counting.block(block));
+        let counted = delivery.give(sung, |part| counting.part(part));
         counted.map_err(|number| source.refused(number))
     })?;
     source.unchanged()?;
+    if let Some(played) = &played {
+        played.remark(PROGRAM, &source);
+    }
     Ok(counting.figures)
 }
 
@@ -166,6 +180,19 @@ struct Counting {
 }
 
 impl Counting {
+    fn part(&mut self, part: Part) -> Result<(), u32> {
+        match part {
+            Part::Keys(bytes) => match self.tuner.midi(bytes) {
+                TAKEN => Ok(()),
+                number => Err(number),
+            },
+            Part::Block(_, sung) => {
+                let mut blocks = steps(self.figures.samples, sung);
+                blocks.try_for_each(|block| self.block(block))
+            }
+        }
+    }
+
     fn block(&mut self, sung: &[i16]) -> Result<(), u32> {
         let answer = self.tuner.block(self.number, sung, &mut [0; LONGEST_BLOCK]);
         if answer.number != TAKEN {
@@ -207,7 +234,12 @@ mod tests {
             voices: Vec::new(),
         };
         let from = files.iter().map(PathBuf::from).collect();
-        Report { take, from, tsv }
+        Report {
+            take,
+            song: None,
+            from,
+            tsv,
+        }
     }
 
     fn figures([samples, pitched, repeated, dropped, sum]: [u64; 5]) -> Figures {

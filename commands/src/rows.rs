@@ -7,6 +7,7 @@ use crate::started;
 use daxfolin::wave::Take;
 use daxfolin::{Answer, Listing, Record, Settings, LONGEST_BLOCK, MOST_ROWS, ROW, TAKEN};
 use words::end::End;
+use words::signals::ended;
 
 /// A longest run of samples with the same wanted note.
 #[derive(Clone, Copy, Debug, PartialEq, Eq)]
@@ -108,6 +109,7 @@ pub fn rows(
         Err(number) => return started(number).map(|()| Vec::new()),
     };
     source.blocks(program, take, |number, sung| {
+        ended()?;
         match tuner.block(number, sung, &mut [0; LONGEST_BLOCK]).number {
             TAKEN => Ok(()),
             number => Err(source.refused(number)),

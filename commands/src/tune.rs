@@ -1,7 +1,10 @@
 //! `daxfolin tune`: takes through the tuner, block after block; with voices,
 //! each to a file of its own beside OUT.
 
+use crate::delivery::{Delivery, Part};
+use crate::midi::by_keys;
 use crate::place::{named, places, put, unnamed, Output, Place};
+use crate::song::Song;
 use crate::source::{Source, WINDOW};
 use crate::{chunks, grouped, seconds, settings, started};
 use daxfolin::choir::{Choir, MOST_VOICES};
@@ -17,20 +20,23 @@ use words::standard::{self, print, unwritten, Standard};
 
 pub const PROGRAM: &str = "daxfolin tune";
 
-const HEADING: &str = "file\tout\trefusal\thertz\tsamples\tseconds\trepeated\tdropped\tblocks\tpitched_blocks\tlatency_mean\tlatency_most\n";
+const HEADING: &str = "file\tout\trefusal\thertz\tsamples\tseconds\trepeated\tdropped\tblocks\tpitched_blocks\tlatency_mean\tlatency_most";
 
 pub fn run(request: &Tune) -> Result<(), End> {
     note_all();
+    let song = request.song.as_ref().map(Song::of).transpose()?;
+    let song = song.as_ref();
     if request.tsv {
-        tell(request, HEADING)?;
+        let keys = if song.is_some() { "\tkeys" } else { "" };
+        tell(request, &format!("{HEADING}{keys}\n"))?;
     }
     if !request.named {
-        let done = job(request, &request.jobs[0])?;
+        let done = job(request, song, &request.jobs[0])?;
         return tell(request, &done);
     }
     let mut worst = 0;
     for one in &request.jobs {
-        match job(request, one) {
+        match job(request, song, one) {
             Ok(done) => tell(request, &done)?,
             Err(end @ End::Signal(_)) => return Err(end),
             Err(end) => {
@@ -76,36 +82,56 @@ fn refusal(request: &Tune, job: &Job, end: &End) -> Result<(), End> {
     };
     let (from, to) = (shown(job.from.as_os_str()), shown(job.to.as_os_str()));
     match request.tsv {
-        true => print(&format!("{from}\t{to}\t{number}{}\n", "\t".repeat(9))),
+        true => {
+            let empty = "\t".repeat(9 + usize::from(request.song.is_some()));
+            print(&format!("{from}\t{to}\t{number}{empty}\n"))
+        }
         false => print(&format!("{from}: {number}\n")),
     }
 }
 
 /// One take, and what is told of it.
-fn job(request: &Tune, job: &Job) -> Result<String, End> {
+fn job(request: &Tune, song: Option<&Song>, job: &Job) -> Result<String, End> {
     ended()?;
     let source = source(job)?;
     let (take, header) = source.take()?;
     let settings = settings(&request.take, take.hertz);
     let voices = &request.take.voices;
-    let tuner = Tuner::start(take.hertz, settings, voices)?;
-    if request.keep && is_done(&source, &take, &header, job, voices.len()) {
+    let wanted = if song.is_some() {
+        by_keys(settings)
+    } else {
+        settings
+    };
+    let tuner = Tuner::start(take.hertz, wanted, voices)?;
+    let read: Vec<&Source> = song
+        .iter()
+        .map(|song| &song.source)
+        .chain([&source])
+        .collect();
+    if request.keep && is_done(&read, &take, &header, job, voices.len()) {
         let (from, to) = (source.shown(), shown(job.to.as_os_str()));
         return Ok(format!("{from}: passed over, {to} is done\n"));
     }
     let mut outputs = match job.to == Path::new(DASH) {
         true => Outputs::standard()?,
-        false => Outputs::Places(places(&job.to, voices.len(), &source, request.force)?),
+        false => Outputs::Places(places(&job.to, voices.len(), &read, request.force)?),
     };
     left_out(&source, &take, job);
     if request.dry {
         return Ok(outputs.would(&source, &take));
     }
     let said = voices_said(voices, &outputs);
+    let played = song.map(|song| song.played(PROGRAM, &source, &take, settings));
+    let played = played.transpose()?;
     outputs = outputs.begun(&header)?;
-    let tuned = tune(&source, &take, tuner, &mut outputs)?;
+    let mut delivery = Delivery::of(played.as_ref().map_or(&[], |played| &played.keys));
+    let mut tuned = tune(&source, &take, tuner, &mut delivery, &mut outputs)?;
     source.unchanged()?;
     outputs.finish()?;
+    if let Some(played) = &played {
+        played.remark(PROGRAM, &source);
+        tuned.keys = Some(played.delivered(delivery.left()));
+    }
     Ok(match (request.tsv, request.named) {
         (true, _) => tuned.row(&source, job, &take),
         (false, true) => format!("{}: {}", source.shown(), tuned.line(&take)),
@@ -136,15 +162,17 @@ fn left_out(source: &Source, take: &Take, job: &Job) {
     }
 }
 
-/// Whether OUT and the voices are there and whole: takes as long, at the same rate, and no older than IN.
-fn is_done(source: &Source, take: &Take, header: &[u8], job: &Job, voices: usize) -> bool {
+/// Whether OUT and the voices are there and whole: takes as long, at the same rate, and no older than what is read.
+fn is_done(read: &[&Source], take: &Take, header: &[u8], job: &Job, voices: usize) -> bool {
     let done = |voice| {
         let name = named(&job.to, voice);
         let Ok(is) = fs::metadata(&name) else {
             return false;
         };
         let whole = is.is_file() && is.len() == header.len() as u64 + 2 * take.count;
-        let newer = is.modified().ok() >= source.was.modified().ok();
+        let newer = read
+            .iter()
+            .all(|source| is.modified().ok() >= source.was.modified().ok());
         whole
             && newer
             && Source::of(&name)
@@ -292,6 +320,13 @@ impl Tuner {
         }
     }
 
+    fn midi(&mut self, bytes: &[u8]) -> u32 {
+        match self {
+            Tuner::Alone(record) => record.midi(bytes),
+            Tuner::WithVoices(choir) => choir.midi(bytes),
+        }
+    }
+
     fn meter(&self) -> Meter {
         match self {
             Tuner::Alone(record) => record.meter(),
@@ -323,14 +358,20 @@ struct Tuned {
     /// How far the read position lay behind the input at the end of each block: their sum, and the farthest, in units.
     behind: u64,
     farthest: u64,
+    /// Keys that were delivered, where a line is played.
+    keys: Option<usize>,
 }
 
 impl Tuned {
-    fn add(&mut self, answer: Answer, tuner: &Tuner) {
-        let behind = tuner.behind();
-        self.blocks += 1;
+    fn add(&mut self, answer: Answer) {
         self.repeated += u64::from(answer.repeated);
         self.dropped += u64::from(answer.dropped);
+    }
+
+    /// At the end of a block of the take, however keys cut it.
+    fn block(&mut self, tuner: &Tuner) {
+        let behind = tuner.behind();
+        self.blocks += 1;
         self.pitched += u64::from(matches!(tuner.meter(), Meter::Pitched { .. }));
         self.behind += behind;
         self.farthest = self.farthest.max(behind);
@@ -359,8 +400,10 @@ impl Tuned {
                 )
             }
         };
+        let keys = self.keys.map(|keys| format!(", {keys} keys delivered"));
+        let keys = keys.unwrap_or_default();
         format!(
-            "{} samples, {} s, {} cycles repeated, {} dropped, pitched after {} of {} blocks{shares}\n",
+            "{} samples, {} s, {} cycles repeated, {} dropped, pitched after {} of {} blocks{shares}{keys}\n",
             take.count,
             seconds(take.count, take.hertz),
             self.repeated,
@@ -372,8 +415,10 @@ impl Tuned {
 
     fn row(&self, source: &Source, job: &Job, take: &Take) -> String {
         let [mean, most] = self.latency();
+        let keys = self.keys.map(|keys| format!("\t{keys}"));
+        let keys = keys.unwrap_or_default();
         format!(
-            "{}\t{}\t0\t{}\t{}\t{}\t{}\t{}\t{}\t{}\t{mean}\t{most}\n",
+            "{}\t{}\t0\t{}\t{}\t{}\t{}\t{}\t{}\t{}\t{mean}\t{most}{keys}\n",
             source.shown(),
             shown(job.to.as_os_str()),
             take.hertz,
@@ -387,26 +432,39 @@ impl Tuned {
     }
 }
 
-/// Every block of the take through the tuner, one after the other: the lead to the first output, each voice to its own.
+/// Every block of the take through the tuner, one after the other, and each key before its sample: the lead to the first output, each
+/// voice to its own.
 fn tune(
     source: &Source,
     take: &Take,
     mut tuner: Tuner,
+    delivery: &mut Delivery,
     outputs: &mut Outputs,
 ) -> Result<Tuned, End> {
     let mut tuned: Blocks = [[0; LONGEST_BLOCK]; 1 + MOST_VOICES];
     let mut sums = Tuned::default();
-    source.blocks(PROGRAM, take, |number, sung| {
+    source.blocks(PROGRAM, take, |_, sung| {
         ended()?;
-        let answer = tuner.block(number, sung, &mut tuned);
-        if answer.number != TAKEN {
-            return Err(source.refused(answer.number));
-        }
-        outputs.write(&tuned, sung.len())?;
-        sums.add(answer, &tuner);
+        delivery.give(sung, |part| match part {
+            Part::Keys(bytes) => taken(source, tuner.midi(bytes)),
+            Part::Block(number, sung) => {
+                let answer = tuner.block(number, sung, &mut tuned);
+                taken(source, answer.number)?;
+                sums.add(answer);
+                outputs.write(&tuned, sung.len())
+            }
+        })?;
+        sums.block(&tuner);
         Ok(())
     })?;
     Ok(sums)
+}
+
+fn taken(source: &Source, number: u32) -> Result<(), End> {
+    match number {
+        TAKEN => Ok(()),
+        number => Err(source.refused(number)),
+    }
 }
 
 #[cfg(test)]

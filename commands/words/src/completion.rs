@@ -57,6 +57,9 @@ _daxfolin() {{
 _daxfolin_files() {{ # WORD: WAVE files and folders
     mapfile -t COMPREPLY < <(compgen -f -X '!*.[wW][aA][vV]' -- "$1" && compgen -d -- "$1")
 }}
+_daxfolin_songs() {{ # WORD: MIDI files and folders
+    mapfile -t COMPREPLY < <(compgen -f -X '!*.[mM][iI][dD]' -- "$1" && compgen -d -- "$1")
+}}
 complete -o filenames -F _daxfolin daxfolin
 "#,
         commands(),
@@ -100,6 +103,7 @@ fn bash_offer(offer: Offer) -> String {
     match offer {
         Offer::Nothing => ":".to_string(),
         Offer::Waves => r#"_daxfolin_files "$word""#.to_string(),
+        Offer::Songs => r#"_daxfolin_songs "$word""#.to_string(),
         Offer::Folders => r#"mapfile -t COMPREPLY < <(compgen -d -- "$word")"#.to_string(),
         Offer::Words(words) => format!(
             r#"mapfile -t COMPREPLY < <(compgen -W "{}" -- "$word")"#,
@@ -163,6 +167,7 @@ fn zsh_option(option: &Opt) -> String {
         .replace(']', "\\]");
     let value = match (option.value, option.offer) {
         (None, _) => String::new(),
+        (Some(value), Offer::Songs) => format!(":{value}:_files -g \"*.(#i)mid\""),
         (Some(value), Offer::Folders) => format!(":{value}:_files -/"),
         (Some(value), Offer::Words(words)) => format!(":{value}:({})", words.join(" ")),
         (Some(value), _) => format!(":{value}: "),
@@ -230,7 +235,12 @@ fn fish_command(command: &Command) -> String {
             Offer::Folders => " -a '(__fish_complete_directories)'".to_string(),
             _ => String::new(),
         };
-        let value = option.value.map(|_| format!(" -x{offered}"));
+        let how = if option.offer == Offer::Songs {
+            "-rF"
+        } else {
+            "-x"
+        };
+        let value = option.value.map(|_| format!(" {how}{offered}"));
         text += &format!(
             "{seen}{} -l {}{} -d '{}'\n",
             short.unwrap_or_default(),

@@ -3,7 +3,7 @@
 use crate::end::shown;
 use crate::parse::{whole, Given};
 use crate::scales;
-use crate::table::Command;
+use crate::table::{Command, OCTAVES, OF_MIDI};
 use std::collections::HashMap;
 use std::ffi::{OsStr, OsString};
 use std::path::{Path, PathBuf};
@@ -14,6 +14,10 @@ pub const DASH: &str = "-";
 const LONGEST_SPEED: f64 = 29.0;
 /// A tracking step comes every so many samples.
 const STEP: f64 = 5.0;
+/// The channels, the farthest that notes are moved, and the most milliseconds: more than a take has.
+const CHANNELS: u32 = 16;
+const FARTHEST: i64 = 127;
+const LATEST: i64 = 100_000_000;
 
 #[derive(Debug, PartialEq)]
 pub enum Request {
@@ -56,9 +60,22 @@ impl Take {
     }
 }
 
+/// A MIDI file that takes are tuned to, and what of it is played.
+#[derive(Debug, PartialEq)]
+pub struct Song {
+    pub file: PathBuf,
+    pub channel: Option<u8>,
+    pub track: Option<u32>,
+    pub transpose: i32,
+    pub offset: i64,
+    /// One of [`OCTAVES`].
+    pub octave: &'static str,
+}
+
 #[derive(Debug, PartialEq)]
 pub struct Tune {
     pub take: Take,
+    pub song: Option<Song>,
     pub jobs: Vec<Job>,
     /// Lines name their IN.
     pub named: bool,
@@ -85,16 +102,22 @@ pub struct Notes {
     pub form: Form,
 }
 
-#[derive(Clone, Copy, Debug, PartialEq, Eq)]
+#[derive(Clone, Debug, PartialEq, Eq)]
 pub enum Form {
     Plain,
     Tsv,
     Labels,
+    /// A file, which is written over one that exists or not.
+    Midi {
+        to: PathBuf,
+        over: bool,
+    },
 }
 
 #[derive(Debug, PartialEq)]
 pub struct Report {
     pub take: Take,
+    pub song: Option<Song>,
     pub from: Vec<PathBuf>,
     pub tsv: bool,
 }
@@ -115,6 +138,11 @@ pub struct Check {
 impl Request {
     /// The files that have to be there.
     pub fn inputs(&self) -> Vec<&Path> {
+        let song = match self {
+            Request::Tune(Tune { song, .. }) | Request::Report(Report { song, .. }) => song,
+            _ => &None,
+        };
+        let song = song.iter().map(|song| &song.file);
         let inputs: Vec<&PathBuf> = match self {
             Request::Tune(tune) => tune.jobs.iter().map(|job| &job.from).collect(),
             Request::Notes(notes) => notes.from.iter().collect(),
@@ -125,7 +153,8 @@ impl Request {
             Request::Check(check) => vec![&check.from, &check.tuned],
             Request::Lines => Vec::new(),
         };
-        let files = inputs.into_iter().filter(|file| **file != Path::new(DASH));
+        let inputs = song.chain(inputs);
+        let files = inputs.filter(|file| **file != Path::new(DASH));
         files.map(PathBuf::as_path).collect()
     }
 }
@@ -178,25 +207,96 @@ fn intervals(given: &Given) -> Result<Vec<i32>, String> {
     given.values("voice").into_iter().map(interval).collect()
 }
 
-/// A sign may stand before the digits. What is past the farthest interval that a call takes is refused as that is.
+/// What is past the farthest interval that a call takes is refused as that is.
 fn interval(text: &str) -> Result<i32, String> {
-    let (sign, digits) = match text.split_at_checked(1) {
-        Some(("+", digits)) => (1, digits),
-        Some(("-", digits)) => (-1, digits),
-        _ => (1, text),
-    };
-    match whole(digits) {
-        Some(number) => Ok(sign * i32::try_from(number).unwrap_or(i32::MAX)),
+    let farthest = i64::from(i32::MAX);
+    match signed(text) {
+        Some(number) => Ok(number.clamp(-farthest, farthest) as i32),
         None => Err(format!(
             "--voice is a whole number of semitones like +4 or -3, not '{text}'"
         )),
     }
 }
 
+/// A whole number, before whose digits a sign may stand.
+fn signed(text: &str) -> Option<i64> {
+    let (sign, digits) = match text.split_at_checked(1) {
+        Some(("+", digits)) => (1, digits),
+        Some(("-", digits)) => (-1, digits),
+        _ => (1, text),
+    };
+    whole(digits).map(|number| sign * i64::from(number))
+}
+
+// ---- the line that is played
+
+fn song(given: &Given) -> Result<Option<Song>, String> {
+    let Some(file) = given.value("midi") else {
+        return match OF_MIDI.iter().find(|name| given.has(name)) {
+            Some(name) => Err(format!(
+                "--{name} is about a MIDI file: it needs --midi FILE.mid"
+            )),
+            None => Ok(None),
+        };
+    };
+    if given.has("scale") {
+        return Err("--scale and --midi both say which notes are wanted: give one".to_string());
+    }
+    let file = named("midi", file)?;
+    let transpose = between(given, "transpose", FARTHEST)? as i32;
+    Ok(Some(Song {
+        file,
+        channel: counted(given, "channel", CHANNELS)?.map(|channel| channel as u8),
+        track: counted(given, "track", u32::MAX)?,
+        transpose,
+        offset: between(given, "offset", LATEST)?,
+        octave: octave(given)?,
+    }))
+}
+
+/// The file that an option names, which is not standard input or output.
+fn named(option: &str, file: &str) -> Result<PathBuf, String> {
+    match file == DASH {
+        true => Err(format!("--{option} needs a file, and '-' is none here")),
+        false => Ok(file.into()),
+    }
+}
+
+/// A number from 1 on.
+fn counted(given: &Given, name: &str, most: u32) -> Result<Option<u32>, String> {
+    let Some(text) = given.value(name) else {
+        return Ok(None);
+    };
+    let number = whole(text).filter(|number| (1..=most).contains(number));
+    let to = match most {
+        u32::MAX => "a whole number from 1 on".to_string(),
+        most => format!("1 to {most}"),
+    };
+    let wrong = || format!("--{name} is {to}, not '{text}'");
+    number.map(Some).ok_or_else(wrong)
+}
+
+/// A whole number at most so far from 0, which it is without words.
+fn between(given: &Given, name: &str, most: i64) -> Result<i64, String> {
+    let text = given.value(name).unwrap_or("0");
+    let number = signed(text).filter(|number| (-most..=most).contains(number));
+    number.ok_or_else(|| format!("--{name} is a whole number from -{most} to {most}, not '{text}'"))
+}
+
+fn octave(given: &Given) -> Result<&'static str, String> {
+    let Some(text) = given.value("octave") else {
+        return Ok(OCTAVES[0]);
+    };
+    let octave = OCTAVES.iter().find(|octave| **octave == text);
+    let wrong = || format!("--octave is {}, not '{text}'", OCTAVES.join(" or "));
+    octave.copied().ok_or_else(wrong)
+}
+
 // ---- the commands
 
 fn tune(given: &Given) -> Result<Tune, String> {
     let take = take(given)?;
+    let song = song(given)?;
     let folder = given.value("output-dir").map(Path::new);
     let jobs = match folder {
         None => vec![one(given)?],
@@ -211,6 +311,7 @@ fn tune(given: &Given) -> Result<Tune, String> {
     }
     Ok(Tune {
         take,
+        song,
         jobs,
         named: folder.is_some(),
         force: given.has("force"),
@@ -272,13 +373,25 @@ fn files<const N: usize>(given: &Given, names: [&str; N]) -> Result<[PathBuf; N]
     given.files(names).map(|files| files.map(PathBuf::from))
 }
 
+fn form(given: &Given) -> Result<Form, String> {
+    let forms = ["tsv", "labels", "midi"];
+    let mut forms = forms.into_iter().filter(|form| given.has(form));
+    let form = forms.next();
+    if let (Some(one), Some(other)) = (form, forms.next()) {
+        return Err(format!("--{one} and --{other} are two forms: give one"));
+    }
+    let over = given.has("force");
+    match (form, given.value("midi")) {
+        (_, Some(to)) => named("midi", to).map(|to| Form::Midi { to, over }),
+        _ if over => Err("-f is about OUT.mid: it needs --midi OUT.mid".to_string()),
+        (Some("tsv"), _) => Ok(Form::Tsv),
+        (Some(_), _) => Ok(Form::Labels),
+        (None, _) => Ok(Form::Plain),
+    }
+}
+
 fn notes(given: &Given) -> Result<Notes, String> {
-    let form = match (given.has("tsv"), given.has("labels")) {
-        (true, true) => return Err("--tsv and --labels are two forms: give one".to_string()),
-        (true, false) => Form::Tsv,
-        (false, true) => Form::Labels,
-        (false, false) => Form::Plain,
-    };
+    let form = form(given)?;
     let take = take(given)?;
     let from = match given.is_empty() {
         true => None,
@@ -294,12 +407,14 @@ fn notes(given: &Given) -> Result<Notes, String> {
 
 fn report(given: &Given) -> Result<Report, String> {
     let take = take(given)?;
+    let song = song(given)?;
     given.files.iter().try_for_each(not_a_dash)?;
     if given.files.is_empty() {
         return Err("IN.wav is missing".to_string());
     }
     Ok(Report {
         take,
+        song,
         from: given.files.iter().map(PathBuf::from).collect(),
         tsv: given.has("tsv"),
     })
@@ -384,6 +499,82 @@ mod tests {
     }
 
     #[test]
+    fn the_line_that_is_played() {
+        assert_eq!(tuned(&["a", "b"]).song, None);
+        let song = |words: &[&str]| tuned(&[&["a", "b", "--midi", "m"], words].concat()).song;
+        let plain = || Song {
+            file: "m".into(),
+            channel: None,
+            track: None,
+            transpose: 0,
+            offset: 0,
+            octave: "nearest",
+        };
+        assert_eq!(song(&[]), Some(plain()));
+        let words = "--channel 16 --track 3 --transpose -12 --offset +250 --octave exact";
+        let right = Song {
+            channel: Some(16),
+            track: Some(3),
+            transpose: -12,
+            offset: 250,
+            octave: "exact",
+            ..plain()
+        };
+        let words: Vec<&str> = words.split(' ').collect();
+        assert_eq!(song(&words), Some(right));
+    }
+
+    #[test]
+    fn what_is_wrong_with_the_line() {
+        for name in OF_MIDI {
+            let why = wrong(&["tune", "a", "b", &format!("--{name}"), "1"]);
+            let right = format!("--{name} is about a MIDI file: it needs --midi FILE.mid");
+            assert_eq!(why, right);
+        }
+        for (option, value, why) in [
+            ("--channel", "0", "--channel is 1 to 16, not '0'"),
+            ("--channel", "17", "--channel is 1 to 16, not '17'"),
+            (
+                "--track",
+                "0",
+                "--track is a whole number from 1 on, not '0'",
+            ),
+            (
+                "--transpose",
+                "128",
+                "--transpose is a whole number from -127 to 127, not '128'",
+            ),
+            (
+                "--transpose",
+                "1.5",
+                "--transpose is a whole number from -127 to 127, not '1.5'",
+            ),
+            (
+                "--offset",
+                "-100000001",
+                "--offset is a whole number from -100000000 to 100000000, not '-100000001'",
+            ),
+            (
+                "--octave",
+                "lower",
+                "--octave is nearest or exact, not 'lower'",
+            ),
+            (
+                "--scale",
+                "Am",
+                "--scale and --midi both say which notes are wanted: give one",
+            ),
+        ] {
+            assert_eq!(
+                wrong(&["tune", "a", "b", "--midi", "m", option, value]),
+                why
+            );
+        }
+        let why = wrong(&["tune", "a", "b", "--midi", "-"]);
+        assert_eq!(why, "--midi needs a file, and '-' is none here");
+    }
+
+    #[test]
     fn a_file_each_in_a_folder() {
         let tune = tuned(&["-o", "D", "x/a.wav", "b.wav"]);
         let to: Vec<_> = tune.jobs.iter().map(|job| job.to.clone()).collect();
@@ -425,7 +616,32 @@ mod tests {
             Ok(Request::Notes(Notes { from: None, .. }))
         ));
         assert_eq!(notes(&["--decay", "7"]), Err("IN.wav is missing".into()));
-        assert!(notes(&["a", "--tsv", "--labels"]).is_err());
+        for (words, why) in [
+            (
+                ["--tsv", "--labels"].as_slice(),
+                "--tsv and --labels are two forms: give one",
+            ),
+            (
+                &["--midi", "m", "--tsv"],
+                "--tsv and --midi are two forms: give one",
+            ),
+            (&["-f"], "-f is about OUT.mid: it needs --midi OUT.mid"),
+            (
+                &["--midi", "-"],
+                "--midi needs a file, and '-' is none here",
+            ),
+        ] {
+            assert_eq!(notes(&[&["a"], words].concat()), Err(why.to_string()));
+        }
+        for over in [false, true] {
+            let force = if over { &["-f"][..] } else { &[] };
+            let form = match notes(&[&["a", "--midi", "m"], force].concat()) {
+                Ok(Request::Notes(notes)) => notes.form,
+                other => panic!("{other:?}"),
+            };
+            let to = PathBuf::from("m");
+            assert_eq!(form, Form::Midi { to, over });
+        }
     }
 
     #[test]
@@ -433,11 +649,13 @@ mod tests {
         for (words, files) in [
             (&["tune", "a", "b"][..], &["a"][..]),
             (&["tune", "-", "b"], &[]),
+            (&["tune", "a", "b", "--midi", "m"], &["m", "a"]),
             (&["check", "a", "b"], &["a", "b"]),
             (&["mend", "a"], &["a"]),
             (&["notes", "a"], &["a"]),
             (&["report", "a"], &["a"]),
             (&["report", "a", "b"], &[]),
+            (&["report", "a", "b", "--midi", "m"], &["m"]),
         ] {
             let request = request(words).expect("right words");
             let files: Vec<&Path> = files.iter().map(Path::new).collect();

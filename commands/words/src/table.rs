@@ -7,6 +7,7 @@
 pub enum Offer {
     Nothing,
     Waves,
+    Songs,
     Folders,
     Words(&'static [&'static str]),
 }
@@ -140,6 +141,44 @@ const VOICE: &[Opt] = &[valued(
     "a backing voice N semitones from the wanted note, -12 to 12; up to three of them",
 )];
 
+/// The octaves that a key is sent in: the first is the one without words.
+pub const OCTAVES: &[&str] = &["nearest", "exact"];
+
+/// What needs `--midi` beside it.
+pub const OF_MIDI: &[&str] = &["channel", "track", "transpose", "offset", "octave"];
+
+/// The line that takes are tuned to.
+const MIDI: &[Opt] = &[
+    Opt {
+        offer: Offer::Songs,
+        ..valued(
+            "midi",
+            "FILE.mid",
+            "tune to the keys of a Standard MIDI File, and not to a scale",
+        )
+    },
+    valued("channel", "N", "only the notes of channel N, 1 to 16 (all)"),
+    valued("track", "N", "only the notes of track N; the first is 1 (all)"),
+    valued(
+        "transpose",
+        "N",
+        "the notes N semitones up, or down where it is below 0, -127 to 127 (0)",
+    ),
+    valued(
+        "offset",
+        "MS",
+        "the notes MS whole milliseconds later, or earlier where it is below 0 (0)",
+    ),
+    Opt {
+        offer: Offer::Words(OCTAVES),
+        ..valued(
+            "octave",
+            "WORD",
+            "nearest: each key in the octave nearest to what was sung there; exact: as the file says (nearest)",
+        )
+    },
+];
+
 const OUT: &[Opt] = &[
     Opt {
         short: Some('o'),
@@ -175,6 +214,15 @@ const COMMON: &[Opt] = &[
 ];
 
 const NOTES: &[Opt] = &[
+    Opt {
+        offer: Offer::Songs,
+        ..valued(
+            "midi",
+            "OUT.mid",
+            "write the notes as a Standard MIDI File, and print how many",
+        )
+    },
+    flag('f', "force", "write over OUT.mid if it exists"),
     valued("min", "MS", "leave out notes shorter than MS milliseconds"),
     switch(
         "labels",
@@ -197,6 +245,8 @@ const REFUSED: (u8, &str) = (
     "a take or a setting is refused; standard output has the number of the refusal (docs/NUMBERS.md)",
 );
 
+const A_LINE: &str = "With --midi the key held at a place is the note there, the latest where there are several. Where none is held nothing is tuned. The file has format 0 or 1. It is read before the first take; one that is refused or cannot be read ends the command before anything is written or printed.";
+
 const A_TAKE: &str = "A take is a WAVE file: PCM, one channel, 16 bits, 44,100 or 48,000 samples a second, up to 1,000,000,000 samples.";
 
 pub const COMMANDS: &[Command] = &[
@@ -204,7 +254,7 @@ pub const COMMANDS: &[Command] = &[
         name: "tune",
         short: "tune a take, also with backing voices",
         forms: &["[OPTION..] IN.wav OUT.wav", "[OPTION..] -o DIR IN.wav .."],
-        options: &[TAKE, VOICE, OUT, TSV, COMMON],
+        options: &[TAKE, VOICE, MIDI, OUT, TSV, COMMON],
         about: &[
             "Tunes the take in IN.wav and writes OUT.wav: the same sample rate, as many samples, and a header of 44 bytes.",
             A_TAKE,
@@ -213,6 +263,8 @@ pub const COMMANDS: &[Command] = &[
         more: &[
             "Latency: OUT lies 4 to 1,004 samples behind IN (at most 22.8 ms at 44,100), about 470 on average while singing is tuned, since whole cycles are repeated and dropped. The summary ends with the take's mean and greatest, taken at the end of each block of 512 samples.",
             "Each voice has a file of its own: OUT-1.wav for the first --voice, OUT-2.wav for the second. It is silent where no note is wanted. OUT is the same with and without voices.",
+            A_LINE,
+            "With --midi the summary ends with the keys that were delivered, and --tsv has them as a last column. Standard error says what may not be meant: notes on several channels, notes left out, keys behind the take's end.",
             "OUT appears when it is whole, and not before: it is written next to it as .tune-PROCESS-N.part and renamed when it is on the disk. With -f it keeps mode and owner of the file it replaces. OUT is never IN. If one file of a set cannot take its place, the others are as they were.",
             "Chunks of IN other than fmt and data are not in OUT. Standard error names them, with the time reference of a bext chunk.",
             "With -o each line names its IN. A file that is refused or cannot be read does not stop the others. The status is then 3 if any file could not be read or written, else 2 if any was refused, else 5 if any OUT exists.",
@@ -221,7 +273,10 @@ pub const COMMANDS: &[Command] = &[
             (0, "all is written"),
             WRONG,
             REFUSED,
-            (3, "a file cannot be read or written"),
+            (
+                3,
+                "a file cannot be read or written, or a MIDI file is refused",
+            ),
             UNBUILT,
             (5, "OUT exists; -f writes over it"),
         ],
@@ -238,15 +293,17 @@ pub const COMMANDS: &[Command] = &[
         ],
         more: &[
             "With --tsv a row also has its end in seconds and cents: how far the singing was from the note, on average over the row, above it if positive. That takes about twenty times as long.",
+            "In OUT.mid a tick is a sample, and each row is a note on and a note off at its samples. A list has any length there. daxfolin tune --midi OUT.mid IN.wav tunes the take as the list says: without --min, to the very samples that the scale of the list gives. OUT.mid appears when it is whole, and not before.",
             "There are 4,096 rows at most; standard error says how many more were left out.",
             "Without words it reads the lines of daxfolin lines from standard input and prints the rows of each take when it ends: note, first sample and length, then a line with end, the rows, and those left out.",
         ],
         statuses: &[
-            (0, "the rows are printed"),
+            (0, "the rows are printed, or OUT.mid is written"),
             WRONG,
             REFUSED,
             (3, "a file cannot be read, or the rows cannot be written"),
             UNBUILT,
+            (5, "OUT.mid exists; -f writes over it"),
         ],
         offer: Offer::Waves,
     },
@@ -254,12 +311,13 @@ pub const COMMANDS: &[Command] = &[
         name: "report",
         short: "figures of takes, and their total",
         forms: &["[OPTION..] IN.wav ..", "<LINES"],
-        options: &[TAKE, TSV, COMMON],
+        options: &[TAKE, MIDI, TSV, COMMON],
         about: &[
             "Prints a line for each take, tuned as daxfolin tune would, and a last line for the total: samples, samples with a pitch, cycles repeated, cycles dropped, the sum over all samples of the distance of the rate from 65536 (the rate of what is not altered), and the mean of that distance as whole part and remainder; tab-separated.",
             A_TAKE,
         ],
         more: &[
+            A_LINE,
             "Of several files, one that is refused has the number of its refusal as its line, and one that cannot be read has - as its line; the others have their figures, and the total is theirs. Of a single file that is refused the number is printed alone. Nothing is printed before all is read. A report has 1,000 takes at most; of more, 28 is printed alone.",
             "Without words it reads the lines of daxfolin lines from standard input and prints the same figures of their takes. Its status is then 0 if all was read and printed, 1 if a read or a write failed, 2 if the program could not be built.",
         ],
@@ -267,7 +325,10 @@ pub const COMMANDS: &[Command] = &[
             (0, "the report is printed"),
             WRONG,
             REFUSED,
-            (3, "a file cannot be read, or the report cannot be written"),
+            (
+                3,
+                "a file cannot be read, a MIDI file is refused, or the report cannot be written",
+            ),
             UNBUILT,
         ],
         offer: Offer::Waves,
