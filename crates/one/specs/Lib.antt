@@ -1,5 +1,9 @@
 pub mod Tuners
 pub mod Parted
 pub mod Starts
+pub mod Following
 pub mod Voices
+pub mod Beside
+pub mod Outputs
 pub mod Verdicts
+pub mod Taking

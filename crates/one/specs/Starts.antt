@@ -44,20 +44,18 @@ module _ (hertz : ℕ) (s : Settings) (listed : ℕ) (zs : List ℤ) (n : ℕ) w
   unfolding beginNumber
   number-on e f = cond-yes _ _ (eq-eqb _ 0 e) ∙ cond-yes _ _ f
 
-  -- at most three voices are taken
-  pub number-few : beginNumber hertz s listed zs n ≡ 0 → length zs ≤ 3
-  number-few e =
+  -- where it is 0 neither sample rate, settings nor intervals are refused
+  pub number-zero : beginNumber hertz s listed zs n ≡ 0 → (startNumber hertz s ≡ 0) × (intervalsNumber zs ≡ 0)
+  number-zero e =
       by (eqb (startNumber hertz s) 0)
-      (λ a. by (storeFits listed n)
-      (λ f. number-says zs (sym (number-on (eqb-zero a) f) ∙ e) .1)
-      (λ f. absurd (let q = number-17 (eqb-zero a) f in omega arith)))
-      (λ a. absurd (nonzero a (sym (number-own (nonzero a)) ∙ e)))
-    where
-      eqb-zero : eqb (startNumber hertz s) 0 ≡ true → startNumber hertz s ≡ 0
-      eqb-zero a = eqb-true (startNumber hertz s) 0 a
+      (λ a. let z = eqb-true (startNumber hertz s) 0 a in by (storeFits listed n)
+      (λ f. (z, sym (number-on z f) ∙ e))
+      (λ f. absurd (let q = number-17 z f in omega arith)))
+      (λ a. let h = eqb-false (startNumber hertz s) 0 a in absurd (h (sym (number-own h) ∙ e)))
 
-      nonzero : eqb (startNumber hertz s) 0 ≡ false → startNumber hertz s ≡ 0 → ⊥
-      nonzero a = eqb-false (startNumber hertz s) 0 a
+  -- so that at most three voices are taken
+  pub number-few : beginNumber hertz s listed zs n ≡ 0 → length zs ≤ 3
+  number-few e = number-says zs (number-zero e .1) .1
 
 -- ---- no second answer
 

@@ -45,7 +45,7 @@ forceOf t = let n = t .numbers in record { settings = n .settings; key = n .keyb
 abbrev pub layoutNumber : ℕ
 layoutNumber = 40000
 
--- voice j; past the last, one in unison
+-- voice j; past the last, one whose numbers are 0
 abbrev pub voiceAt : List Voice → ℕ → Voice
 voiceAt vs j = getD vs j (record { interval = 0; behind = 0 })
 
@@ -104,6 +104,10 @@ freshNumbers hertz s listed chosen vs =
       voices = vs;
     }
 
+-- the places of all outputs that are kept
+abbrev pub keptPlaces : ℕ
+keptPlaces = 4 * longestBlock
+
 -- the tuner with these numbers that has heard nothing and keeps no outputs
 unfoldable pub silentTuner : Numbers → Tuner
 silentTuner n =
@@ -113,7 +117,7 @@ silentTuner n =
       correlations = replicate eighthLags (pos 0);
       heard = replicate keptSamples (pos 0);
       eighths = replicate keptEighths (pos 0);
-      outs = replicate (4 * longestBlock) (pos 0);
+      outs = replicate keptPlaces (pos 0);
     }
 
 -- with the voices of these intervals

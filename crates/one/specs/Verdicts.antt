@@ -1,18 +1,21 @@
 -- Laws of the number that answers a block: no second number, and what follows from one.
-use mathlib.Core.Path.{_≡_, refl, sym, ap, _∙_}
+use mathlib.Core.Path.{_≡_, refl, sym, ap, subst, _∙_}
 use mathlib.Core.Bool.{cond}
 use mathlib.Core.List.{List}
-use Prim.Native.Nat.{ℕ, zero, suc, _+_, _≤_, _<_}
+use Prim.Native.Nat.{ℕ, zero, suc, _+_, _-_, _≤_, _<_}
 use native.Mathlib.Omega.{arith}
+use borrow.Author.Tests.{leb-true}
 use lib.Dec.{eqb, leb}
 use lib.IntN.{ℤ}
-use lib.ListN.{length}
+use lib.ListN.{length, length-drop}
+use Rattle.whole.specs.Tests.{by, cond-no}
 use Rattle.answers.specs.Numbering.{Numbered, neither, other, again, full, new}
 use Rattle.tuner.specs.Verdicts.{Step, isn't, is, step-one}
 use Rattle.one.specs.declared.Numbers.{Numbers}
 use Rattle.one.specs.declared.Tuner.{Tuner}
 use Rattle.one.specs.declared.Answer.{Answer}
-use Rattle.one.specs.Tuners.{Good, keptOuts, Roomy, written, IsLast, lastSamples, nextNumber, Fits, Verdict, record-out-of-range, block-empty, block-over-512, output-short, number-neither, other-samples, given-again, take-full, taken, afterBlock, listAfter, answerBy, Took}
+use Rattle.one.specs.Tuners.{Good, keptOuts, Roomy, written, IsLast, lastSamples, nextNumber, Fits, Verdict, record-out-of-range, block-empty, block-over-512, output-short, number-neither, other-samples, given-again, take-full, taken, afterBlock, listAfter, plain, counted, answerBy, Took, withNumbers}
+use Rattle.one.specs.Following.{givenBy}
 
 module _ {t : Tuner} {k : ℕ} {xs : List ℤ} {os : List (List ℤ)} where
   pub by-number : {v : ℕ} → Fits t xs os → Numbered (t .numbers .count) (t .numbers .last .number) (t .numbers .last .length) (t .heard) k xs v → Verdict t k xs os v
@@ -105,3 +108,42 @@ module _ {t : Tuner} {k : ℕ} {xs : List ℤ} {os : List (List ℤ)} where
         p .outs ∙ (λ i. cond (leb (e i) 1) (written (length xs) (keptOuts (same i)) os) os) ∙ sym (q .outs),
         p .rows ∙ ap (λ (v : ℕ). cond (eqb v 0) (listAfter t xs store .store) store) e ∙ sym (q .rows),
       )
+
+  -- a block by its number, from what was kept of the last one; what it leaves may be handed on as other numbers that are the same
+  pub took-by : {v : ℕ} {store : List ℕ} {t′ : Tuner} {n′ : Numbers} {a : Answer} {os′ : List (List ℤ)} {store′ : List ℕ} → Verdict t k xs os v → t′ ≡ cond (eqb v 0) (afterBlock t k xs store) t → n′ ≡ t′ .numbers
+      → (v ≤ 1 → t′ .numbers .last .length ≡ length xs) → a ≡ answerBy v (t′ .numbers .last .length) (t′ .numbers) → os′ ≡ givenBy v (t′ .numbers .last .length) (keptOuts t′) os → store′ ≡ cond (eqb v 0) (listAfter t xs store .store) store
+      → Took t k xs os store (withNumbers t′ n′) a os′ store′
+  unfolding answerBy
+  took-by {v} {store} {t′} {n′} {a} {os′} {store′} p e same long b o r =
+      let n = t′ .numbers .last .length in
+      let whole : Took t k xs os store t′ a os′ store′ =
+      record {
+        number = v;
+        verdict = p;
+        tuner = e;
+        answer =
+            b
+            ∙ by (leb v 1) (λ y. ap (λ (m : ℕ). answerBy v m (t′ .numbers)) (long (leb-true v 1 y)))
+            (λ y. cond-no (counted v n (t′ .numbers)) (plain v (t′ .numbers)) y ∙ sym (cond-no (counted v (length xs) (t′ .numbers)) (plain v (t′ .numbers)) y));
+        outs =
+            o
+            ∙ by (leb v 1) (λ y. ap (λ (m : ℕ). givenBy v m (keptOuts t′) os) (long (leb-true v 1 y)))
+            (λ y. cond-no (written n (keptOuts t′) os) os y ∙ sym (cond-no (written (length xs) (keptOuts t′) os) os y));
+        rows = r;
+      } in
+      subst (λ (m : Numbers). Took t k xs os store (withNumbers t′ m) a os′ store′) (sym same) whole
+
+-- the last block's length is that of the samples given again
+pub again-long : {t : Tuner} {k : ℕ} {xs : List ℤ} {os : List (List ℤ)} {v : ℕ} → Verdict t k xs os v → v ≡ 1 → length (t .heard) ≡ 1764 → t .numbers .last .length ≤ 512 → t .numbers .last .length ≡ length xs
+again-long {t} {xs = xs} p e l h = sym (ap length (verdict-again p e) ∙ length-drop (1764 - t .numbers .last .length) (t .heard) ∙ omega (arith, l, h))
+
+-- what a block that is taken leaves of the last one's length, and of how many voices are chosen
+pub after-last : (t : Tuner) (k : ℕ) (xs : List ℤ) (store : List ℕ) → (afterBlock t k xs store .numbers .last .length ≡ length xs) × (afterBlock t k xs store .numbers .chosen ≡ t .numbers .chosen)
+unfolding afterBlock
+after-last t k xs store = (refl, refl)
+
+-- at most 1, and not 0
+pub one-left : (v : ℕ) → (v ≡ 0 → ⊥) → v ≤ 1 → v ≡ 1
+one-left zero n h = absurd (n refl)
+one-left (suc zero) n h = refl
+one-left (suc (suc v)) n h = absurd (omega arith)

@@ -3,26 +3,44 @@ use keyboard::Keyboard;
 use lists::Listing;
 use meters::Meter;
 use pitch::Pitch;
+use reading::Growth;
 use record::Head;
 use rules::CD_RATE;
 use rules::EIGHTH_LAGS;
+use rules::InForce;
 use rules::KEPT_EIGHTHS;
 use rules::KEPT_SAMPLES;
 use rules::LONGEST_BLOCK;
+use rules::OPEN_EIGHTHS;
+use rules::OPEN_SAMPLES;
 use rules::Settings;
+use rules::Tone;
+use steps::Progress;
 use voices::UNISON;
 ghost use mathlib.Core.Path.{_≡_};
 ghost use mathlib.Core.List.{List, [], _∷_, map};
 ghost use Prim.Native.Nat.{ℕ, _+_, _≤_, _<_};
 ghost use lib.IntN.{ℤ, pos};
-ghost use lib.ListN.{length, getD};
+ghost use lib.ListN.{length, getD, take};
 ghost use Rattle.whole.specs.Tests.{Decides};
-ghost use Rattle.rules.specs.Rules.{startNumber, refuse};
+ghost use Rattle.rules.specs.Rules.{farthest, away, freshRate, greatestRate, takeLimit, longestBlock, keptSamples, startNumber, refuse};
+ghost use Rattle.rules.specs.Facts.{SampleRate};
 ghost use Rattle.record.specs.Parts.{heardOf, Stores};
-ghost use Rattle.lists.specs.Lists.{ListingIn};
+ghost use Rattle.lists.specs.Lists.{sheet, ListingIn};
+ghost use Rattle.lists.specs.Counting.{counted};
+ghost use Rattle.lists.specs.Hushes.{hushed};
+ghost use Rattle.reading.specs.Gliding.{PacedAll, Glided};
+ghost use Rattle.reports.specs.Counting.{distanceIn};
+ghost use Rattle.voices.specs.Singing.{TrackedAll};
 ghost use Rattle.singers.specs.Singers.{keptInterval};
+ghost use Rattle.steps.specs.Running.{tones};
+ghost use Rattle.steps.specs.Going.{Going};
 ghost use Rattle.one.specs.Parted.{tunerOf};
-ghost use Rattle.one.specs.Tuners.{layoutNumber, VoicesIn, Good, levelVoice, chosenVoices, freshNumbers, silentTuner, freshTuner, defaultTuner, keptList, storeFits, beginNumber, Started, withNumbers, withSettings, withBytes, begunAgain, Changed, Keyed, Reset, Metered};
+ghost use Rattle.one.specs.Taking.{forceBy, beginsAt, Hears, Follows, Followed};
+ghost use Rattle.one.specs.declared.Numbers.{Numbers};
+ghost use Rattle.one.specs.Following.{RatesUpto, noOut, SangBeside, AllSung, listedOf, four, writtenBy, givenBy, Judged};
+ghost use Rattle.one.specs.Tuners.{layoutNumber, keptPlaces, VoiceIn, VoicesIn, parts, Roomy, written, plain, answerBy, listAfter, afterBlock, Took, Good, levelVoice, chosenVoices};
+ghost use Rattle.one.specs.Tuners.{freshNumbers, silentTuner, freshTuner, defaultTuner, keptList, storeFits, beginNumber, Started, withNumbers, withSettings, withBytes, begunAgain, Changed, Keyed, Reset, Metered};
 
 // The number of this layout of the record.
 pub const LAYOUT: u64 = 40000;
@@ -79,23 +97,35 @@ pub struct Tuner {
     pub outs: [i16; KEPT_OUTS],
 }
 
-// Document 01's number and counts; samples with a period, and the sum of the rate's distance from 65536; rows of the list, and those left out. 24 bytes.
+// Document 01's number and counts; samples with a period, and the sum of the rate's distance from 65536; rows of the list, and those left out.
 #[repr(C)]
 pub struct Answer {
     pub number: u32,
     pub written: u16,
     pub repeated: u16,
     pub dropped: u16,
-    pub pitched: u16,
+    pub pitched: u32,
     pub strayed: u32,
     pub rows: u32,
     pub left: u32,
+}
+
+// What a block leaves beside the lent arrays, and its answer.
+pub struct Left {
+    pub numbers: Numbers,
+    pub answer: Answer,
 }
 
 // What a call that has no more to say than its number leaves beside the lent arrays.
 pub struct Told {
     pub numbers: Numbers,
     pub number: u32,
+}
+
+// What a block leaves, and its answer.
+pub struct Taken {
+    pub tuner: Tuner,
+    pub answer: Answer,
 }
 
 // What a call that has no more to say than its number leaves.
@@ -176,6 +206,472 @@ pub fn right(
         head,
         n.last.length,
     )
+}
+
+// ---- answers
+
+// The answer with this number, counts 0, and the list that the numbers have.
+pub fn plain(number: u32, list: Listing) -> Answer
+    ensures { λ r. ⌜ ((n : Numbers) → n .list ≡ list → r ≡ plain number n) ⌝ }
+{
+    Answer {
+        number: number,
+        written: 0,
+        repeated: 0,
+        dropped: 0,
+        pitched: 0,
+        strayed: 0,
+        rows: list.rows,
+        left: list.left,
+    }
+}
+
+// 0 and 1 answer with what is then kept of the last block, all others with counts 0.
+fn answer_by(number: u32, n: Numbers) -> Answer
+    ensures { λ r. ⌜ r ≡ answerBy number (n .last .length) n ⌝ }
+{
+    let list = n.list;
+    if number > 1 {
+        return plain(number, list);
+    }
+    Answer {
+        number: number,
+        written: n.last.length,
+        repeated: n.last.repeated,
+        dropped: n.last.dropped,
+        pitched: n.last.pitched,
+        strayed: n.last.strayed,
+        rows: list.rows,
+        left: list.left,
+    }
+}
+
+// ---- a block is taken
+
+// How far a rate lies from 65536.
+fn astray(rate: u32) -> u32
+    requires { ⌜ rate ≤ greatestRate ⌝ }
+    ensures { λ r. ⌜ (r ≡ away rate freshRate) × (r ≤ 65536) ⌝ }
+{
+    if rate < rules::FRESH_RATE {
+        return rules::FRESH_RATE - rate;
+    }
+    rate - rules::FRESH_RATE
+}
+
+// Over the first n samples, how far their rates lie from 65536.
+fn strayed(rates: &[u32; LONGEST_BLOCK], n: usize) -> u32
+    requires { ⌜ (n ≤ longestBlock) × (length (now rates) ≡ longestBlock) × RatesUpto n (now rates) ⌝ }
+    ensures { λ r. ⌜ r ≡ distanceIn (take n (now (rates .entry))) ⌝ }
+{
+    let mut sum: u32 = 0;
+    let mut i: usize = 0;
+    while i < n {
+        sum += astray(rates[i]);
+        i += 1;
+    }
+    sum
+}
+
+// A voice sings beside b samples that stand after the first 1764 of s; its output goes to its part of what is kept.
+fn sung(
+    v: Voice,
+    hertz: u32,
+    periods: &[u32; LONGEST_BLOCK],
+    notes: &[u32; LONGEST_BLOCK],
+    s: &[i16],
+    b: usize,
+    out: &mut [i16],
+) -> Voice
+    requires { ⌜ VoiceIn v × SampleRate hertz × TrackedAll b (now periods) (now notes) × (keptSamples + b ≤ length (now s)) × (b ≤ longestBlock) × (length (now out) ≡ longestBlock) ⌝ }
+    ensures { λ r. ⌜ SangBeside hertz (now (periods .entry)) (now (notes .entry)) (now (s .entry)) b v r (now (out .exit)) ⌝ }
+{
+    copying::clear(out);
+    let behind = voices::sing(
+        v.behind,
+        hertz,
+        v.interval,
+        periods,
+        notes,
+        s,
+        KEPT_SAMPLES,
+        b,
+        out,
+    );
+    Voice {
+        interval: v.interval,
+        behind: behind,
+    }
+}
+
+// Each voice that is chosen sings, by itself.
+fn all_sung(
+    chosen: u32,
+    vs: [Voice; 3],
+    hertz: u32,
+    periods: &[u32; LONGEST_BLOCK],
+    notes: &[u32; LONGEST_BLOCK],
+    s: &[i16],
+    b: usize,
+    outs: &mut [i16],
+) -> [Voice; 3]
+    requires { ⌜ VoicesIn chosen vs × SampleRate hertz × TrackedAll b (now periods) (now notes) × (keptSamples + b ≤ length (now s)) × (b ≤ longestBlock) × (length (now outs) ≡ keptPlaces) ⌝ }
+    ensures sung { λ r. ⌜ AllSung hertz (now (periods .entry)) (now (notes .entry)) (now (s .entry)) b chosen chosen vs (now (outs .entry)) r (now (outs .exit)) ⌝ }
+    ensures long { λ r. ⌜ length (now (outs .exit)) ≡ keptPlaces ⌝ }
+{
+    let mut r = vs;
+    let mut j: usize = 0;
+    while j < chosen as usize {
+        let v = r[j];
+        let from = LONGEST_BLOCK * (j + 1);
+        let to = from + LONGEST_BLOCK;
+        r[j] = sung(v, hertz, periods, notes, s, b, &mut outs[from..to]);
+        j += 1;
+    }
+    r
+}
+
+// Of b samples, those without a period have no note. Where all of them have one, as so many have, there is nothing to hush.
+fn hush_if(notes: &mut [u32; LONGEST_BLOCK], periods: &[u32; LONGEST_BLOCK], b: usize, pitched: u32)
+    requires { ⌜ (b ≤ longestBlock) × (length (now notes) ≡ longestBlock) × (length (now periods) ≡ longestBlock) × (pitched + counted 0 (now periods) b ≡ b) ⌝ }
+    ensures { λ r. ⌜ now (notes .exit) ≡ hushed b (now (periods .entry)) (now (notes .entry)) ⌝ }
+{
+    if b as u32 <= pitched {
+        return;
+    }
+    lists::hush(notes, periods, b);
+}
+
+// The list of a tuner that keeps one goes on with the notes sung of b samples, so many of them with a period.
+fn listed(
+    keeps: u32,
+    list: Listing,
+    tone: Tone,
+    count: u64,
+    periods: &[u32; LONGEST_BLOCK],
+    notes: &mut [u32; LONGEST_BLOCK],
+    b: usize,
+    pitched: u32,
+    store: &mut [u32],
+) -> Listing
+    requires { ⌜ (b ≤ longestBlock) × (length (now notes) ≡ longestBlock) × (length (now periods) ≡ longestBlock) × (count + b ≤ takeLimit) × ListingIn count list × (pitched + counted 0 (now periods) b ≡ b) ⌝ }
+    ensures { λ r. ⌜ sheet r (now (store .exit)) ≡ listedOf keeps tone count list (now (store .entry)) b (now (periods .entry)) (now (notes .entry)) ⌝ }
+{
+    if keeps == 0 {
+        return list;
+    }
+    hush_if(notes, periods, b, pitched);
+    lists::more(list, lists::sung(tone), notes, b, count, store)
+}
+
+// The lead reads at the rates of b samples; its output goes to its part of what is kept.
+fn led(
+    behind: u32,
+    rates: &[u32; LONGEST_BLOCK],
+    periods: &[u32; LONGEST_BLOCK],
+    s: &[i16],
+    b: usize,
+    out: &mut [i16],
+) -> Growth
+    requires { ⌜ (behind ≤ farthest) × PacedAll b (now rates) (now periods) × (keptSamples + b ≤ length (now s)) × (b ≤ longestBlock) × (length (now out) ≡ longestBlock) ⌝ }
+    ensures { λ r. ⌜ Glided behind (now (rates .entry)) (now (periods .entry)) (now (s .entry)) keptSamples b noOut (now (out .exit)) r ⌝ }
+{
+    copying::clear(out);
+    reading::glide(behind, rates, periods, s, KEPT_SAMPLES, b, out)
+}
+
+// The samples of s after the first 1764, b of them, are heard: the tone after each.
+fn hear(
+    n: Numbers,
+    y: &mut [i16; OPEN_EIGHTHS],
+    e: &mut [u64; EIGHTH_LAGS],
+    h: &mut [i64; EIGHTH_LAGS],
+    s: &[i16],
+    b: usize,
+    periods: &mut [u32; LONGEST_BLOCK],
+    notes: &mut [u32; LONGEST_BLOCK],
+    rates: &mut [u32; LONGEST_BLOCK],
+) -> Progress
+    requires { ⌜ Hears n (now y) (now e) (now h) (now s) b (tones (now periods) (now notes) (now rates)) ⌝ }
+    ensures { λ r. ⌜ Going (forceBy n) (now (s .entry)) keptSamples (now (y .entry)) (tones (now (periods .entry)) (now (notes .entry)) (now (rates .entry))) (beginsAt n) b (now (y .exit)) (now (e .exit)) (now (h .exit)) (tones (now (periods .exit)) (now (notes .exit)) (now (rates .exit))) r ⌝ }
+{
+    let settings = n.settings;
+    let f = InForce {
+        settings: settings,
+        key: n.keyboard.key,
+        hertz: n.hertz as u32,
+    };
+    let v = n.pitch;
+    let p = Progress {
+        count: n.count as u32,
+        places: KEPT_EIGHTHS,
+        behind: n.behind as u32,
+        repeated: 0,
+        dropped: 0,
+        pitch: v,
+    };
+    steps::hear_all(p, f, y, e, h, s, KEPT_SAMPLES, b, periods, notes, rates)
+}
+
+// The tones of a block are followed by the lead's reading, the voices, the list and the figures: the numbers after it.
+fn follow(
+    n: Numbers,
+    q: Progress,
+    number: u16,
+    periods: &[u32; LONGEST_BLOCK],
+    notes: &mut [u32; LONGEST_BLOCK],
+    rates: &[u32; LONGEST_BLOCK],
+    s: &[i16],
+    b: usize,
+    outs: &mut [i16],
+    store: &mut [u32],
+) -> Numbers
+    requires { ⌜ Follows n q (tones (now periods) (now notes) (now rates)) (now s) b (now outs) ⌝ }
+    ensures followed { λ r. ⌜ Followed n q number (tones (now (periods .entry)) (now (notes .entry)) (now (rates .entry))) (now (s .entry)) b (now (outs .entry)) (now (store .entry)) r (now (outs .exit)) (now (store .exit)) ⌝ }
+    ensures long { λ r. ⌜ length (now (outs .exit)) ≡ keptPlaces ⌝ }
+{
+    let g = led(
+        n.behind as u32,
+        rates,
+        periods,
+        s,
+        b,
+        &mut outs[..LONGEST_BLOCK],
+    );
+    let last = Last {
+        number: number,
+        length: b as u16,
+        repeated: g.repeated as u16,
+        dropped: g.dropped as u16,
+        pitched: b as u32 - lists::count_of(periods, b, 0),
+        strayed: strayed(rates, b),
+    };
+    let vs = n.voices;
+    let beside = all_sung(n.chosen, vs, n.hertz as u32, periods, notes, s, b, outs);
+    let list = n.list;
+    let tone = n.pitch.tone;
+    let goes_on = listed(
+        n.listed,
+        list,
+        tone,
+        n.count,
+        periods,
+        notes,
+        b,
+        last.pitched,
+        store,
+    );
+    let v = q.pitch;
+    let mut r = n;
+    r.count = q.count as u64;
+    r.pitch = pitch::settled(v);
+    r.behind = g.behind as u64;
+    r.last = last;
+    r.voices = beside;
+    r.list = goes_on;
+    r
+}
+
+// A block is taken.
+pub fn take(
+    n: Numbers,
+    energies: &mut [u64; EIGHTH_LAGS],
+    correlations: &mut [i64; EIGHTH_LAGS],
+    heard: &mut [i16; KEPT_SAMPLES],
+    eighths: &mut [i16; KEPT_EIGHTHS],
+    outs: &mut [i16],
+    number: u16,
+    samples: &[i16],
+    store: &mut [u32],
+) -> Numbers
+    requires good { ⌜ Good (tunerOf n (now energies) (now correlations) (now heard) (now eighths) (now outs)) × Stores (heardOf (n .count) (now energies) (now correlations) (now heard) (now eighths)) × (length (now outs) ≡ keptPlaces) ⌝ }
+    requires fits { ⌜ (0 < length (now samples)) × (length (now samples) ≤ longestBlock) × (n .count + length (now samples) ≤ takeLimit) ⌝ }
+    ensures tuner { λ r. ⌜ tunerOf r (now (energies .exit)) (now (correlations .exit)) (now (heard .exit)) (now (eighths .exit)) (now (outs .exit))
+        ≡ afterBlock (tunerOf n (now (energies .entry)) (now (correlations .entry)) (now (heard .entry)) (now (eighths .entry)) (now (outs .entry))) number (now (samples .entry)) (now (store .entry)) ⌝ }
+    ensures rows { λ r. ⌜ now (store .exit) ≡ listAfter (tunerOf n (now (energies .entry)) (now (correlations .entry)) (now (heard .entry)) (now (eighths .entry)) (now (outs .entry))) (now (samples .entry)) (now (store .entry)) .store ⌝ }
+    ensures stores { λ r. ⌜ Stores (heardOf (r .count) (now (energies .exit)) (now (correlations .exit)) (now (heard .exit)) (now (eighths .exit))) × (length (now (outs .exit)) ≡ keptPlaces) ⌝ }
+{
+    let b = samples.len();
+    let mut s = [0i16; OPEN_SAMPLES];
+    copying::join(&mut s, heard, samples);
+    let mut y = [0i16; OPEN_EIGHTHS];
+    copying::front(&mut y, eighths);
+    let mut periods = [0u32; LONGEST_BLOCK];
+    let mut notes = [0u32; LONGEST_BLOCK];
+    let mut rates = [0u32; LONGEST_BLOCK];
+    let q = hear(
+        n,
+        &mut y,
+        energies,
+        correlations,
+        &s,
+        b,
+        &mut periods,
+        &mut notes,
+        &mut rates,
+    );
+    copying::keep(heard, &s, b);
+    copying::keep(eighths, &y, q.places - KEPT_EIGHTHS);
+    follow(
+        n,
+        q,
+        number,
+        &periods,
+        &mut notes,
+        &rates,
+        &s,
+        b,
+        outs,
+        store,
+    )
+}
+
+// ---- a block
+
+// The number of the answer to a block, with so much room for the outputs, by a good record.
+pub fn judge(
+    n: Numbers,
+    heard: &[i16; KEPT_SAMPLES],
+    number: u16,
+    samples: &[i16],
+    room: usize,
+) -> u32
+    requires { ⌜ (length (now heard) ≡ keptSamples) × (n .count ≤ takeLimit) × (n .last .length ≤ longestBlock) ⌝ }
+    ensures { λ r. ⌜ Judged n (now (heard .entry)) number (now (samples .entry)) room r ⌝ }
+{
+    let b = samples.len();
+    if b == 0 {
+        return 2;
+    }
+    if b > LONGEST_BLOCK {
+        return 3;
+    }
+    if room < b {
+        return 4;
+    }
+    answers::judge_number(
+        n.count,
+        n.last.number,
+        n.last.length,
+        heard,
+        number,
+        samples,
+    )
+}
+
+// The output that voice j keeps is written, where it is chosen.
+fn give_voice(j: u32, chosen: u32, kept: &[i16], b: usize, out: &mut [i16])
+    requires { ⌜ (j < 3) × (length (now kept) ≡ keptPlaces) × (b ≤ longestBlock) × (j < chosen → b ≤ length (now out)) ⌝ }
+    ensures { λ r. ⌜ now (out .exit) ≡ writtenBy j chosen b (now (kept .entry)) (now (out .entry)) ⌝ }
+{
+    if j < chosen {
+        let from = LONGEST_BLOCK * (j as usize + 1);
+        copying::give(&kept[from..], out, b);
+    }
+}
+
+// The outputs that lead and chosen voices keep are written.
+fn give(
+    chosen: u32,
+    kept: &[i16],
+    b: usize,
+    out: &mut [i16],
+    first: &mut [i16],
+    second: &mut [i16],
+    third: &mut [i16],
+)
+    requires { ⌜ (chosen ≤ 3) × (length (now kept) ≡ keptPlaces) × (b ≤ longestBlock) × Roomy b (parts (1 + chosen) (now kept)) (four (now out) (now first) (now second) (now third)) ⌝ }
+    ensures { λ r. ⌜ four (now (out .exit)) (now (first .exit)) (now (second .exit)) (now (third .exit)) ≡ written b (parts (1 + chosen) (now (kept .entry))) (four (now (out .entry)) (now (first .entry)) (now (second .entry)) (now (third .entry))) ⌝ }
+{
+    copying::give(kept, out, b);
+    give_voice(0, chosen, kept, b, first);
+    give_voice(1, chosen, kept, b, second);
+    give_voice(2, chosen, kept, b, third);
+}
+
+// What a block leaves and answers by its number; 0 and 1 write the outputs that are then kept.
+pub fn ended(
+    verdict: u32,
+    n: Numbers,
+    outs: &[i16],
+    out: &mut [i16],
+    first: &mut [i16],
+    second: &mut [i16],
+    third: &mut [i16],
+) -> Left
+    requires { ⌜ (n .chosen ≤ 3) × (length (now outs) ≡ keptPlaces) × (verdict ≤ 1 → (n .last .length ≤ longestBlock) × Roomy (n .last .length) (parts (1 + n .chosen) (now outs)) (four (now out) (now first) (now second) (now third))) ⌝ }
+    ensures answer { λ r. ⌜ (r .numbers ≡ n) × (r .answer ≡ answerBy verdict (n .last .length) n) ⌝ }
+    ensures outs { λ r. ⌜ four (now (out .exit)) (now (first .exit)) (now (second .exit)) (now (third .exit)) ≡ givenBy verdict (n .last .length) (parts (1 + n .chosen) (now (outs .entry))) (four (now (out .entry)) (now (first .entry)) (now (second .entry)) (now (third .entry))) ⌝ }
+{
+    let answer = answer_by(verdict, n);
+    if verdict <= 1 {
+        give(
+            n.chosen,
+            outs,
+            n.last.length as usize,
+            out,
+            first,
+            second,
+            third,
+        );
+    }
+    Left {
+        numbers: n,
+        answer: answer,
+    }
+}
+
+// A block over the numbers of a record by value, its arrays lent: taken, given again or refused.
+pub fn block_lent(
+    n: Numbers,
+    energies: &mut [u64; EIGHTH_LAGS],
+    correlations: &mut [i64; EIGHTH_LAGS],
+    heard: &mut [i16; KEPT_SAMPLES],
+    eighths: &mut [i16; KEPT_EIGHTHS],
+    outs: &mut [i16; KEPT_OUTS],
+    number: u16,
+    samples: &[i16],
+    out: &mut [i16],
+    first: &mut [i16],
+    second: &mut [i16],
+    third: &mut [i16],
+    store: &mut [u32],
+) -> Left
+    requires { ⌜ Stores (heardOf (n .count) (now energies) (now correlations) (now heard) (now eighths)) × (length (now outs) ≡ keptPlaces) ⌝ }
+    ensures { λ r. ⌜ Took (tunerOf n (now (energies .entry)) (now (correlations .entry)) (now (heard .entry)) (now (eighths .entry)) (now (outs .entry)))
+        number (now (samples .entry)) (four (now (out .entry)) (now (first .entry)) (now (second .entry)) (now (third .entry))) (now (store .entry))
+        (tunerOf (r .numbers) (now (energies .exit)) (now (correlations .exit)) (now (heard .exit)) (now (eighths .exit)) (now (outs .exit))) (r .answer) (four (now (out .exit)) (now (first .exit)) (now (second .exit)) (now (third .exit))) (now (store .exit)) ⌝ }
+{
+    if !right(n, energies, correlations, heard, eighths) {
+        let list = n.list;
+        return Left {
+            numbers: n,
+            answer: plain(9, list),
+        };
+    }
+    let room = singers::least_room(
+        n.chosen as u64,
+        out.len(),
+        first.len(),
+        second.len(),
+        third.len(),
+    );
+    let verdict = judge(n, heard, number, samples, room);
+    if verdict != 0 {
+        return ended(verdict, n, outs, out, first, second, third);
+    }
+    let r = take(
+        n,
+        energies,
+        correlations,
+        heard,
+        eighths,
+        outs,
+        number,
+        samples,
+        store,
+    );
+    ended(0, r, outs, out, first, second, third)
 }
 
 // ---- start
@@ -458,7 +954,8 @@ pub fn reset_lent(
     store: &[u32],
 ) -> Told
     requires { ⌜ Stores (heardOf (n .count) (now energies) (now correlations) (now heard) (now eighths)) ⌝ }
-    ensures { λ r. ⌜ Reset (tunerOf n (now (energies .entry)) (now (correlations .entry)) (now (heard .entry)) (now (eighths .entry)) (now (outs .entry))) (now (store .entry)) (tunerOf (r .numbers) (now (energies .exit)) (now (correlations .exit)) (now (heard .exit)) (now (eighths .exit)) (now (outs .exit))) (r .number) ⌝ }
+    ensures { λ r. ⌜ Reset (tunerOf n (now (energies .entry)) (now (correlations .entry)) (now (heard .entry)) (now (eighths .entry)) (now (outs .entry)))
+        (now (store .entry)) (tunerOf (r .numbers) (now (energies .exit)) (now (correlations .exit)) (now (heard .exit)) (now (eighths .exit)) (now (outs .exit))) (r .number) ⌝ }
 {
     let good = right(n, energies, correlations, heard, eighths);
     let number = reset_number(good, n.listed, store.len());
@@ -552,6 +1049,56 @@ impl Tuner {
         Done {
             tuner: silent(begun_again(n)),
             number: 0,
+        }
+    }
+
+    // Takes a block, gives the last one again or refuses, and writes the outputs.
+    pub fn block(
+        self,
+        number: u16,
+        samples: &[i16],
+        out: &mut [i16],
+        first: &mut [i16],
+        second: &mut [i16],
+        third: &mut [i16],
+        store: &mut [u32],
+    ) -> Taken
+        ensures { λ r. ⌜ Took self number (now (samples .entry)) (four (now (out .entry)) (now (first .entry)) (now (second .entry)) (now (third .entry))) (now (store .entry))
+            (r .tuner) (r .answer) (four (now (out .exit)) (now (first .exit)) (now (second .exit)) (now (third .exit))) (now (store .exit)) ⌝ }
+    {
+        let n = self.numbers;
+        let mut energies = self.energies;
+        let mut correlations = self.correlations;
+        let mut heard = self.heard;
+        let mut eighths = self.eighths;
+        let mut outs = self.outs;
+        let d = block_lent(
+            n,
+            &mut energies,
+            &mut correlations,
+            &mut heard,
+            &mut eighths,
+            &mut outs,
+            number,
+            samples,
+            out,
+            first,
+            second,
+            third,
+            store,
+        );
+        let left = d.numbers;
+        let answer = d.answer;
+        Taken {
+            tuner: Tuner {
+                numbers: left,
+                energies: energies,
+                correlations: correlations,
+                heard: heard,
+                eighths: eighths,
+                outs: outs,
+            },
+            answer: answer,
         }
     }
 
