@@ -25,7 +25,7 @@ use Rattle.tuner.specs.Taking.{eighths-next}
 use Rattle.one.specs.declared.Tuner.{Tuner}
 use Rattle.one.specs.Tuners.{takeOf, forceOf, voiceAt, Good, standsAt, Metered, record-out-of-range, read}
 use Rattle.onestaying.specs.Staying.{good-force, good-sane}
-use Rattle.oneaccount.specs.Account.{Received, courseOf, heardOf, eighthsOf, VoiceHolds, Accounted, Theorem}
+use Rattle.oneaccount.specs.Account.{Received, courseOf, heardOf, eighthsOf, voiceCourse, VoiceHolds, Accounted, Theorem}
 use Rattle.oneaccount.specs.Cutting.{leadAfter, LeadTheorem, SameTake, Alike, CuttingTheorem}
 use Rattle.oneaccount.specs.Alongside.{course-account}
 use Rattle.oneaccount.specs.Following.{lead-agree}
@@ -145,6 +145,8 @@ module _ {r r′ : Received} {t t′ : Tuner} (k : Keeps r t) (k′ : Keeps r′
         correlations = part-same (λ (u : Tuner). u .correlations) refl;
         heard = part-same (λ (u : Tuner). u .heard) refl;
         eighths = part-same (λ (u : Tuner). u .eighths) refl;
+        voices = λ i j l l′ e.
+            k .voices i l ∙ (λ m. voiceCourse (e m) (freshCourse (same .hertz m) (same .settings m)) (inputAt 0) (same .events m)) ∙ sym (k′ .voices j l′);
       }
 
 pub cutting-holds : CuttingTheorem
