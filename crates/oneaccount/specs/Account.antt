@@ -7,18 +7,19 @@ use lib.Dec.{eqb}
 use lib.IntN.{ℤ, pos, _+ℤ_, _-ℤ_}
 use lib.ListN.{length, take, drop}
 use Rattle.rules.specs.declared.Settings.{Settings}
-use Rattle.rules.specs.Rules.{Sound, silence, heardAll, Given, cycles, defaults, cdRate, after, allRepeated, allDropped, eighthLags}
+use Rattle.rules.specs.Rules.{Sound, silence, heardAll, Given, inputAt, cycles, stepped, defaults, cdRate, after, allRepeated, allDropped, eighthLags}
 use Rattle.rules.specs.Facts.{InBounds, Right}
-use Rattle.history.specs.History.{Event, sample, new-settings, byte, Course, freshCourse, courseAfter, givenBy, samplesIn, ratesUsed, totalOf}
+use Rattle.history.specs.History.{Event, sample, new-settings, byte, Course, freshCourse, forceAt, happened, courseAfter, givenBy, samplesIn, ratesUsed, totalOf}
 use Rattle.reports.specs.declared.Figures.{Figures}
 use Rattle.reports.specs.Reports.{figuresOf, added, noFigures}
+use Rattle.voices.specs.Voices.{Voiced, voicedBy, voiceAfter, voiceAccount, Since, sinceAfter}
 use Rattle.singers.specs.Singers.{keptInterval}
 use Rattle.meters.specs.declared.Meter.{Meter}
 use Rattle.tuner.specs.Tuners.{made}
 use Rattle.one.specs.declared.Voice.{Voice}
 use Rattle.one.specs.declared.Tuner.{Tuner}
 use Rattle.one.specs.declared.Answer.{Answer}
-use Rattle.one.specs.Tuners.{takeOf, forceOf, Good, defaultTuner, keptList, keptOuts, Roomy, Took, Started, Changed, Keyed, Reset, Metered}
+use Rattle.one.specs.Tuners.{takeOf, forceOf, voiceAt, Good, standsAt, defaultTuner, keptList, keptOuts, Roomy, Took, Started, Changed, Keyed, Reset, Metered}
 use Rattle.onenight.specs.declared.NightAnswer.{NightAnswer}
 use Rattle.onenight.specs.Night.{Nighted}
 
@@ -121,7 +122,41 @@ heardOf r = heardAll silence (samplesOf r)
 abbrev pub eighthsOf : Received → Sound
 eighthsOf r = heardAll silence (made 0 silence (samplesOf r))
 
+-- ---- a voice beside the history of a take
+
+-- where events leave it: a sample moves it beside the lead's step; new settings and bytes do not
+unfoldable pub voiceCourse : ℕ → Course → ℤ → List Event → ℤ
+voiceCourse interval c at [] = at
+voiceCourse interval c at (sample x ∷ es) = voiceCourse interval (happened c (sample x)) (voicedBy (c .hertz) interval (stepped (forceAt c) (c .take) x) at .position) es
+voiceCourse interval c at (new-settings s ∷ es) = voiceCourse interval (happened c (new-settings s)) at es
+voiceCourse interval c at (byte b ∷ es) = voiceCourse interval (happened c (byte b)) at es
+
+-- what it gives for each of the samples
+unfoldable pub voicedIn : ℕ → Course → ℤ → List Event → List Voiced
+voicedIn interval c at [] = []
+voicedIn interval c at (sample x ∷ es) = let v = voicedBy (c .hertz) interval (stepped (forceAt c) (c .take) x) at in v ∷ voicedIn interval (happened c (sample x)) (v .position) es
+voicedIn interval c at (new-settings s ∷ es) = voicedIn interval (happened c (new-settings s)) at es
+voicedIn interval c at (byte b ∷ es) = voicedIn interval (happened c (byte b)) at es
+
+-- both over all that was received, from the beginning of the take on, where it is level with the input
+abbrev pub voiceOf : ℕ → Received → ℤ
+voiceOf interval r = voiceCourse interval (freshCourse (r .hertz) (r .settings)) (inputAt 0) (r .events)
+
+abbrev pub voicedOf : ℕ → Received → List Voiced
+voicedOf interval r = voicedIn interval (freshCourse (r .hertz) (r .settings)) (inputAt 0) (r .events)
+
+-- where it was last put level, and what it gave since
+abbrev pub sinceLevel : ℕ → Received → Since
+sinceLevel interval r = sinceAfter (record { level = inputAt 0; gave = [] }) (voicedOf interval r)
+
 -- ---- what holds
+
+-- the account of a voice: its position is that of the rules over the history, and equals what it was put level at, and its rates and cycles since; never ahead of the input nor over 1,000 samples behind: now, and after any beginning xs of the block that comes next
+pub record VoiceHolds (r : Received) (t : Tuner) (v : Voice) : Type 0 where
+  pub position : standsAt t v ≡ voiceOf (v .interval) r
+  pub account : let s = sinceLevel (v .interval) r in standsAt t v ≡ voiceAccount (s .level) (s .gave)
+  pub bounds : InBounds (t .numbers .count) (standsAt t v)
+  pub within : (xs : List ℤ) → InBounds (t .numbers .count + length xs) (voiceAfter (forceOf t) (v .interval) (takeOf t) (standsAt t v) xs)
 
 -- the account of the tuner t over what was received
 pub record Accounted (r : Received) (t : Tuner) : Type 0 where
@@ -143,6 +178,8 @@ pub record Accounted (r : Received) (t : Tuner) : Type 0 where
   -- never ahead of the input nor over 1,000 samples behind: now, and after any beginning xs of the block that comes next
   pub bounds : InBounds (t .numbers .count) (takeOf t .position)
   pub within : (xs : List ℤ) → InBounds (length (samplesOf r) + length xs) (after (forceOf t) (courseOf r .take) xs .position)
+  -- the account of each chosen voice, whatever other voices there are
+  pub voices : (j : ℕ) → j < t .numbers .chosen → VoiceHolds r t (voiceAt (t .numbers .voices) j)
 
 -- after any series of calls
 abbrev pub Theorem : Type 0

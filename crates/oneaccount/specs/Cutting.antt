@@ -1,7 +1,7 @@
 -- The cutting of a take does not matter, nor do the voices beside it: but for its last block, the lead of a tuner is what happened in its take. Definitions only, and two statements (`LeadTheorem`, `CuttingTheorem`); their proofs are `lead-holds` and `cutting-holds` in Holds.antt.
 use mathlib.Core.Path.{_≡_}
 use mathlib.Core.List.{List}
-use Prim.Native.Nat.{ℕ, _-_}
+use Prim.Native.Nat.{ℕ, _-_, _<_}
 use lib.IntN.{ℤ, natAbs, _-ℤ_}
 use Rattle.whole.specs.Numbers.{listOf}
 use Rattle.rules.specs.Rules.{Sound, inputAt, keptSamples, keptEighths, eighthLags}
@@ -10,7 +10,7 @@ use Rattle.history.specs.History.{Course}
 use Rattle.pitch.specs.Pitches.{keptOf}
 use Rattle.meters.specs.declared.Meter.{Meter}
 use Rattle.one.specs.declared.Tuner.{Tuner}
-use Rattle.one.specs.Tuners.{layoutNumber, Metered}
+use Rattle.one.specs.Tuners.{layoutNumber, voiceAt, standsAt, Metered}
 use Rattle.oneaccount.specs.Account.{Call, Series, Received, courseOf, received}
 
 -- ---- what a tuner is, by what happened in its take
@@ -73,6 +73,8 @@ pub record Alike (r r′ : Received) (t t′ : Tuner) : Type 0 where
   pub correlations : t .correlations ≡ t′ .correlations
   pub heard : t .heard ≡ t′ .heard
   pub eighths : t .eighths ≡ t′ .eighths
+  -- and wherever the same interval was chosen, the voices stand in one place: a further voice changes nothing
+  pub voices : (i j : ℕ) → i < t .numbers .chosen → j < t′ .numbers .chosen → let v = voiceAt (t .numbers .voices) i in let w = voiceAt (t′ .numbers .voices) j in v .interval ≡ w .interval → standsAt t v ≡ standsAt t′ w
 
 -- any two series of calls that received the same take: in blocks of whatever legal lengths and in nights, with keyboard bytes in whatever calls, repeats, refused calls and readings of the meter anywhere among them, and whatever voices and list there were
 abbrev pub CuttingTheorem : Type 0

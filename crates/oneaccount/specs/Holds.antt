@@ -1,11 +1,14 @@
 -- The proofs of the account, and that the cutting of a take does not matter: after any calls the lead is that of what happened in its take (`Keeps`), and the account is read off it.
 use mathlib.Core.Path.{_≡_, refl, sym, ap, _∙_, subst}
 use mathlib.Core.List.{List, [], _∷_}
-use Prim.Native.Nat.{ℕ, _+_}
+use Prim.Native.Nat.{ℕ, _+_, _<_}
 use native.Mathlib.Nat.{zero-add}
+use lib.IntN.{pos}
 use lib.ListN.{length}
-use Rattle.rules.specs.Rules.{Sound, heardAll, freshTake, stepped, after, eighthLags}
+use Rattle.whole.specs.Ring.{var, con, _⊕_, _⊖_, solve}
+use Rattle.rules.specs.Rules.{Sound, inputAt, heardAll, freshTake, stepped, after, eighthLags}
 use Rattle.rules.specs.Facts.{InBounds, Right, energiesOf, correlationsOf}
+use Rattle.rules.specs.Position.{behind-in-bounds}
 use Rattle.rules.specs.Sane.{always-in-bounds}
 use Rattle.history.specs.History.{Event, sample, new-settings, byte, Course, freshCourse, forceAt, happened, courseAfter, givenBy, samplesIn}
 use Rattle.history.specs.Courses.{course-hertz, course-count, course-sound, course-force}
@@ -15,13 +18,16 @@ use Rattle.pitch.specs.Keeping.{listed-right, kept-right}
 use Rattle.meters.specs.declared.Meter.{Meter}
 use Rattle.meters.specs.Meters.{shownOf}
 use Rattle.reports.specs.Reports.{figuresOf}
+use Rattle.voices.specs.Voices.{voiceRates, voiceCycles, voiceAccount}
+use Rattle.voices.specs.Accompanying.{voice-bounds}
 use Rattle.tuner.specs.Tuners.{made}
 use Rattle.tuner.specs.Taking.{eighths-next}
 use Rattle.one.specs.declared.Tuner.{Tuner}
-use Rattle.one.specs.Tuners.{takeOf, Good, Metered, record-out-of-range, read}
-use Rattle.onestaying.specs.Staying.{good-sane}
-use Rattle.oneaccount.specs.Account.{Received, courseOf, heardOf, eighthsOf, Accounted, Theorem}
+use Rattle.one.specs.Tuners.{takeOf, forceOf, voiceAt, Good, standsAt, Metered, record-out-of-range, read}
+use Rattle.onestaying.specs.Staying.{good-force, good-sane}
+use Rattle.oneaccount.specs.Account.{Received, courseOf, heardOf, eighthsOf, voiceCourse, VoiceHolds, Accounted, Theorem}
 use Rattle.oneaccount.specs.Cutting.{leadAfter, LeadTheorem, SameTake, Alike, CuttingTheorem}
+use Rattle.oneaccount.specs.Alongside.{course-account}
 use Rattle.oneaccount.specs.Following.{lead-agree}
 use Rattle.oneaccount.specs.Keeps.{Keeps, course-right, series-keeps}
 
@@ -38,6 +44,11 @@ eighths-from c (sample x ∷ es) = eighths-from (happened c (sample x)) es ∙ e
 eighths-from c (new-settings s ∷ es) = eighths-from (happened c (new-settings s)) es
 eighths-from c (byte b ∷ es) = eighths-from (happened c (byte b)) es
 
+-- nothing given yet
+level : inputAt 0 ≡ voiceAccount (inputAt 0) []
+unfolding voiceRates voiceCycles
+level = solve (inputAt 0 ∷ []) (var 0) (var 0 ⊕ con (pos 0) ⊖ con (pos 0) ⊕ con (pos 0)) refl
+
 module _ {r : Received} {t : Tuner} (k : Keeps r t) where
   abbrev start : Course
   start = freshCourse (r .hertz) (r .settings)
@@ -53,6 +64,20 @@ module _ {r : Received} {t : Tuner} (k : Keeps r t) where
   count-is : courseOf r .take .count ≡ length (samplesIn (r .events))
   unfolding freshTake
   count-is = course-count start (r .events) ∙ zero-add _
+
+  -- of a voice
+  voice-holds : (j : ℕ) → j < t .numbers .chosen → VoiceHolds r t (voiceAt (t .numbers .voices) j)
+  unfolding takeOf
+  voice-holds j l =
+      let v = voiceAt (t .numbers .voices) j in
+      let good = k .stays .0 in
+      let here : InBounds (t .numbers .count) (standsAt t v) = behind-in-bounds (record { is = refl; near = good .voices .each j l .behind }) in
+      record {
+        position = k .voices j l;
+        account = k .voices j l ∙ course-account (v .interval) start (inputAt 0) (r .events) (record { level = inputAt 0; gave = [] }) level;
+        bounds = here;
+        within = λ xs. voice-bounds (forceOf t) (v .interval) (takeOf t) (standsAt t v) xs (good-force good) (good-sane good) here;
+      }
 
   -- of the lead of what happened
   course-accounted : Good (leadAfter (courseOf r) t) → Accounted r (leadAfter (courseOf r) t)
@@ -77,6 +102,7 @@ module _ {r : Received} {t : Tuner} (k : Keeps r t) where
         position = sym (lead-agree right t .position) ∙ account (r .hertz) (r .settings) (r .events);
         figures = k .figures;
         bounds = good-sane good .bounds;
+        voices = λ j l. subst (λ (u : Tuner). VoiceHolds r u (voiceAt (t .numbers .voices) j)) (k .is) (voice-holds j l);
         within = λ xs. subst (λ (m : ℕ). InBounds (m + length xs) (after (forceAt c) (c .take) xs .position)) count-is (always-in-bounds (course-force right) (right .take) xs);
       }
 
@@ -119,6 +145,8 @@ module _ {r r′ : Received} {t t′ : Tuner} (k : Keeps r t) (k′ : Keeps r′
         correlations = part-same (λ (u : Tuner). u .correlations) refl;
         heard = part-same (λ (u : Tuner). u .heard) refl;
         eighths = part-same (λ (u : Tuner). u .eighths) refl;
+        voices = λ i j l l′ e.
+            k .voices i l ∙ (λ m. voiceCourse (e m) (freshCourse (same .hertz m) (same .settings m)) (inputAt 0) (same .events m)) ∙ sym (k′ .voices j l′);
       }
 
 pub cutting-holds : CuttingTheorem

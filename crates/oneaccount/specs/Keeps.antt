@@ -7,33 +7,38 @@ use native.Mathlib.Nat.{add-zero, zero-add, add-assoc}
 use native.Mathlib.Omega.{arith}
 use borrow.Author.Tests.{eqb-true, eqb-false}
 use lib.Dec.{eqb}
-use lib.IntN.{ℤ}
+use lib.IntN.{ℤ, pos, _-ℤ_, +ℤ-idr}
 use lib.ListN.{length, take, drop, length-drop, take-append-drop}
 use lib.Seq.{take-append-add, drop-append-seam}
 use Rattle.whole.specs.Tests.{by, cond-case, cond-yes, cond-no}
 use Rattle.rules.specs.declared.Settings.{Settings}
-use Rattle.rules.specs.Rules.{gives, defaults, cdRate}
+use Rattle.rules.specs.Rules.{inputAt, gives, defaults, cdRate}
 use Rattle.rules.specs.Ranges.{unrefused-start, default-start}
-use Rattle.rules.specs.Facts.{InRange, SampleRate}
+use Rattle.rules.specs.Facts.{InRange, SampleRate, InBounds}
+use Rattle.rules.specs.Position.{behind-in-bounds, in-bounds-behind}
 use Rattle.rules.specs.Blocks.{given-length}
 use Rattle.history.specs.History.{Event, sample, new-settings, byte, Course, freshCourse, courseAfter, givenBy}
-use Rattle.history.specs.Courses.{courseAfter-append, givenBy-append, given-bytes, course-hertz, CourseIn, EventsIn, fresh-course-in, course-in, events-in-append, samples-in, bytes-in}
+use Rattle.history.specs.Courses.{course-force, courseAfter-append, givenBy-append, given-bytes, course-hertz, CourseIn, EventsIn, fresh-course-in, course-in, events-in-append, samples-in, bytes-in}
 use Rattle.reports.specs.declared.Figures.{Figures}
 use Rattle.reports.specs.Reports.{figuresOf, added, noFigures}
 use Rattle.reports.specs.Counting.{figures-append, figures-none}
+use Rattle.voices.specs.Voices.{voiceAfter}
+use Rattle.voices.specs.Accompanying.{voice-bounds}
+use Rattle.tuner.specs.Tuners.{heardAfter}
 use Rattle.singers.specs.Singers.{keptInterval}
 use Rattle.singers.specs.Voicing.{number-says}
 use Rattle.one.specs.declared.Voice.{Voice}
 use Rattle.one.specs.declared.Tuner.{Tuner}
 use Rattle.one.specs.declared.Answer.{Answer}
-use Rattle.one.specs.Tuners.{takeOf, forceOf, levelVoice, chosenVoices, freshNumbers, silentTuner, freshTuner, defaultTuner, afterBlock, IsLast, Verdict, record-out-of-range, block-empty, block-over-512, output-short, number-neither, other-samples, given-again, take-full, taken, counted, Took, keptList, Started, Done, withNumbers, withKeys, withSettings, withBytes, begunAgain, Changed, Keyed, Reset}
-use Rattle.onestaying.specs.Staying.{Stays, default-stays, begin-says, own-number, took-stays, changed-stays, keyed-stays, started-stays, begun-stays, took-number, took-keeps, took-taken, untaken-unchanged}
+use Rattle.one.specs.Tuners.{takeOf, forceOf, voiceAt, VoiceIn, standsAt, voiceBeside, levelVoice, chosenVoices, freshNumbers, silentTuner, freshTuner, defaultTuner, afterBlock, IsLast, Verdict, record-out-of-range, block-empty, block-over-512, output-short, number-neither, other-samples, given-again, take-full, taken, counted, Took, keptList, Started, Done, withNumbers, withKeys, withSettings, withBytes, begunAgain, Changed, Keyed, Reset}
+use Rattle.onestaying.specs.Staying.{Stays, good-force, good-sane, beside-at, default-stays, begin-says, own-number, took-stays, changed-stays, keyed-stays, started-stays, begun-stays, took-number, took-keeps, took-taken, untaken-unchanged}
 use Rattle.onenight.specs.declared.NightAnswer.{NightAnswer}
 use Rattle.onenight.specs.Night as Night
 use Rattle.onenight.specs.Night.{firstStretches, numberAfter, OneByOne, all-done, and-on, refused, addedBy, Untouched, Nighted}
-use Rattle.oneaccount.specs.Account.{Call, Leaves, by-start, by-change, by-block, by-night, by-midi, by-reset, by-meter, Series, fresh-start, and-then, Received, begun, courseOf, givenOf, withEvents, withSamples, countedBy, countedIn, ifTaken, plus, received}
+use Rattle.oneaccount.specs.Account.{Call, Leaves, by-start, by-change, by-block, by-night, by-midi, by-reset, by-meter, Series, fresh-start, and-then, Received, begun, courseOf, givenOf, withEvents, withSamples, countedBy, countedIn, ifTaken, plus, received, voiceCourse, voiceOf}
+use Rattle.oneaccount.specs.Alongside.{voiceCourse-append, samples-move, bytes-leave, voice-alike}
 use Rattle.oneaccount.specs.Cutting.{leadAfter}
-use Rattle.oneaccount.specs.Following.{fresh-after, block-gives, block-after, change-after, bytes-after}
+use Rattle.oneaccount.specs.Following.{lead-agree, fresh-after, block-gives, block-after, change-after, bytes-after}
 
 -- ---- what each call keeps
 
@@ -49,13 +54,14 @@ pub record Keeps (r : Received) (t : Tuner) : Type 0 where
   pub listed : t .numbers .listed ≡ r .listed
   pub intervals : chosenOf t ≡ r .intervals
   pub figures : r .figures ≡ figuresOf (givenOf r)
+  pub voices : (j : ℕ) → j < t .numbers .chosen → let v = voiceAt (t .numbers .voices) j in standsAt t v ≡ voiceOf (v .interval) r
 
 -- ---- a fresh tuner
 silent-keeps : (hertz : ℕ) (s : Settings) (listed chosen : ℕ) (vs : List Voice) (is : List ℕ) → SampleRate hertz → InRange s → Stays (silentTuner (freshNumbers hertz s listed chosen vs))
-    → map (λ (v : Voice). v .interval) (take chosen vs) ≡ is → Keeps (begun hertz s listed is) (silentTuner (freshNumbers hertz s listed chosen vs))
-unfolding silentTuner freshNumbers courseAfter givenBy
-silent-keeps hertz s listed chosen vs is rate e g same =
-    record { stays = g; began = fresh-course-in rate e; ranges = tt; is = fresh-after hertz s listed chosen vs; listed = refl; intervals = same; figures = sym figures-none }
+    → map (λ (v : Voice). v .interval) (take chosen vs) ≡ is → ((j : ℕ) → voiceAt vs j .behind ≡ 0) → Keeps (begun hertz s listed is) (silentTuner (freshNumbers hertz s listed chosen vs))
+unfolding silentTuner freshNumbers courseAfter givenBy voiceCourse
+silent-keeps hertz s listed chosen vs is rate e g same level =
+    record { stays = g; began = fresh-course-in rate e; ranges = tt; is = fresh-after hertz s listed chosen vs; listed = refl; intervals = same; figures = sym figures-none; voices = λ j h. ap (λ (b : ℕ). inputAt 0 -ℤ pos b) (level j) ∙ +ℤ-idr (inputAt 0) }
 
 chosen-intervals : (zs : List ℤ) → length zs ≤ 3 → map (λ (v : Voice). v .interval) (take (length zs) (chosenVoices zs)) ≡ map keptInterval zs
 unfolding chosenVoices
@@ -65,8 +71,15 @@ chosen-intervals (a ∷ b ∷ []) h = refl
 chosen-intervals (a ∷ b ∷ c ∷ []) h = refl
 chosen-intervals (a ∷ b ∷ c ∷ d ∷ zs) h = absurd (omega arith)
 
+chosen-level : (zs : List ℤ) (j : ℕ) → voiceAt (chosenVoices zs) j .behind ≡ 0
+unfolding chosenVoices
+chosen-level zs zero = refl
+chosen-level zs (suc zero) = refl
+chosen-level zs (suc (suc zero)) = refl
+chosen-level zs (suc (suc (suc j))) = refl
+
 default-keeps : Keeps (begun cdRate defaults 0 []) defaultTuner
-default-keeps = let r = unrefused-start defaults default-start in silent-keeps cdRate defaults 0 0 (chosenVoices []) [] (r .0) (r .1) default-stays refl
+default-keeps = let r = unrefused-start defaults default-start in silent-keeps cdRate defaults 0 0 (chosenVoices []) [] (r .0) (r .1) default-stays refl (chosen-level [])
 
 start-keeps : {hertz : ℕ} {s : Settings} {listed : ℕ} {zs : List ℤ} {store : List ℕ} {t′ : Tuner} {v : ℕ}
     → Started hertz s listed zs store t′ v → Keeps (ifTaken v (begun hertz s (keptList listed) (map keptInterval zs)) (begun cdRate defaults 0 [])) t′
@@ -77,7 +90,7 @@ start-keeps {hertz} {s} {listed} {zs} {store} {t′} {v} p =
     let is : t′ ≡ freshTuner hertz s (keptList listed) zs = p .tuner ∙ cond-yes (freshTuner hertz s (keptList listed) zs) defaultTuner e in
     rw e
     (subst (λ (u : Tuner). Keeps (begun hertz s (keptList listed) (map keptInterval zs)) u) (sym is)
-    (silent-keeps hertz s (keptList listed) (length zs) (chosenVoices zs) (map keptInterval zs) (r .0) (r .1) (subst Stays is (started-stays p)) (chosen-intervals zs (number-says zs (q .1) .1)))))
+    (silent-keeps hertz s (keptList listed) (length zs) (chosenVoices zs) (map keptInterval zs) (r .0) (r .1) (subst Stays is (started-stays p)) (chosen-intervals zs (number-says zs (q .1) .1)) (chosen-level zs))))
     (λ e. rw e (subst (λ (u : Tuner). Keeps (begun cdRate defaults 0 []) u) (sym (p .tuner ∙ cond-no (freshTuner hertz s (keptList listed) zs) defaultTuner e)) default-keeps))
 
 -- ---- more has happened, and more was counted
@@ -111,11 +124,16 @@ more-none r = λ i. record { hertz = r .hertz; settings = r .settings; listed = 
 along : (d : Course) {t u : Tuner} → t ≡ u → u ≡ leadAfter d u → t ≡ leadAfter d t
 along d e p = subst (λ (v : Tuner). v ≡ leadAfter d v) (sym e) p
 
+-- the chosen voices stand where events have left them
+abbrev MovedBy : Received → List Event → Tuner → Type 0
+MovedBy r es t = (j : ℕ) → j < t .numbers .chosen → let v = voiceAt (t .numbers .voices) j in standsAt t v ≡ voiceCourse (v .interval) (courseOf r) (voiceOf (v .interval) r) es
+
 module _ {r : Received} {t : Tuner} (k : Keeps r t) where
   pub course-right : CourseIn (courseOf r)
   course-right = course-in (r .events) (k .began) (k .ranges)
 
-  module _ (es : List Event) (q : EventsIn es) {t′ : Tuner} (g : Stays t′) (l : t′ .numbers .listed ≡ t .numbers .listed) (v : chosenOf t′ ≡ chosenOf t) (e : t′ ≡ leadAfter (courseAfter (courseOf r) es) t′) where
+  module _ (es : List Event) (q : EventsIn es) {t′ : Tuner} (g : Stays t′) (l : t′ .numbers .listed ≡ t .numbers .listed) (v : chosenOf t′ ≡ chosenOf t) (e : t′ ≡ leadAfter (courseAfter (courseOf r) es) t′)
+      (w : MovedBy r es t′) where
     is-more : t′ ≡ leadAfter (courseAfter (freshCourse (r .hertz) (r .settings)) (r .events ++ es)) t′
     is-more = e ∙ ap (λ (c : Course). leadAfter c t′) (sym (courseAfter-append (freshCourse (r .hertz) (r .settings)) (r .events) es))
 
@@ -132,6 +150,7 @@ module _ {r : Received} {t : Tuner} (k : Keeps r t) where
           listed = l ∙ k .listed;
           intervals = v ∙ k .intervals;
           figures = (λ i. added (k .figures i) (f i)) ∙ sym (ap figuresOf given-more ∙ figures-append (givenOf r) (givenBy (courseOf r) es));
+          voices = λ j h. w j h ∙ sym (voiceCourse-append (voiceAt (t′ .numbers .voices) j .interval) (freshCourse (r .hertz) (r .settings)) (inputAt 0) (r .events) es);
         }
 
     -- no sample among it
@@ -168,11 +187,32 @@ module _ {r : Received} {t : Tuner} (k : Keeps r t) where
           ∙ (λ i. record { samples = sym (given-length (forceOf t) (takeOf t) xs) i; pitched = f .pitched; repeated = f .repeated; dropped = f .dropped; sum = f .sum })
           ∙ ap figuresOf gives-is
 
+      -- each voice goes on as over the whole take
+      voice-moved : (v : Voice) → VoiceIn v → standsAt t v ≡ voiceOf (v .interval) r → standsAt (afterBlock t n xs store) (voiceBeside t xs v) ≡ voiceCourse (v .interval) (courseOf r) (voiceOf (v .interval) r) (map sample xs)
+      unfolding afterBlock heardAfter takeOf leadAfter
+      voice-moved v i e =
+          let c = courseOf r in
+          let here : InBounds (t .numbers .count) (standsAt t v) = behind-in-bounds (record { is = refl; near = i .behind }) in
+          let level : InBounds (c .take .count) (standsAt t v) = subst (λ (m : ℕ). InBounds m (standsAt t v)) (ap (λ (u : Tuner). u .numbers .count) (k .is)) here in
+          sym (in-bounds-behind (voice-bounds (forceOf t) (v .interval) (takeOf t) (standsAt t v) xs (good-force (k .stays .0)) (good-sane (k .stays .0)) here) .is)
+          ∙ ap (λ (u : Tuner). voiceAfter (forceOf u) (v .interval) (takeOf u) (standsAt t v) xs) (k .is)
+          ∙ sym (voice-alike (course-force course-right) (v .interval) (course-right .take) (lead-agree course-right t) level xs .0)
+          ∙ sym (samples-move (v .interval) c (standsAt t v) xs)
+          ∙ ap (λ (z : ℤ). voiceCourse (v .interval) c z (map sample xs)) e
+
+      taken-moved : MovedBy r (map sample xs) (afterBlock t n xs store)
+      unfolding afterBlock
+      taken-moved j h =
+          let m = t .numbers in
+          let at = beside-at (voiceBeside t xs) (m .chosen) (m .voices) j h (omega (arith, k .stays .1 .voices, k .stays .0 .voices .few)) in
+          subst (λ (v : Voice). standsAt (afterBlock t n xs store) v ≡ voiceCourse (v .interval) (courseOf r) (voiceOf (v .interval) r) (map sample xs)) (sym at)
+          (voice-moved (voiceAt (m .voices) j) (k .stays .0 .voices .each j h) (k .voices j h))
+
       pub taken-keeps : Keeps (more r (map sample xs) (countedBy a)) t′
       unfolding afterBlock
       taken-keeps =
           more-keeps (map sample xs) (samples-in xs) (took-stays (k .stays .0) (k .stays .1) p) (ap (λ (u : Tuner). u .numbers .listed) taken-is)
-          (ap chosenOf taken-is ∙ beside-intervals _ (λ v. refl) (t .numbers .chosen) (t .numbers .voices)) taken-lead counted-is
+          (ap chosenOf taken-is ∙ beside-intervals _ (λ v. refl) (t .numbers .chosen) (t .numbers .voices)) taken-lead (subst (MovedBy r (map sample xs)) (sym taken-is) taken-moved) counted-is
 
       taken-length : a .written ≡ length xs
       taken-length = ap (λ (b : Answer). b .written) (took-keeps p (omega arith) .0)
@@ -198,13 +238,14 @@ module _ {r : Received} {t : Tuner} (k : Keeps r t) where
       (λ f. subst (Keeps r) (sym (p .tuner ∙ cond-no u t f)) k)
 
   change-keeps : (s : Settings) {t′ : Tuner} {v : ℕ} → Changed t s t′ v → Keeps (ifTaken v (withEvents r (new-settings s ∷ [])) r) t′
-  unfolding givenBy withKeys
+  unfolding givenBy withKeys voiceCourse
   change-keeps s {t′} p =
       if-taken (withEvents r (new-settings s ∷ [])) p
       (λ z e.
       events-keep (new-settings s ∷ []) (sym (own-number (k .stays .0) (k .stays .1) (p .number)) ∙ z, tt) (changed-stays (k .stays .0) (k .stays .1) s p)
       (ap (λ (u : Tuner). u .numbers .listed) e) (ap chosenOf e)
-      (along (courseAfter (courseOf r) (new-settings s ∷ [])) (e ∙ ap (λ (u : Tuner). withNumbers u (withSettings (u .numbers) s)) (k .is)) (change-after (courseOf r) t s)) refl)
+      (along (courseAfter (courseOf r) (new-settings s ∷ [])) (e ∙ ap (λ (u : Tuner). withNumbers u (withSettings (u .numbers) s)) (k .is)) (change-after (courseOf r) t s))
+      (subst (MovedBy r (new-settings s ∷ [])) (sym e) (k .voices)) refl)
 
   midi-keeps : (bytes : List ℕ) {t′ : Tuner} {v : ℕ} → Keyed t bytes t′ v → Keeps (ifTaken v (withEvents r (map byte bytes)) r) t′
   unfolding withKeys
@@ -212,7 +253,8 @@ module _ {r : Received} {t : Tuner} (k : Keeps r t) where
       if-taken (withEvents r (map byte bytes)) p
       (λ z e.
       events-keep (map byte bytes) (bytes-in bytes) (keyed-stays (k .stays .0) (k .stays .1) bytes p) (ap (λ (u : Tuner). u .numbers .listed) e) (ap chosenOf e)
-      (along (courseAfter (courseOf r) (map byte bytes)) (e ∙ ap (λ (u : Tuner). withNumbers u (withBytes (u .numbers) bytes)) (k .is)) (bytes-after (courseOf r) t bytes)) (given-bytes (courseOf r) bytes))
+      (along (courseAfter (courseOf r) (map byte bytes)) (e ∙ ap (λ (u : Tuner). withNumbers u (withBytes (u .numbers) bytes)) (k .is)) (bytes-after (courseOf r) t bytes))
+      (subst (MovedBy r (map byte bytes)) (sym e) (λ j h. k .voices j h ∙ sym (bytes-leave (voiceAt (t .numbers .voices) j .interval) (courseOf r) _ bytes .0))) (given-bytes (courseOf r) bytes))
 
   -- settings and sample rate are the course's
   settings-are : t .numbers .settings ≡ courseOf r .settings
@@ -228,6 +270,11 @@ module _ {r : Received} {t : Tuner} (k : Keeps r t) where
   level-intervals (suc n) [] = refl
   level-intervals (suc n) (v ∷ vs) = ap (λ (is : List ℕ). v .interval ∷ is) (level-intervals n vs)
 
+  level-behind : (vs : List Voice) (j : ℕ) → voiceAt (map (λ (v : Voice). levelVoice (v .interval)) vs) j .behind ≡ 0
+  level-behind [] j = refl
+  level-behind (v ∷ vs) zero = refl
+  level-behind (v ∷ vs) (suc j) = level-behind vs j
+
   reset-keeps : (store : List ℕ) {t′ : Tuner} {v : ℕ} → Reset t store t′ v → Keeps (ifTaken v (begun (r .hertz) (courseOf r .settings) (r .listed) (r .intervals)) r) t′
   unfolding begunAgain
   reset-keeps store {t′} p =
@@ -236,7 +283,7 @@ module _ {r : Received} {t : Tuner} (k : Keeps r t) where
       if-taken (begun (r .hertz) (courseOf r .settings) (r .listed) (r .intervals)) p
       (λ z e.
       rw (e, sym settings-are, sym hertz-is, sym (k .listed))
-      (silent-keeps (n .hertz) (n .settings) (n .listed) (n .chosen) level (r .intervals) (k .stays .0 .lead .hertz) (k .stays .0 .lead .settings) (begun-stays (k .stays .0) (k .stays .1)) (level-intervals (n .chosen) (n .voices) ∙ k .intervals)))
+      (silent-keeps (n .hertz) (n .settings) (n .listed) (n .chosen) level (r .intervals) (k .stays .0 .lead .hertz) (k .stays .0 .lead .settings) (begun-stays (k .stays .0) (k .stays .1)) (level-intervals (n .chosen) (n .voices) ∙ k .intervals) (level-behind (n .voices))))
 
 -- ---- a night
 

@@ -3,5 +3,6 @@ pub mod Calls
 pub mod Cutting
 pub mod Newest
 pub mod Following
+pub mod Alongside
 pub mod Keeps
 pub mod Holds

@@ -139,7 +139,7 @@ keeping-silent kept new i h e =
     getD-drop (length new) (kept ++ new) i (pos 0) ∙ List·getD-append kept new (pos 0) (length new + i) (omega arith) ∙ e
 
 -- the voices that go on, and those beyond
-beside-at : (f : Voice → Voice) (n : ℕ) (vs : List Voice) (j : ℕ) → j < n → j < length vs → voiceAt (map f (take n vs) ++ drop n vs) j ≡ f (voiceAt vs j)
+pub beside-at : (f : Voice → Voice) (n : ℕ) (vs : List Voice) (j : ℕ) → j < n → j < length vs → voiceAt (map f (take n vs) ++ drop n vs) j ≡ f (voiceAt vs j)
 beside-at f zero vs j h l = absurd (omega arith)
 beside-at f (suc n) [] j h l = absurd (omega arith)
 beside-at f (suc n) (v ∷ vs) zero h l = refl
