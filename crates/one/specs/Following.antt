@@ -5,7 +5,7 @@ use mathlib.Core.List.{List, [], _∷_, _++_, map, flatten}
 use Prim.Native.Nat.{ℕ, _+_, _*_, _≤_, _<_}
 use lib.Dec.{leb, ltb, eqb}
 use lib.IntN.{ℤ, pos}
-use lib.ListN.{length, take, drop, getD, replicate}
+use lib.ListN.{take, drop, getD, replicate}
 use Rattle.rules.specs.declared.Tone.{Tone}
 use Rattle.rules.specs.Rules.{longestBlock, keptSamples, greatestRate}
 use Rattle.lists.specs.declared.Listing.{Listing}

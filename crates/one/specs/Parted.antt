@@ -2,8 +2,6 @@
 use mathlib.Core.List.{List}
 use Prim.Native.Nat.{ℕ}
 use lib.IntN.{ℤ}
-use Rattle.record.specs.declared.Heard.{Heard}
-use Rattle.record.specs.Parts.{heardOf}
 use Rattle.one.specs.declared.Numbers.{Numbers}
 use Rattle.one.specs.declared.Tuner.{Tuner}
 

@@ -2,7 +2,7 @@
 use mathlib.Core.Path.{_≡_, refl, sym, ap, _∙_, subst}
 use mathlib.Core.Bool.{Bool, true, false, cond}
 use mathlib.Core.List.{List, [], _∷_, _++_, map, flatten}
-use Prim.Native.Nat.{ℕ, zero, suc, _+_, _-_, _*_, _≤_, _<_}
+use Prim.Native.Nat.{ℕ, zero, suc, _+_, _-_, _*_, _≤_}
 use native.Mathlib.Numerals.{add-one}
 use native.Mathlib.Omega.{arith}
 use lib.Dec.{eqb}
@@ -43,7 +43,7 @@ use Rattle.one.specs.declared.Voice.{Voice}
 use Rattle.one.specs.declared.Last.{Last}
 use Rattle.one.specs.declared.Numbers.{Numbers}
 use Rattle.one.specs.declared.Tuner.{Tuner}
-use Rattle.one.specs.Tuners.{takeOf, forceOf, voiceAt, VoicesIn, heardBy, testedLast, Good, keptPlaces, keptOut, lastOf, standsAt, voiceBeside, voiceOut, voicesBeside, outsBeside, listAfter, afterBlock}
+use Rattle.one.specs.Tuners.{takeOf, forceOf, voiceAt, VoicesIn, heardBy, testedLast, Good, keptPlaces, keptOut, lastOf, standsAt, voiceBeside, voiceOut, outsBeside, listAfter, afterBlock}
 use Rattle.one.specs.Parted.{tunerOf}
 use Rattle.one.specs.Following.{RatesUpto, noOut, Goes, SungTo, AllSung, listedOf}
 use Rattle.one.specs.Outputs.{glided-long}

@@ -17,7 +17,6 @@ use Rattle.meters.specs.Meters.{shownOf, Exact}
 use Rattle.record.specs.declared.Heard.{Heard}
 use Rattle.record.specs.declared.Last.{Last as TestedLast}
 use Rattle.record.specs.Records.{soundOf, AllRight, freshPitch}
-use Rattle.lists.specs.declared.Listing.{Listing}
 use Rattle.lists.specs.Lists.{room, emptyListing, sungNote, notesSung, Sheet, sheet, afterNotes, ListingIn}
 use Rattle.reports.specs.Reports.{figuresOf}
 use Rattle.voices.specs.Voices.{unison, IntervalIn, voiceAfter, voiceGives, voiceOuts}

@@ -11,7 +11,7 @@ use Rattle.rules.specs.Rules.{longestBlock, inputAt}
 use Rattle.voices.specs.Singing.{singOuts}
 use Rattle.one.specs.declared.Voice.{Voice}
 use Rattle.one.specs.Tuners.{voiceAt}
-use Rattle.one.specs.Following.{noOut, SangBeside, Goes, SungTo, AllSung}
+use Rattle.one.specs.Following.{noOut, SangBeside, SungTo, AllSung}
 
 pub three : (f : Voice → Voice) (vs : List Voice) → length vs ≡ 3 → map f vs ≡ f (voiceAt vs 0) ∷ f (voiceAt vs 1) ∷ f (voiceAt vs 2) ∷ []
 three f [] e = absurd (omega arith)

@@ -15,7 +15,7 @@ use Rattle.history.specs.History.{Event, sample, new-settings, byte, Course, fr
 use Rattle.history.specs.Courses.{givenBy-append, givenBy-length, given-bytes, course-count}
 use Rattle.lists.specs.declared.Listing.{Listing}
 use Rattle.singers.specs.Singers.{keptInterval}
-use Rattle.lists.specs.Lists.{sungNote, notesSung, lastNote, sheet, emptyListing, afterNotes, afterPieces, IsList}
+use Rattle.lists.specs.Lists.{Sheet, sungNote, notesSung, lastNote, sheet, emptyListing, afterNotes, afterPieces, IsList}
 use Rattle.lists.specs.Folds.{afterNotes-append}
 use Rattle.lists.specs.Afresh.{however-cut}
 use Rattle.one.specs.declared.Tuner.{Tuner}
@@ -23,7 +23,7 @@ use Rattle.one.specs.declared.Answer.{Answer}
 use Rattle.one.specs.Tuners.{takeOf, forceOf, freshNumbers, silentTuner, freshTuner, defaultTuner, listAfter, afterBlock, Took, keptList, begunAgain, withKeys, Done}
 use Rattle.onestaying.specs.Staying.{took-taken, untaken-unchanged}
 use Rattle.oneaccount.specs.Account.{Call, by-start, by-change, by-block, by-night, by-midi, by-reset, by-meter, Series, and-then, Received, begun, courseOf, givenOf, withEvents, withSamples, countedBy, ifTaken, plus, received, notesOf, Lent, at-start, at-reset, not-reset, to-block, to-night, past-change, past-midi, past-meter, ListTheorem}
-use Rattle.oneaccount.specs.Cutting.{leadAfter}
+use Rattle.oneaccount.specs.Cutting.{leadAfter, ListCutting}
 use Rattle.oneaccount.specs.Keeps.{Keeps, more, Carried, gives-is, taken-length, nighted-keeps, series-keeps}
 
 -- ---- the note of the last sample is that of the take's tone
@@ -132,3 +132,12 @@ unfolding afterPieces flatten
 list-holds cs t began now h l some =
     let notes = notesOf (received cs) in
     transport (λ i. IsList (append-nil notes i) began (sym (listed-so h l some) i)) (however-cut (notes ∷ []) began)
+
+-- however the take was cut
+pub list-cutting : ListCutting
+list-cutting cs cs′ t t′ began now now′ h h′ same l l′ some some′ =
+    let e : sheet (t .numbers .list) now ≡ sheet (t′ .numbers .list) now′ =
+    listed-so h l some
+    ∙ (λ i. afterNotes noNote 0 (sheet emptyListing began) (notesSung (givenBy (freshCourse (same .hertz i) (same .settings i)) (same .events i))))
+    ∙ sym (listed-so h′ l′ some′) in
+    (ap (λ (k : Sheet). k .listing) e, ap (λ (k : Sheet). k .store) e)
