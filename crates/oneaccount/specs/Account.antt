@@ -1,4 +1,4 @@
--- The account: what holds of the tuner after any series of calls, nights among them. Definitions only, and three statements (`Theorem`, `SentAgain`, `NeverNine`); their proofs are `holds` in Holds.antt, `again-holds` and `never-nine` in Calls.antt.
+-- The account: what holds of the tuner after any series of calls, nights among them. Definitions only, and four statements (`Theorem`, `ListTheorem`, `SentAgain`, `NeverNine`); their proofs are `holds` in Holds.antt, `list-holds` in Lists.antt, `again-holds` and `never-nine` in Calls.antt.
 use mathlib.Core.Path.{_≡_}
 use mathlib.Core.Bool.{cond}
 use mathlib.Core.List.{List, [], _∷_, _++_, map}
@@ -13,6 +13,7 @@ use Rattle.history.specs.History.{Event, sample, new-settings, byte, Course, fr
 use Rattle.reports.specs.declared.Figures.{Figures}
 use Rattle.reports.specs.Reports.{figuresOf, added, noFigures}
 use Rattle.voices.specs.Voices.{Voiced, voicedBy, voiceAfter, voiceAccount, Since, sinceAfter}
+use Rattle.lists.specs.Lists.{notesSung, sheet, IsList}
 use Rattle.singers.specs.Singers.{keptInterval}
 use Rattle.meters.specs.declared.Meter.{Meter}
 use Rattle.tuner.specs.Tuners.{made}
@@ -184,6 +185,27 @@ pub record Accounted (r : Received) (t : Tuner) : Type 0 where
 -- after any series of calls
 abbrev pub Theorem : Type 0
 Theorem = (cs : List Call) (t : Tuner) → Series cs t → Accounted (received cs) t
+
+-- ---- the list
+
+-- the store was lent each time as it was left, since the list began: the store as it was there, and as it is now
+pub data Lent : List Call → (began now : List ℕ) → Type 0 where
+  at-start : {cs : List Call} {hertz : ℕ} {s : Settings} {listed : ℕ} {zs : List ℤ} {store : List ℕ} {v : ℕ} → Lent (start hertz s listed zs store v ∷ cs) store store
+  at-reset : {cs : List Call} {store : List ℕ} {v : ℕ} → v ≡ 0 → Lent (reset store v ∷ cs) store store
+  not-reset : {cs : List Call} {store began now : List ℕ} {v : ℕ} → 0 < v → Lent cs began now → Lent (reset store v ∷ cs) began now
+  to-block : {cs : List Call} {k : ℕ} {xs : List ℤ} {os os′ : List (List ℤ)} {began store store′ : List ℕ} {a : Answer} → Lent cs began store → Lent (block k xs os store a os′ store′ ∷ cs) began store′
+  to-night : {cs : List Call} {k size : ℕ} {xs : List ℤ} {os os′ : List (List ℤ)} {began store store′ : List ℕ} {a : NightAnswer} → Lent cs began store → Lent (night k size xs os store a os′ store′ ∷ cs) began store′
+  past-change : {cs : List Call} {s : Settings} {v : ℕ} {began now : List ℕ} → Lent cs began now → Lent (change s v ∷ cs) began now
+  past-midi : {cs : List Call} {bytes : List ℕ} {v : ℕ} {began now : List ℕ} → Lent cs began now → Lent (midi bytes v ∷ cs) began now
+  past-meter : {cs : List Call} {m : Meter} {began now : List ℕ} → Lent cs began now → Lent (meter m ∷ cs) began now
+
+-- the notes of all samples received
+abbrev pub notesOf : Received → List ℕ
+notesOf r = notesSung (givenOf r)
+
+-- the list of a tuner that keeps one is the one worked out afresh, in the store that was lent where it began
+abbrev pub ListTheorem : Type 0
+ListTheorem = (cs : List Call) (t : Tuner) (began now : List ℕ) → Series cs t → Lent cs began now → (received cs .listed ≡ 0 → ⊥) → IsList (notesOf (received cs)) began (sheet (t .numbers .list) now)
 
 -- ---- a block sent again
 

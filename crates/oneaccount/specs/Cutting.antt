@@ -1,4 +1,4 @@
--- The cutting of a take does not matter, nor do the voices beside it: but for its last block, the lead of a tuner is what happened in its take. Definitions only, and two statements (`LeadTheorem`, `CuttingTheorem`); their proofs are `lead-holds` and `cutting-holds` in Holds.antt.
+-- The cutting of a take does not matter, nor do the voices beside it: but for its last block, the lead of a tuner is what happened in its take. Definitions only, and three statements (`LeadTheorem`, `CuttingTheorem`, `ListCutting`); their proofs are `lead-holds` and `cutting-holds` in Holds.antt, and `list-cutting` in Lists.antt.
 use mathlib.Core.Path.{_≡_}
 use mathlib.Core.List.{List}
 use Prim.Native.Nat.{ℕ, _-_, _<_}
@@ -11,7 +11,7 @@ use Rattle.pitch.specs.Pitches.{keptOf}
 use Rattle.meters.specs.declared.Meter.{Meter}
 use Rattle.one.specs.declared.Tuner.{Tuner}
 use Rattle.one.specs.Tuners.{layoutNumber, voiceAt, standsAt, Metered}
-use Rattle.oneaccount.specs.Account.{Call, Series, Received, courseOf, received}
+use Rattle.oneaccount.specs.Account.{Call, Series, Received, courseOf, received, Lent}
 
 -- ---- what a tuner is, by what happened in its take
 
@@ -79,3 +79,10 @@ pub record Alike (r r′ : Received) (t t′ : Tuner) : Type 0 where
 -- any two series of calls that received the same take: in blocks of whatever legal lengths and in nights, with keyboard bytes in whatever calls, repeats, refused calls and readings of the meter anywhere among them, and whatever voices and list there were
 abbrev pub CuttingTheorem : Type 0
 CuttingTheorem = (cs cs′ : List Call) (t t′ : Tuner) → Series cs t → Series cs′ t′ → SameTake (received cs) (received cs′) → Alike (received cs) (received cs′) t t′
+
+-- and the list, where both keep one, in equal stores that were lent each time as they were left
+abbrev pub ListCutting : Type 0
+ListCutting =
+    (cs cs′ : List Call) (t t′ : Tuner) (began now now′ : List ℕ)
+    → Series cs t → Series cs′ t′ → SameTake (received cs) (received cs′) → Lent cs began now → Lent cs′ began now′ → (received cs .listed ≡ 0 → ⊥) → (received cs′ .listed ≡ 0 → ⊥)
+    → (t .numbers .list ≡ t′ .numbers .list) × (now ≡ now′)

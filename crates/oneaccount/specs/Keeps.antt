@@ -1,6 +1,6 @@
 -- After any calls the lead of a tuner is that of what happened in its take, and what the answers count adds up to what the rules give (`Keeps`).
 -- A night is its single calls: a first block that is given again adds nothing, and behind it none is given again, since its number is not the last one's.
-use mathlib.Core.Path.{_≡_, refl, sym, ap, _∙_, subst}
+use mathlib.Core.Path.{_≡_, refl, sym, ap, _∙_, subst, transport}
 use mathlib.Core.List.{List, [], _∷_, _++_, append-nil, append-assoc, map, flatten}
 use Prim.Native.Nat.{ℕ, zero, suc, _+_, _≤_, _<_}
 use native.Mathlib.Nat.{add-zero, zero-add, add-assoc}
@@ -94,7 +94,7 @@ start-keeps {hertz} {s} {listed} {zs} {store} {t′} {v} p =
     (λ e. rw e (subst (λ (u : Tuner). Keeps (begun cdRate defaults 0 []) u) (sym (p .tuner ∙ cond-no (freshTuner hertz s (keptList listed) zs) defaultTuner e)) default-keeps))
 
 -- ---- more has happened, and more was counted
-abbrev more : Received → List Event → Figures → Received
+abbrev pub more : Received → List Event → Figures → Received
 more r es f = record { hertz = r .hertz; settings = r .settings; listed = r .listed; intervals = r .intervals; events = r .events ++ es; figures = added (r .figures) f }
 
 -- nothing counted
@@ -174,7 +174,7 @@ module _ {r : Received} {t : Tuner} (k : Keeps r t) where
       taken-lead : t′ ≡ leadAfter (courseAfter (courseOf r) (map sample xs)) t′
       taken-lead = along (courseAfter (courseOf r) (map sample xs)) (taken-is ∙ ap (λ (u : Tuner). afterBlock u n xs store) (k .is)) (block-after course-right t xs n store)
 
-      gives-is : gives (forceOf t) (takeOf t) xs ≡ givenBy (courseOf r) (map sample xs)
+      pub gives-is : gives (forceOf t) (takeOf t) xs ≡ givenBy (courseOf r) (map sample xs)
       gives-is = ap (λ (u : Tuner). gives (forceOf u) (takeOf u) xs) (k .is) ∙ block-gives course-right t xs
 
       counted-is : countedBy a ≡ figuresOf (givenBy (courseOf r) (map sample xs))
@@ -214,7 +214,7 @@ module _ {r : Received} {t : Tuner} (k : Keeps r t) where
           more-keeps (map sample xs) (samples-in xs) (took-stays (k .stays .0) (k .stays .1) p) (ap (λ (u : Tuner). u .numbers .listed) taken-is)
           (ap chosenOf taken-is ∙ beside-intervals _ (λ v. refl) (t .numbers .chosen) (t .numbers .voices)) taken-lead (subst (MovedBy r (map sample xs)) (sym taken-is) taken-moved) counted-is
 
-      taken-length : a .written ≡ length xs
+      pub taken-length : a .written ≡ length xs
       taken-length = ap (λ (b : Answer). b .written) (took-keeps p (omega arith) .0)
 
     untaken-keeps : 0 < a .number → Keeps r t′
@@ -349,68 +349,6 @@ taken-new (take-full f l n c) e = absurd (omega arith)
 not-itself : (t : Tuner) (k : ℕ) → t .numbers .last .number ≡ k → IsLast t (numberAfter k) → ⊥
 not-itself t k e l = let n = l .1 in omega arith
 
--- blocks of which none is given again: what they count, and what is received of their samples
-record Went (r : Received) (t′ : Tuner) (n n′ : NightAnswer) (xss : List (List ℤ)) : Type 0 where
-  counts : Figures
-  keeps : Keeps (more r (map sample (take (counts .samples) (flatten xss))) counts) t′
-  figures : countedIn n′ ≡ added (countedIn n) counts
-  again : n′ .again ≡ n .again
-
-went-none : {r : Received} {t′ : Tuner} (n n′ : NightAnswer) (xss : List (List ℤ)) → Keeps r t′ → countedIn n′ ≡ countedIn n → n′ .again ≡ n .again → Went r t′ n n′ xss
-went-none {r} {t′} n n′ xss k e f = record { counts = noFigures; keeps = subst (λ (q : Received). Keeps q t′) (sym (more-none r)) k; figures = e ∙ sym (added-none (countedIn n)); again = f }
-
-goes : {r : Received} {t t′ : Tuner} {k : ℕ} {n n′ : NightAnswer} {xss os ps : List (List ℤ)} {store s : List ℕ} → Keeps r t → (IsLast t k → ⊥) → OneByOne t k n xss os store t′ n′ ps s → Went r t′ n n′ xss
-unfolding flatten added afterBlock
-goes {n = n} h l all-done = went-none n n [] h refl refl
-goes {k = k} {n} h l (refused {xs = xs} {xss = xss} {a = a} p m) = let e = added-refused n k a (a .number) m in went-none n (addedBy (a .number) n k a) (xs ∷ xss) (untaken-keeps h p (omega arith)) (e .0) (e .1)
-goes {r} {t} {t′} {k} {n} {n′} h l (and-on {u = u} {xs = xs} {xss = xss} {store = store} {a = a} p m o) =
-    let zero-is : a .number ≡ 0 = by-zero in
-    let w = goes (taken-keeps h p zero-is) (not-itself u k (ap (λ (v : Tuner). v .numbers .last .number) (taken-is h p zero-is))) o in
-    let e = added-zero n k a (a .number) zero-is in
-    let c = w .counts in
-    let many : a .written + c .samples ≡ length xs + c .samples = ap (λ (m : ℕ). m + c .samples) (taken-length h p zero-is) in
-    record {
-      counts = added (countedBy a) c;
-      keeps =
-          subst (λ (q : Received). Keeps q t′)
-          (more-more r xs (take (c .samples) (flatten xss)) (countedBy a) c
-          ∙ ap (λ (ys : List ℤ). more r (map sample ys) (added (countedBy a) c)) (sym (ap (λ (m : ℕ). take m (xs ++ flatten xss)) many ∙ take-append-add xs (flatten xss) (c .samples))))
-          (w .keeps);
-      figures = w .figures ∙ ap (λ (f : Figures). added f c) (e .0) ∙ added-assoc (countedIn n) (countedBy a) c;
-      again = w .again ∙ e .1;
-    }
-  where
-    by-zero : a .number ≡ 0
-    by-zero = by (eqb (a .number) 0) (λ e. eqb-true (a .number) 0 e) (λ e. let some = eqb-false (a .number) 0 e in absurd (l (again-last (p .verdict) (took-number p ∙ (omega arith)))))
-
--- all blocks of a night, from nothing on
-abbrev Nights : Received → NightAnswer → List ℤ → Tuner → Type 0
-Nights r a xs t′ = Keeps (withSamples r (a .again .written) (a .written) xs (countedIn a)) t′
-
--- what went, behind the samples ys of a first block that was given again
-behind : {r : Received} {t′ : Tuner} {n n′ : NightAnswer} {xss : List (List ℤ)} (ys : List ℤ) → Went r t′ n n′ xss → countedIn n ≡ noFigures → n .again .written ≡ length ys → Nights r n′ (ys ++ flatten xss) t′
-behind {r} {t′} {n} {n′} {xss} ys w none long =
-    let is : countedIn n′ ≡ w .counts = w .figures ∙ ap (λ (f : Figures). added f (w .counts)) none ∙ none-added (w .counts) in
-    let from : n′ .again .written ≡ length ys = ap (λ (b : Answer). b .written) (w .again) ∙ long in
-    let rest : drop (n′ .again .written) (ys ++ flatten xss) ≡ flatten xss = ap (λ (m : ℕ). drop m (ys ++ flatten xss)) from ∙ drop-append-seam ys (flatten xss) in
-    subst (λ (q : Received). Keeps q t′) (sym (λ i. more r (map sample (take (is i .samples) (rest i))) (is i))) (w .keeps)
-
-night-keeps : {r : Received} {t t′ : Tuner} {k : ℕ} {n n′ : NightAnswer} {xss os ps : List (List ℤ)} {store s : List ℕ} → Keeps r t → countedIn n ≡ noFigures → n .again .written ≡ 0 → OneByOne t k n xss os store t′ n′ ps s → Nights r n′ (flatten xss) t′
-unfolding flatten afterBlock
-night-keeps {n = n} h none long all-done = behind {n = n} [] (went-none n n [] h refl refl) none long
-night-keeps {k = k} {n} h none long (refused {xs = xs} {xss = xss} {a = a} p m) =
-    let e = added-refused n k a (a .number) m in behind {n = n} [] (went-none n (addedBy (a .number) n k a) (xs ∷ xss) (untaken-keeps h p (omega arith)) (e .0) (e .1)) none long
-night-keeps {r} {t} {t′} {k} {n} {n′} h none long (and-on {u = u} {xs = xs} {xss = xss} {a = a} p m o) =
-    by (eqb (a .number) 0)
-    (λ e. behind {n = n} [] (goes h (taken-new (p .verdict) (took-number p ∙ eqb-true (a .number) 0 e)) (and-on p m o)) none long)
-    (λ e. let some = eqb-false (a .number) 0 e in
-    let one : a .number ≡ 1 = omega arith in
-    let last = again-last (p .verdict) (took-number p ∙ one) in
-    let same : u .numbers .last .number ≡ k = ap (λ (v : Tuner). v .numbers .last .number) (untaken-unchanged p (omega arith) .0) ∙ sym (last .1) in
-    let q = added-again n k a (a .number) one in
-    behind {n = addedBy (a .number) n k a} xs (goes (untaken-keeps h p (omega arith)) (not-itself u k same) o) (q .0 ∙ none)
-    (ap (λ (b : Answer). b .written) (q .1) ∙ ap (λ (b : Answer). b .written) (took-keeps p m .0)))
-
 -- the stretches of a recording are the recording
 stretches-all : (n size : ℕ) (xs : List ℤ) → 0 < size → length xs ≤ n → flatten (firstStretches n size xs) ≡ xs
 unfolding firstStretches flatten
@@ -421,16 +359,90 @@ stretches-all (suc n) zero (x ∷ xs) h l = absurd (omega arith)
 stretches-all (suc n) (suc size) (x ∷ xs) h l =
     ap (λ (zs : List ℤ). take (suc size) (x ∷ xs) ++ zs) (stretches-all n (suc size) (drop size xs) h (omega (arith, length-drop size xs))) ∙ take-append-drop (suc size) (x ∷ xs)
 
-untouched-keeps : {r : Received} {v : ℕ} {t t′ : Tuner} {os ps : List (List ℤ)} {store s : List ℕ} {a : NightAnswer} (xs : List ℤ) → Keeps r t → Untouched v t os store t′ a ps s → Nights r a xs t′
-untouched-keeps {r} {v} {t} {t′} xs k u =
-    subst (λ (b : NightAnswer). Nights r b xs t′) (sym (u .answer)) (subst (λ (q : Received). Keeps q t′) (sym (more-none r)) (subst (Keeps r) (sym (u .tuner)) k))
+-- a block that is taken keeps this too, of what was received, the tuner and the store
+pub record Carried (P : Received → Tuner → List ℕ → Type 0) : Type 0 where
+  pub step : {r : Received} {t u : Tuner} {k : ℕ} {xs : List ℤ} {os ps : List (List ℤ)} {store mid : List ℕ} {a : Answer} → Keeps r t → P r t store → Took t k xs os store u a ps mid → a .number ≡ 0 → P (more r (map sample xs) (countedBy a)) u mid
 
-nighted-keeps : {r : Received} {t t′ : Tuner} {k size : ℕ} {xs : List ℤ} {os ps : List (List ℤ)} {store s : List ℕ} {a : NightAnswer} → Keeps r t → Nighted t k size xs os store t′ a ps s → Nights r a xs t′
-nighted-keeps {xs = xs} k (Night.record-out-of-range n u) = untouched-keeps xs k u
-nighted-keeps {xs = xs} k (Night.size-out-of-range g z u) = untouched-keeps xs k u
-nighted-keeps {xs = xs} k (Night.output-short g z m r u) = untouched-keeps xs k u
-nighted-keeps {r} {t′ = t′} {size = size} {xs = xs} {a = a} k (Night.one-by-one g z m room o) =
-    subst (λ (ys : List ℤ). Nights r a ys t′) (stretches-all (length xs) size xs z (omega arith)) (night-keeps k refl refl o)
+-- and so a night does
+module _ (P : Received → Tuner → List ℕ → Type 0) (carried : Carried P) where
+  abbrev Both : Received → Tuner → List ℕ → Type 0
+  Both r t s = Keeps r t × P r t s
+
+  untaken-both : {r : Received} {t u : Tuner} {k : ℕ} {xs : List ℤ} {os ps : List (List ℤ)} {store mid : List ℕ} {a : Answer} → Both r t store → Took t k xs os store u a ps mid → 0 < a .number → Both r u mid
+  untaken-both {r} h p m = let e = untaken-unchanged p m in transport (λ i. Both r (sym (e .0) i) (sym (e .1) i)) h
+
+  -- blocks of which none is given again: what they count, and what is received of their samples
+  record Went (r : Received) (t′ : Tuner) (s : List ℕ) (n n′ : NightAnswer) (xss : List (List ℤ)) : Type 0 where
+    counts : Figures
+    keeps : Both (more r (map sample (take (counts .samples) (flatten xss))) counts) t′ s
+    figures : countedIn n′ ≡ added (countedIn n) counts
+    again : n′ .again ≡ n .again
+
+  went-none : {r : Received} {t′ : Tuner} {s : List ℕ} (n n′ : NightAnswer) (xss : List (List ℤ)) → Both r t′ s → countedIn n′ ≡ countedIn n → n′ .again ≡ n .again → Went r t′ s n n′ xss
+  went-none {r} {t′} {s} n n′ xss k e f = record { counts = noFigures; keeps = subst (λ (q : Received). Both q t′ s) (sym (more-none r)) k; figures = e ∙ sym (added-none (countedIn n)); again = f }
+
+  goes : {r : Received} {t t′ : Tuner} {k : ℕ} {n n′ : NightAnswer} {xss os ps : List (List ℤ)} {store s : List ℕ} → Both r t store → (IsLast t k → ⊥) → OneByOne t k n xss os store t′ n′ ps s → Went r t′ s n n′ xss
+  unfolding flatten added afterBlock
+  goes {n = n} h l all-done = went-none n n [] h refl refl
+  goes {k = k} {n} h l (refused {xs = xs} {xss = xss} {a = a} p m) = let e = added-refused n k a (a .number) m in went-none n (addedBy (a .number) n k a) (xs ∷ xss) (untaken-both h p (omega arith)) (e .0) (e .1)
+  goes {r} {t} {t′} {k} {n} {n′} {s = s} h l (and-on {u = u} {xs = xs} {xss = xss} {store = store} {a = a} p m o) =
+      let zero-is : a .number ≡ 0 = by-zero in
+      let w = goes (taken-keeps (h .0) p zero-is, carried .step (h .0) (h .1) p zero-is) (not-itself u k (ap (λ (v : Tuner). v .numbers .last .number) (taken-is (h .0) p zero-is))) o in
+      let e = added-zero n k a (a .number) zero-is in
+      let c = w .counts in
+      let many : a .written + c .samples ≡ length xs + c .samples = ap (λ (m : ℕ). m + c .samples) (taken-length (h .0) p zero-is) in
+      record {
+        counts = added (countedBy a) c;
+        keeps =
+            subst (λ (q : Received). Both q t′ s)
+            (more-more r xs (take (c .samples) (flatten xss)) (countedBy a) c
+            ∙ ap (λ (ys : List ℤ). more r (map sample ys) (added (countedBy a) c)) (sym (ap (λ (m : ℕ). take m (xs ++ flatten xss)) many ∙ take-append-add xs (flatten xss) (c .samples))))
+            (w .keeps);
+        figures = w .figures ∙ ap (λ (f : Figures). added f c) (e .0) ∙ added-assoc (countedIn n) (countedBy a) c;
+        again = w .again ∙ e .1;
+      }
+    where
+      by-zero : a .number ≡ 0
+      by-zero = by (eqb (a .number) 0) (λ e. eqb-true (a .number) 0 e) (λ e. let some = eqb-false (a .number) 0 e in absurd (l (again-last (p .verdict) (took-number p ∙ (omega arith)))))
+
+  -- all blocks of a night, from nothing on
+  abbrev Nights : Received → NightAnswer → List ℤ → Tuner → List ℕ → Type 0
+  Nights r a xs t′ s = Both (withSamples r (a .again .written) (a .written) xs (countedIn a)) t′ s
+
+  -- what went, behind the samples ys of a first block that was given again
+  behind : {r : Received} {t′ : Tuner} {s : List ℕ} {n n′ : NightAnswer} {xss : List (List ℤ)} (ys : List ℤ) → Went r t′ s n n′ xss → countedIn n ≡ noFigures → n .again .written ≡ length ys → Nights r n′ (ys ++ flatten xss) t′ s
+  behind {r} {t′} {s} {n} {n′} {xss} ys w none long =
+      let is : countedIn n′ ≡ w .counts = w .figures ∙ ap (λ (f : Figures). added f (w .counts)) none ∙ none-added (w .counts) in
+      let from : n′ .again .written ≡ length ys = ap (λ (b : Answer). b .written) (w .again) ∙ long in
+      let rest : drop (n′ .again .written) (ys ++ flatten xss) ≡ flatten xss = ap (λ (m : ℕ). drop m (ys ++ flatten xss)) from ∙ drop-append-seam ys (flatten xss) in
+      subst (λ (q : Received). Both q t′ s) (sym (λ i. more r (map sample (take (is i .samples) (rest i))) (is i))) (w .keeps)
+
+  night-keeps : {r : Received} {t t′ : Tuner} {k : ℕ} {n n′ : NightAnswer} {xss os ps : List (List ℤ)} {store s : List ℕ} → Both r t store → countedIn n ≡ noFigures → n .again .written ≡ 0 → OneByOne t k n xss os store t′ n′ ps s → Nights r n′ (flatten xss) t′ s
+  unfolding flatten afterBlock
+  night-keeps {n = n} h none long all-done = behind {n = n} [] (went-none n n [] h refl refl) none long
+  night-keeps {k = k} {n} h none long (refused {xs = xs} {xss = xss} {a = a} p m) =
+      let e = added-refused n k a (a .number) m in behind {n = n} [] (went-none n (addedBy (a .number) n k a) (xs ∷ xss) (untaken-both h p (omega arith)) (e .0) (e .1)) none long
+  night-keeps {r} {t} {t′} {k} {n} {n′} h none long (and-on {u = u} {xs = xs} {xss = xss} {a = a} p m o) =
+      by (eqb (a .number) 0)
+      (λ e. behind {n = n} [] (goes h (taken-new (p .verdict) (took-number p ∙ eqb-true (a .number) 0 e)) (and-on p m o)) none long)
+      (λ e. let some = eqb-false (a .number) 0 e in
+      let one : a .number ≡ 1 = omega arith in
+      let last = again-last (p .verdict) (took-number p ∙ one) in
+      let same : u .numbers .last .number ≡ k = ap (λ (v : Tuner). v .numbers .last .number) (untaken-unchanged p (omega arith) .0) ∙ sym (last .1) in
+      let q = added-again n k a (a .number) one in
+      behind {n = addedBy (a .number) n k a} xs (goes (untaken-both h p (omega arith)) (not-itself u k same) o) (q .0 ∙ none)
+      (ap (λ (b : Answer). b .written) (q .1) ∙ ap (λ (b : Answer). b .written) (took-keeps p m .0)))
+
+  untouched-keeps : {r : Received} {v : ℕ} {t t′ : Tuner} {os ps : List (List ℤ)} {store s : List ℕ} {a : NightAnswer} (xs : List ℤ) → Both r t store → Untouched v t os store t′ a ps s → Nights r a xs t′ s
+  untouched-keeps {r} {v} {t} {t′} {s = s} xs k u =
+      subst (λ (b : NightAnswer). Nights r b xs t′ s) (sym (u .answer)) (subst (λ (q : Received). Both q t′ s) (sym (more-none r)) (transport (λ i. Both r (sym (u .tuner) i) (sym (u .rows) i)) k))
+
+  pub nighted-keeps : {r : Received} {t t′ : Tuner} {k size : ℕ} {xs : List ℤ} {os ps : List (List ℤ)} {store s : List ℕ} {a : NightAnswer} → Both r t store → Nighted t k size xs os store t′ a ps s → Nights r a xs t′ s
+  nighted-keeps {xs = xs} k (Night.record-out-of-range n u) = untouched-keeps xs k u
+  nighted-keeps {xs = xs} k (Night.size-out-of-range g z u) = untouched-keeps xs k u
+  nighted-keeps {xs = xs} k (Night.output-short g z m r u) = untouched-keeps xs k u
+  nighted-keeps {r} {t′ = t′} {size = size} {xs = xs} {s = s} {a = a} k (Night.one-by-one g z m room o) =
+      subst (λ (ys : List ℤ). Nights r a ys t′ s) (stretches-all (length xs) size xs z (omega arith)) (night-keeps k refl refl o)
 
 -- ---- after any series of calls
 call-keeps : {r : Received} {t t′ : Tuner} {c : Call} → Keeps r t → Leaves t c t′ → Keeps (plus c r) t′
@@ -438,7 +450,7 @@ unfolding plus
 call-keeps k (by-start p) = start-keeps p
 call-keeps k (by-change {s = s} p) = change-keeps k s p
 call-keeps k (by-block p) = block-keeps k p
-call-keeps k (by-night p) = nighted-keeps k p
+call-keeps k (by-night p) = nighted-keeps (λ r t s. Unit) (record { step = λ k h p z. tt }) (k, tt) p .0
 call-keeps k (by-midi {bytes = bytes} p) = midi-keeps k bytes p
 call-keeps k (by-reset {store = store} p) = reset-keeps k store p
 call-keeps k (by-meter p) = k

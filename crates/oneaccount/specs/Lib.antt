@@ -5,4 +5,5 @@ pub mod Newest
 pub mod Following
 pub mod Alongside
 pub mod Keeps
+pub mod Lists
 pub mod Holds
