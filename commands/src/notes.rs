@@ -68,7 +68,6 @@ fn midi(file: &Path, request: &Notes, to: &Path, over: bool) -> Result<(), End> 
     let source = Source::of(file)?;
     let (take, _) = source.take()?;
     let settings = settings(&request.take, take.hertz);
-    started(Record::start(take.hertz, settings).0)?;
     let mut places = places(to, 0, &[&source], over)?;
     let least = request.least * f64::from(take.hertz) / 1000.0;
     let mut rows = rows(PROGRAM, &source, &take, settings)?;
