@@ -1,4 +1,4 @@
--- The account: what holds of the tuner after any series of calls, nights among them. Definitions only, and four statements (`Theorem`, `ListTheorem`, `SentAgain`, `NeverNine`); their proofs are `holds` in Holds.antt, `list-holds` in Lists.antt, `again-holds` and `never-nine` in Calls.antt.
+-- The account: what holds of the tuner after any series of calls, nights among them. Definitions only, and five statements (`Theorem`, `ToneTheorem`, `ListTheorem`, `SentAgain`, `NeverNine`); their proofs are `holds` and `tone-holds` in Holds.antt, `list-holds` in Lists.antt, `again-holds` and `never-nine` in Calls.antt.
 use mathlib.Core.Path.{_≡_}
 use mathlib.Core.Bool.{cond}
 use mathlib.Core.List.{List, [], _∷_, _++_, map}
@@ -8,7 +8,7 @@ use lib.IntN.{ℤ, pos, _+ℤ_, _-ℤ_}
 use lib.ListN.{length, take, drop}
 use Rattle.rules.specs.declared.Settings.{Settings}
 use Rattle.rules.specs.Rules.{Sound, silence, heardAll, Given, inputAt, cycles, stepped, defaults, cdRate, after, allRepeated, allDropped, eighthLags}
-use Rattle.rules.specs.Facts.{InBounds, Right}
+use Rattle.rules.specs.Facts.{InBounds, Right, WithoutPeriod}
 use Rattle.history.specs.History.{Event, sample, new-settings, byte, Course, freshCourse, forceAt, happened, courseAfter, givenBy, samplesIn, ratesUsed, totalOf}
 use Rattle.reports.specs.declared.Figures.{Figures}
 use Rattle.reports.specs.Reports.{figuresOf, added, noFigures}
@@ -185,6 +185,10 @@ pub record Accounted (r : Received) (t : Tuner) : Type 0 where
 -- after any series of calls
 abbrev pub Theorem : Type 0
 Theorem = (cs : List Call) (t : Tuner) → Series cs t → Accounted (received cs) t
+
+-- after any series of calls: a tuner without a period has no wanted note, the rate 65536, and nothing kept
+abbrev pub ToneTheorem : Type 0
+ToneTheorem = (cs : List Call) (t : Tuner) → Series cs t → WithoutPeriod (t .numbers .pitch .tone)
 
 -- ---- the list
 

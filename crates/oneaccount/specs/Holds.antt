@@ -7,12 +7,13 @@ use lib.IntN.{pos}
 use lib.ListN.{length}
 use Rattle.whole.specs.Ring.{var, con, _⊕_, _⊖_, solve}
 use Rattle.rules.specs.Rules.{Sound, inputAt, heardAll, freshTake, stepped, after, eighthLags}
-use Rattle.rules.specs.Facts.{InBounds, Right, energiesOf, correlationsOf}
+use Rattle.rules.specs.Facts.{InBounds, Right, WithoutPeriod, energiesOf, correlationsOf}
 use Rattle.rules.specs.Position.{behind-in-bounds}
 use Rattle.rules.specs.Sane.{always-in-bounds}
 use Rattle.history.specs.History.{Event, sample, new-settings, byte, Course, freshCourse, forceAt, happened, courseAfter, givenBy, samplesIn}
 use Rattle.history.specs.Courses.{course-hertz, course-count, course-sound, course-force}
 use Rattle.history.specs.Accounts.{account}
+use Rattle.history.specs.Unpitched.{without-period}
 use Rattle.pitch.specs.Pitches.{PitchRight, keptOf}
 use Rattle.pitch.specs.Keeping.{listed-right, kept-right}
 use Rattle.meters.specs.declared.Meter.{Meter}
@@ -25,7 +26,7 @@ use Rattle.tuner.specs.Taking.{eighths-next}
 use Rattle.one.specs.declared.Tuner.{Tuner}
 use Rattle.one.specs.Tuners.{takeOf, forceOf, voiceAt, Good, standsAt, Metered, record-out-of-range, read}
 use Rattle.onestaying.specs.Staying.{good-force, good-sane}
-use Rattle.oneaccount.specs.Account.{Received, courseOf, heardOf, eighthsOf, voiceCourse, VoiceHolds, Accounted, Theorem}
+use Rattle.oneaccount.specs.Account.{Received, courseOf, heardOf, eighthsOf, voiceCourse, VoiceHolds, Accounted, received, Theorem, ToneTheorem}
 use Rattle.oneaccount.specs.Cutting.{leadAfter, LeadTheorem, SameTake, Alike, CuttingTheorem}
 use Rattle.oneaccount.specs.Alongside.{course-account}
 use Rattle.oneaccount.specs.Following.{lead-agree}
@@ -111,6 +112,12 @@ module _ {r : Received} {t : Tuner} (k : Keeps r t) where
 
 pub holds : Theorem
 holds cs t h = kept-accounted (series-keeps h)
+
+pub tone-holds : ToneTheorem
+unfolding leadAfter
+tone-holds cs t h =
+    let r = received cs in
+    subst (λ (u : Tuner). WithoutPeriod (u .numbers .pitch .tone)) (sym (series-keeps h .is)) (without-period (r .hertz) (r .settings) (r .events))
 
 -- ---- the cutting does not matter
 

@@ -7,3 +7,7 @@ pub mod Alongside
 pub mod Keeps
 pub mod Lists
 pub mod Holds
+pub mod Wrong
+pub mod ShutOut
+pub mod WrongCuts
+pub mod CutsShutOut
