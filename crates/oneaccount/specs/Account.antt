@@ -1,18 +1,18 @@
--- The account: what holds of the tuner after any series of calls, nights among them. Definitions only, and four statements (`Theorem`, `ListTheorem`, `SentAgain`, `NeverNine`); their proofs are `holds` in Holds.antt, `list-holds` in Lists.antt, `again-holds` and `never-nine` in Calls.antt.
+-- The account: what holds of the tuner after any series of calls, nights among them. Definitions only, and six statements (`Theorem`, `ToneTheorem`, `LateTheorem`, `ListTheorem`, `SentAgain`, `NeverNine`); their proofs are `holds`, `tone-holds` and `late-holds` in Holds.antt, `list-holds` in Lists.antt, `again-holds` and `never-nine` in Calls.antt.
 use mathlib.Core.Path.{_≡_}
 use mathlib.Core.Bool.{cond}
 use mathlib.Core.List.{List, [], _∷_, _++_, map}
 use Prim.Native.Nat.{ℕ, _+_, _<_}
 use lib.Dec.{eqb}
 use lib.IntN.{ℤ, pos, _+ℤ_, _-ℤ_}
-use lib.ListN.{length, take, drop}
+use lib.ListN.{length, take, drop, getD}
 use Rattle.rules.specs.declared.Settings.{Settings}
-use Rattle.rules.specs.Rules.{Sound, silence, heardAll, Given, inputAt, cycles, stepped, defaults, cdRate, after, allRepeated, allDropped, eighthLags}
-use Rattle.rules.specs.Facts.{InBounds, Right}
-use Rattle.history.specs.History.{Event, sample, new-settings, byte, Course, freshCourse, forceAt, happened, courseAfter, givenBy, samplesIn, ratesUsed, totalOf}
+use Rattle.rules.specs.Rules.{Sound, silence, heardAll, Given, inputAt, cycles, stepped, defaults, cdRate, after, samplesOut, allRepeated, allDropped, eighthLags}
+use Rattle.rules.specs.Facts.{InBounds, Right, valueAt, SixteenBits, WithoutPeriod}
+use Rattle.history.specs.History.{Event, sample, new-settings, byte, Course, freshCourse, forceAt, happened, courseAfter, givenBy, samplesIn, ratesUsed, totalOf, NonePitched, fourLate}
 use Rattle.reports.specs.declared.Figures.{Figures}
 use Rattle.reports.specs.Reports.{figuresOf, added, noFigures}
-use Rattle.voices.specs.Voices.{Voiced, voicedBy, voiceAfter, voiceAccount, Since, sinceAfter}
+use Rattle.voices.specs.Voices.{Voiced, voicedBy, voiceAfter, voiceOuts, voiceAccount, Since, sinceAfter}
 use Rattle.lists.specs.Lists.{notesSung, sheet, IsList}
 use Rattle.singers.specs.Singers.{keptInterval}
 use Rattle.meters.specs.declared.Meter.{Meter}
@@ -51,7 +51,7 @@ pub data Series : List Call → Tuner → Type 0 where
   fresh-start : Series [] defaultTuner
   and-then : {cs : List Call} {c : Call} {t t′ : Tuner} → Series cs t → Leaves t c t′ → Series (c ∷ cs) t′
 
--- since the last start or reset: the sample rate and the settings with which the take began, whether a list is kept, and the voices chosen; what happened in it; and what the answers count, added up
+-- since the last start or reset: the sample rate and the settings with which the take began, whether a list is kept, and the voices chosen; what happened in it; what the answers count, added up; and all that was written, of the lead and of each chosen voice
 pub record Received : Type 0 where
   pub hertz : ℕ
   pub settings : Settings
@@ -59,10 +59,11 @@ pub record Received : Type 0 where
   pub intervals : List ℕ
   pub events : List Event
   pub figures : Figures
+  pub wrote : List (List ℤ)
 
--- nothing was received yet
+-- nothing was received yet, and nothing written
 abbrev pub begun : ℕ → Settings → ℕ → List ℕ → Received
-begun hertz s listed is = record { hertz = hertz; settings = s; listed = listed; intervals = is; events = []; figures = noFigures }
+begun hertz s listed is = record { hertz = hertz; settings = s; listed = listed; intervals = is; events = []; figures = noFigures; wrote = [] ∷ map (λ (i : ℕ). []) is }
 
 -- how far the take has come by it
 abbrev pub courseOf : Received → Course
@@ -70,11 +71,17 @@ courseOf r = courseAfter (freshCourse (r .hertz) (r .settings)) (r .events)
 
 -- more has happened
 abbrev pub withEvents : Received → List Event → Received
-withEvents r es = record { hertz = r .hertz; settings = r .settings; listed = r .listed; intervals = r .intervals; events = r .events ++ es; figures = r .figures }
+withEvents r es = record { hertz = r .hertz; settings = r .settings; listed = r .listed; intervals = r .intervals; events = r .events ++ es; figures = r .figures; wrote = r .wrote }
 
--- samples that were taken: of a recording n from a place on, and what was counted
-abbrev pub withSamples : Received → (from n : ℕ) → List ℤ → Figures → Received
-withSamples r from n xs f =
+-- what was written of each output before, and behind it n of the samples that the output now holds, from a place on; a further output is not looked at
+unfoldable pub onward : (from n : ℕ) → List (List ℤ) → List (List ℤ) → List (List ℤ)
+onward from n [] os = []
+onward from n (w ∷ ws) [] = w ∷ ws
+onward from n (w ∷ ws) (o ∷ os) = (w ++ take n (drop from o)) ∷ onward from n ws os
+
+-- samples that were taken: of a recording n from a place on; what was counted; and what the outputs now hold in the same places
+abbrev pub withSamples : Received → (from n : ℕ) → List ℤ → Figures → List (List ℤ) → Received
+withSamples r from n xs f os =
     record {
       hertz = r .hertz;
       settings = r .settings;
@@ -82,6 +89,7 @@ withSamples r from n xs f =
       intervals = r .intervals;
       events = r .events ++ map sample (take n (drop from xs));
       figures = added (r .figures) f;
+      wrote = onward from n (r .wrote) os;
     }
 
 -- what the answers to a block and to a night count
@@ -99,8 +107,8 @@ ifTaken v r′ r = cond (eqb v 0) r′ r
 unfoldable pub plus : Call → Received → Received
 plus (start hertz s listed zs store v) r = ifTaken v (begun hertz s (keptList listed) (map keptInterval zs)) (begun cdRate defaults 0 [])
 plus (change s v) r = ifTaken v (withEvents r (new-settings s ∷ [])) r
-plus (block k xs os store a os′ store′) r = ifTaken (a .number) (withSamples r 0 (a .written) xs (countedBy a)) r
-plus (night k size xs os store a os′ store′) r = withSamples r (a .again .written) (a .written) xs (countedIn a)
+plus (block k xs os store a os′ store′) r = ifTaken (a .number) (withSamples r 0 (a .written) xs (countedBy a) os′) r
+plus (night k size xs os store a os′ store′) r = withSamples r (a .again .written) (a .written) xs (countedIn a) os′
 plus (midi bytes v) r = ifTaken v (withEvents r (map byte bytes)) r
 plus (reset store v) r = ifTaken v (begun (r .hertz) (courseOf r .settings) (r .listed) (r .intervals)) r
 plus (meter m) r = r
@@ -150,6 +158,12 @@ voicedOf interval r = voicedIn interval (freshCourse (r .hertz) (r .settings)) (
 abbrev pub sinceLevel : ℕ → Received → Since
 sinceLevel interval r = sinceAfter (record { level = inputAt 0; gave = [] }) (voicedOf interval r)
 
+-- ---- samples out
+
+-- what the rules give over all that was received: of the lead, then of each chosen voice
+abbrev pub outsOf : Received → List (List ℤ)
+outsOf r = samplesOut (givenOf r) ∷ map (λ (i : ℕ). voiceOuts (voicedOf i r)) (r .intervals)
+
 -- ---- what holds
 
 -- the account of a voice: its position is that of the rules over the history, and equals what it was put level at, and its rates and cycles since; never ahead of the input nor over 1,000 samples behind: now, and after any beginning xs of the block that comes next
@@ -176,6 +190,8 @@ pub record Accounted (r : Received) (t : Tuner) : Type 0 where
   pub position : let gs = givenOf r in takeOf t .position ≡ pos (totalOf (ratesUsed gs)) -ℤ pos (cycles (allRepeated gs)) +ℤ pos (cycles (allDropped gs))
   -- what was answered adds up to what the report counts of all that was received: its samples, those with a period, the cycles repeated and dropped, and the sum of the rates' distances from 65536
   pub figures : r .figures ≡ figuresOf (givenOf r)
+  -- everything that lead and chosen voices wrote since the take began, in blocks and in nights, is what the rules give
+  pub wrote : r .wrote ≡ outsOf r
   -- never ahead of the input nor over 1,000 samples behind: now, and after any beginning xs of the block that comes next
   pub bounds : InBounds (t .numbers .count) (takeOf t .position)
   pub within : (xs : List ℤ) → InBounds (length (samplesOf r) + length xs) (after (forceOf t) (courseOf r .take) xs .position)
@@ -185,6 +201,16 @@ pub record Accounted (r : Received) (t : Tuner) : Type 0 where
 -- after any series of calls
 abbrev pub Theorem : Type 0
 Theorem = (cs : List Call) (t : Tuner) → Series cs t → Accounted (received cs) t
+
+-- after any series of calls: a tuner without a period has no wanted note, the rate 65536, and nothing kept
+abbrev pub ToneTheorem : Type 0
+ToneTheorem = (cs : List Call) (t : Tuner) → Series cs t → WithoutPeriod (t .numbers .pitch .tone)
+
+-- until a period is tracked, what the lead wrote is what was received, four samples late; the samples have 16 bits
+abbrev pub LateTheorem : Type 0
+LateTheorem =
+    (cs : List Call) (t : Tuner) → Series cs t → ((i : ℕ) → SixteenBits (valueAt (samplesOf (received cs)) i)) → NonePitched (givenOf (received cs))
+    → getD (received cs .wrote) 0 [] ≡ fourLate (samplesOf (received cs))
 
 -- ---- the list
 

@@ -25,6 +25,7 @@ use Rattle.one.specs.declared.Tuner.{Tuner}
 use Rattle.one.specs.declared.Answer.{Answer}
 use Rattle.one.specs.Tuners.{afterBlock, parts, keptOuts, Roomy, written, lastSamples, Fits, Verdict, record-out-of-range, given-again, counted, Took, storeFits, beginNumber, Done, withKeys, Metered, read}
 use Rattle.one.specs.Verdicts.{verdict-one, verdict-fits}
+use Rattle.one.specs.Outputs.{room-after as after-room}
 use Rattle.onestaying.specs.Staying.{Stays, default-stays, own-number, took-stays, changed-stays, keyed-stays, reset-stays, started-stays, took-number, took-keeps, took-taken, untaken-unchanged}
 use Rattle.onenight.specs.declared.NightAnswer.{NightAnswer}
 use Rattle.onenight.specs.Night as Night
@@ -187,13 +188,6 @@ starts-kept n (suc m) zs (o ∷ os) few h r =
     let here = length-take-le 512 zs (omega arith) in
     λ i. take-at (take n (take 512 zs)) (drop n o) n (length-take-le n (take 512 zs) (omega (arith, here))) i ∷ starts-kept n m (drop 512 zs) os few (omega (arith, length-drop 512 zs)) (r .1) i
 
--- room is asked for as many outputs as are kept
-pub roomy-alike : (n m : ℕ) (zs zs′ : List ℤ) (os : List (List ℤ)) → Roomy n (parts m zs) os → Roomy n (parts m zs′) os
-unfolding parts Roomy
-roomy-alike n zero zs zs′ os r = tt
-roomy-alike n (suc m) zs zs′ [] r = absurd r
-roomy-alike n (suc m) zs zs′ (o ∷ os) r = (r .0, roomy-alike n m (drop 512 zs) (drop 512 zs′) os (r .1))
-
 -- block k of the samples xs is taken, and sent again to a tuner with the same last block
 module _ {t u : Tuner} {k : ℕ} {xs : List ℤ} {os ps : List (List ℤ)} {store store₁ : List ℕ} {a : Answer} (g : Stays t) (p : Took t k xs os store u a ps store₁) (first : a .number ≡ 0) where
   taken-fits : Fits t xs os
@@ -205,8 +199,7 @@ module _ {t u : Tuner} {k : ℕ} {xs : List ℤ} {os ps : List (List ℤ)} {stor
   room-after : Roomy (length xs) (keptOuts u) os
   unfolding afterBlock
   room-after =
-      let many : t .numbers .chosen ≡ u .numbers .chosen = sym (ap (λ (v : Tuner). v .numbers .chosen) taken-is) in
-      subst (λ (m : ℕ). Roomy (length xs) (parts (1 + m) (u .outs)) os) many (roomy-alike (length xs) (1 + t .numbers .chosen) (t .outs) (u .outs) os (taken-fits .room))
+      after-room t (u .outs) os (length xs) (u .numbers .chosen) (length xs) refl (ap (λ (v : Tuner). v .numbers .chosen) taken-is) (taken-fits .room)
 
   module _ {w : Tuner} (gw : Stays w) (same : SameLast u w) where
     last-length : w .numbers .last .length ≡ length xs

@@ -1,8 +1,9 @@
 -- The cutting of a take does not matter, nor do the voices beside it: but for its last block, the lead of a tuner is what happened in its take. Definitions only, and three statements (`LeadTheorem`, `CuttingTheorem`, `ListCutting`); their proofs are `lead-holds` and `cutting-holds` in Holds.antt, and `list-cutting` in Lists.antt.
 use mathlib.Core.Path.{_≡_}
-use mathlib.Core.List.{List}
-use Prim.Native.Nat.{ℕ, _-_, _<_}
+use mathlib.Core.List.{List, []}
+use Prim.Native.Nat.{ℕ, _+_, _-_, _<_}
 use lib.IntN.{ℤ, natAbs, _-ℤ_}
+use lib.ListN.{getD}
 use Rattle.whole.specs.Numbers.{listOf}
 use Rattle.rules.specs.Rules.{Sound, inputAt, keptSamples, keptEighths, eighthLags}
 use Rattle.rules.specs.Facts.{energiesOf, correlationsOf}
@@ -59,9 +60,14 @@ pub record SameTake (r r′ : Received) : Type 0 where
   pub settings : r .settings ≡ r′ .settings
   pub events : r .events ≡ r′ .events
 
--- the same was given: all that was counted, every reading of the meter, and every part of the record but the last block, the list, the voices and the kept outputs
+-- one of the outputs: 0 is the lead's, 1 the first voice's
+abbrev pub outputAt : List (List ℤ) → ℕ → List ℤ
+outputAt os j = getD os j []
+
+-- the same was given: all that was counted, all samples out of the lead, every reading of the meter, and every part of the record but the last block, the list, the voices and the kept outputs
 pub record Alike (r r′ : Received) (t t′ : Tuner) : Type 0 where
   pub figures : r .figures ≡ r′ .figures
+  pub lead : outputAt (r .wrote) 0 ≡ outputAt (r′ .wrote) 0
   pub meter : {m m′ : Meter} → Metered t m → Metered t′ m′ → m ≡ m′
   pub settings : t .numbers .settings ≡ t′ .numbers .settings
   pub hertz : t .numbers .hertz ≡ t′ .numbers .hertz
@@ -73,8 +79,9 @@ pub record Alike (r r′ : Received) (t t′ : Tuner) : Type 0 where
   pub correlations : t .correlations ≡ t′ .correlations
   pub heard : t .heard ≡ t′ .heard
   pub eighths : t .eighths ≡ t′ .eighths
-  -- and wherever the same interval was chosen, the voices stand in one place: a further voice changes nothing
-  pub voices : (i j : ℕ) → i < t .numbers .chosen → j < t′ .numbers .chosen → let v = voiceAt (t .numbers .voices) i in let w = voiceAt (t′ .numbers .voices) j in v .interval ≡ w .interval → standsAt t v ≡ standsAt t′ w
+  -- and wherever the same interval was chosen, the voices wrote the same and stand in one place: a further voice changes nothing
+  pub voices : (i j : ℕ) → i < t .numbers .chosen → j < t′ .numbers .chosen → let v = voiceAt (t .numbers .voices) i in let w = voiceAt (t′ .numbers .voices) j in v .interval ≡ w .interval
+      → (outputAt (r .wrote) (1 + i) ≡ outputAt (r′ .wrote) (1 + j)) × (standsAt t v ≡ standsAt t′ w)
 
 -- any two series of calls that received the same take: in blocks of whatever legal lengths and in nights, with keyboard bytes in whatever calls, repeats, refused calls and readings of the meter anywhere among them, and whatever voices and list there were
 abbrev pub CuttingTheorem : Type 0

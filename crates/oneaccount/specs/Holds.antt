@@ -1,32 +1,35 @@
 -- The proofs of the account, and that the cutting of a take does not matter: after any calls the lead is that of what happened in its take (`Keeps`), and the account is read off it.
 use mathlib.Core.Path.{_≡_, refl, sym, ap, _∙_, subst}
-use mathlib.Core.List.{List, [], _∷_}
-use Prim.Native.Nat.{ℕ, _+_, _<_}
+use mathlib.Core.List.{List, [], _∷_, map}
+use Prim.Native.Nat.{ℕ, zero, suc, _+_, _<_}
 use native.Mathlib.Nat.{zero-add}
-use lib.IntN.{pos}
-use lib.ListN.{length}
+use native.Mathlib.Omega.{arith}
+use lib.IntN.{ℤ, pos}
+use lib.ListN.{length, take, getD}
 use Rattle.whole.specs.Ring.{var, con, _⊕_, _⊖_, solve}
-use Rattle.rules.specs.Rules.{Sound, inputAt, heardAll, freshTake, stepped, after, eighthLags}
-use Rattle.rules.specs.Facts.{InBounds, Right, energiesOf, correlationsOf}
+use Rattle.rules.specs.Rules.{Sound, inputAt, heardAll, freshTake, stepped, after, samplesOut, eighthLags}
+use Rattle.rules.specs.Facts.{InBounds, Right, WithoutPeriod, energiesOf, correlationsOf}
 use Rattle.rules.specs.Position.{behind-in-bounds}
 use Rattle.rules.specs.Sane.{always-in-bounds}
 use Rattle.history.specs.History.{Event, sample, new-settings, byte, Course, freshCourse, forceAt, happened, courseAfter, givenBy, samplesIn}
 use Rattle.history.specs.Courses.{course-hertz, course-count, course-sound, course-force}
 use Rattle.history.specs.Accounts.{account}
+use Rattle.history.specs.Unpitched.{without-period, four-late}
 use Rattle.pitch.specs.Pitches.{PitchRight, keptOf}
 use Rattle.pitch.specs.Keeping.{listed-right, kept-right}
 use Rattle.meters.specs.declared.Meter.{Meter}
 use Rattle.meters.specs.Meters.{shownOf}
 use Rattle.reports.specs.Reports.{figuresOf}
-use Rattle.voices.specs.Voices.{voiceRates, voiceCycles, voiceAccount}
+use Rattle.voices.specs.Voices.{voiceOuts, voiceRates, voiceCycles, voiceAccount}
 use Rattle.voices.specs.Accompanying.{voice-bounds}
 use Rattle.tuner.specs.Tuners.{made}
 use Rattle.tuner.specs.Taking.{eighths-next}
+use Rattle.one.specs.declared.Voice.{Voice}
 use Rattle.one.specs.declared.Tuner.{Tuner}
 use Rattle.one.specs.Tuners.{takeOf, forceOf, voiceAt, Good, standsAt, Metered, record-out-of-range, read}
 use Rattle.onestaying.specs.Staying.{good-force, good-sane}
-use Rattle.oneaccount.specs.Account.{Received, courseOf, heardOf, eighthsOf, voiceCourse, VoiceHolds, Accounted, Theorem}
-use Rattle.oneaccount.specs.Cutting.{leadAfter, LeadTheorem, SameTake, Alike, CuttingTheorem}
+use Rattle.oneaccount.specs.Account.{Received, courseOf, heardOf, eighthsOf, voiceCourse, voicedIn, voicedOf, VoiceHolds, Accounted, received, Theorem, ToneTheorem, LateTheorem}
+use Rattle.oneaccount.specs.Cutting.{leadAfter, LeadTheorem, SameTake, outputAt, Alike, CuttingTheorem}
 use Rattle.oneaccount.specs.Alongside.{course-account}
 use Rattle.oneaccount.specs.Following.{lead-agree}
 use Rattle.oneaccount.specs.Keeps.{Keeps, course-right, series-keeps}
@@ -101,6 +104,7 @@ module _ {r : Received} {t : Tuner} (k : Keeps r t) where
         lags = λ e. pitch .sums e;
         position = sym (lead-agree right t .position) ∙ account (r .hertz) (r .settings) (r .events);
         figures = k .figures;
+        wrote = k .wrote;
         bounds = good-sane good .bounds;
         voices = λ j l. subst (λ (u : Tuner). VoiceHolds r u (voiceAt (t .numbers .voices) j)) (k .is) (voice-holds j l);
         within = λ xs. subst (λ (m : ℕ). InBounds (m + length xs) (after (forceAt c) (c .take) xs .position)) count-is (always-in-bounds (course-force right) (right .take) xs);
@@ -112,12 +116,35 @@ module _ {r : Received} {t : Tuner} (k : Keeps r t) where
 pub holds : Theorem
 holds cs t h = kept-accounted (series-keeps h)
 
+pub tone-holds : ToneTheorem
+unfolding leadAfter
+tone-holds cs t h =
+    let r = received cs in
+    subst (λ (u : Tuner). WithoutPeriod (u .numbers .pitch .tone)) (sym (series-keeps h .is)) (without-period (r .hertz) (r .settings) (r .events))
+
+pub late-holds : LateTheorem
+late-holds cs t h b n = let r = received cs in ap (λ (ws : List (List ℤ)). getD ws 0 []) (series-keeps h .wrote) ∙ four-late (r .hertz) (r .settings) (r .events) b n
+
 -- ---- the cutting does not matter
 
 -- a good tuner's meter shows what its sample rate and pitch make of it
 meter-shows : {t : Tuner} {m : Meter} → Good t → Metered t m → m ≡ shownOf (t .numbers .hertz) (t .numbers .pitch)
 meter-shows g (record-out-of-range n e) = absurd (n g)
 meter-shows g (read h e x) = e
+
+-- what chosen voice j wrote
+voice-output : {r : Received} {t : Tuner} → Keeps r t → (j : ℕ) → j < t .numbers .chosen → outputAt (r .wrote) (1 + j) ≡ voiceOuts (voicedOf (voiceAt (t .numbers .voices) j .interval) r)
+voice-output {r} {t} k j h =
+    let n = t .numbers in
+    let next : 1 + j ≡ suc j = omega arith in
+    (λ i. outputAt (k .wrote i) (next i)) ∙ ap (λ (is : List ℕ). getD (map (λ (i : ℕ). voiceOuts (voicedOf i r)) is) j []) (sym (k .intervals))
+    ∙ at (n .chosen) (n .voices) j h (omega (arith, k .stays .1 .voices, k .stays .0 .voices .few))
+  where
+    at : (m : ℕ) (vs : List Voice) (j : ℕ) → j < m → j < length vs → getD (map (λ (i : ℕ). voiceOuts (voicedOf i r)) (map (λ (v : Voice). v .interval) (take m vs))) j [] ≡ voiceOuts (voicedOf (voiceAt vs j .interval) r)
+    at zero vs j h l = absurd (omega arith)
+    at (suc m) [] j h l = absurd (omega arith)
+    at (suc m) (v ∷ vs) zero h l = refl
+    at (suc m) (v ∷ vs) (suc j) h l = at m vs j (omega arith) (omega arith)
 
 module _ {r r′ : Received} {t t′ : Tuner} (k : Keeps r t) (k′ : Keeps r′ t′) (same : SameTake r r′) where
   course-same : courseOf r ≡ courseOf r′
@@ -134,6 +161,7 @@ module _ {r r′ : Received} {t t′ : Tuner} (k : Keeps r t) (k′ : Keeps r′
       let pitch = part-same (λ (u : Tuner). u .numbers .pitch) refl in
       record {
         figures = k .figures ∙ (λ i. figuresOf (givenBy (freshCourse (same .hertz i) (same .settings i)) (same .events i))) ∙ sym (k′ .figures);
+        lead = ap (λ (ws : List (List ℤ)). outputAt ws 0) (k .wrote) ∙ (λ i. samplesOut (givenBy (freshCourse (same .hertz i) (same .settings i)) (same .events i))) ∙ sym (ap (λ (ws : List (List ℤ)). outputAt ws 0) (k′ .wrote));
         meter = λ p p′. meter-shows (k .stays .0) p ∙ (λ i. shownOf (hertz i) (pitch i)) ∙ sym (meter-shows (k′ .stays .0) p′);
         settings = part-same (λ (u : Tuner). u .numbers .settings) refl;
         hertz = hertz;
@@ -145,8 +173,10 @@ module _ {r r′ : Received} {t t′ : Tuner} (k : Keeps r t) (k′ : Keeps r′
         correlations = part-same (λ (u : Tuner). u .correlations) refl;
         heard = part-same (λ (u : Tuner). u .heard) refl;
         eighths = part-same (λ (u : Tuner). u .eighths) refl;
-        voices = λ i j l l′ e.
-            k .voices i l ∙ (λ m. voiceCourse (e m) (freshCourse (same .hertz m) (same .settings m)) (inputAt 0) (same .events m)) ∙ sym (k′ .voices j l′);
+        voices = λ i j l l′ e. (
+          voice-output k i l ∙ (λ m. voiceOuts (voicedIn (e m) (freshCourse (same .hertz m) (same .settings m)) (inputAt 0) (same .events m))) ∙ sym (voice-output k′ j l′),
+          k .voices i l ∙ (λ m. voiceCourse (e m) (freshCourse (same .hertz m) (same .settings m)) (inputAt 0) (same .events m)) ∙ sym (k′ .voices j l′),
+        );
       }
 
 pub cutting-holds : CuttingTheorem

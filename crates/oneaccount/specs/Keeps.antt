@@ -1,28 +1,28 @@
--- After any calls the lead of a tuner is that of what happened in its take, and what the answers count adds up to what the rules give (`Keeps`).
+-- After any calls the lead of a tuner is that of what happened in its take, and what the answers count and what was written add up to what the rules give (`Keeps`).
 -- A night is its single calls: a first block that is given again adds nothing, and behind it none is given again, since its number is not the last one's.
 use mathlib.Core.Path.{_≡_, refl, sym, ap, _∙_, subst, transport}
-use mathlib.Core.List.{List, [], _∷_, _++_, append-nil, append-assoc, map, flatten}
+use mathlib.Core.List.{List, [], _∷_, _++_, append-nil, append-assoc, map, map-map, flatten}
 use Prim.Native.Nat.{ℕ, zero, suc, _+_, _≤_, _<_}
 use native.Mathlib.Nat.{add-zero, zero-add, add-assoc}
 use native.Mathlib.Omega.{arith}
 use borrow.Author.Tests.{eqb-true, eqb-false}
 use lib.Dec.{eqb}
 use lib.IntN.{ℤ, pos, _-ℤ_, +ℤ-idr}
-use lib.ListN.{length, take, drop, length-drop, take-append-drop}
-use lib.Seq.{take-append-add, drop-append-seam}
+use lib.ListN.{length, take, drop, length-map, length-drop, take-append-drop}
+use lib.Seq.{take-at, take-length, take-append-add, drop-append-seam, length-take-le}
 use Rattle.whole.specs.Tests.{by, cond-case, cond-yes, cond-no}
 use Rattle.rules.specs.declared.Settings.{Settings}
-use Rattle.rules.specs.Rules.{inputAt, gives, defaults, cdRate}
+use Rattle.rules.specs.Rules.{inputAt, gives, samplesOut, defaults, cdRate}
 use Rattle.rules.specs.Ranges.{unrefused-start, default-start}
 use Rattle.rules.specs.Facts.{InRange, SampleRate, InBounds}
 use Rattle.rules.specs.Position.{behind-in-bounds, in-bounds-behind}
-use Rattle.rules.specs.Blocks.{given-length}
+use Rattle.rules.specs.Blocks.{given-length, gives-length}
 use Rattle.history.specs.History.{Event, sample, new-settings, byte, Course, freshCourse, courseAfter, givenBy}
 use Rattle.history.specs.Courses.{course-force, courseAfter-append, givenBy-append, given-bytes, course-hertz, CourseIn, EventsIn, fresh-course-in, course-in, events-in-append, samples-in, bytes-in}
 use Rattle.reports.specs.declared.Figures.{Figures}
 use Rattle.reports.specs.Reports.{figuresOf, added, noFigures}
 use Rattle.reports.specs.Counting.{figures-append, figures-none}
-use Rattle.voices.specs.Voices.{voiceAfter}
+use Rattle.voices.specs.Voices.{voiceAfter, voiceGives, voiceOuts}
 use Rattle.voices.specs.Accompanying.{voice-bounds}
 use Rattle.tuner.specs.Tuners.{heardAfter}
 use Rattle.singers.specs.Singers.{keptInterval}
@@ -30,13 +30,16 @@ use Rattle.singers.specs.Voicing.{number-says}
 use Rattle.one.specs.declared.Voice.{Voice}
 use Rattle.one.specs.declared.Tuner.{Tuner}
 use Rattle.one.specs.declared.Answer.{Answer}
-use Rattle.one.specs.Tuners.{takeOf, forceOf, voiceAt, VoiceIn, standsAt, voiceBeside, levelVoice, chosenVoices, freshNumbers, silentTuner, freshTuner, defaultTuner, afterBlock, IsLast, Verdict, record-out-of-range, block-empty, block-over-512, output-short, number-neither, other-samples, given-again, take-full, taken, counted, Took, keptList, Started, Done, withNumbers, withKeys, withSettings, withBytes, begunAgain, Changed, Keyed, Reset}
-use Rattle.onestaying.specs.Staying.{Stays, good-force, good-sane, beside-at, default-stays, begin-says, own-number, took-stays, changed-stays, keyed-stays, started-stays, begun-stays, took-number, took-keeps, took-taken, untaken-unchanged}
+use Rattle.one.specs.Tuners.{takeOf, forceOf, voiceAt, VoiceIn, standsAt, voiceBeside, voiceOut, outsBeside, keptOuts, Roomy, written, levelVoice, chosenVoices, freshNumbers, silentTuner, freshTuner, defaultTuner, afterBlock, IsLast, Verdict, record-out-of-range, block-empty, block-over-512, output-short, number-neither, other-samples, given-again, take-full, taken, counted, Took, keptList, Started, Done, withNumbers, withKeys, withSettings, withBytes, begunAgain, Changed, Keyed, Reset}
+use Rattle.one.specs.Verdicts.{verdict-fits, after-last}
+use Rattle.one.specs.Outputs.{roomy-same, room-after}
+use Rattle.onestaying.specs.Staying.{Stays, good-force, good-sane, beside-at, voice-length, lead-out-length, voice-out-length, default-stays, begin-says, own-number, took-stays, changed-stays, keyed-stays, started-stays, begun-stays, took-number, took-keeps, took-taken, untaken-unchanged}
 use Rattle.onenight.specs.declared.NightAnswer.{NightAnswer}
 use Rattle.onenight.specs.Night as Night
-use Rattle.onenight.specs.Night.{firstStretches, numberAfter, OneByOne, all-done, and-on, refused, addedBy, Untouched, Nighted}
-use Rattle.oneaccount.specs.Account.{Call, Leaves, by-start, by-change, by-block, by-night, by-midi, by-reset, by-meter, Series, fresh-start, and-then, Received, begun, courseOf, givenOf, withEvents, withSamples, countedBy, countedIn, ifTaken, plus, received, voiceCourse, voiceOf}
-use Rattle.oneaccount.specs.Alongside.{voiceCourse-append, samples-move, bytes-leave, voice-alike}
+use Rattle.onenight.specs.Night.{firstStretches, numberAfter, before, OneByOne, all-done, and-on, refused, addedBy, Untouched, Nighted}
+use Rattle.oneaccount.specs.Account.{Call, Leaves, by-start, by-change, by-block, by-night, by-midi, by-reset, by-meter, Series, fresh-start, and-then, Received, begun, courseOf, givenOf, withEvents, onward, withSamples, countedBy, countedIn, ifTaken, plus, received, voiceCourse, voicedIn, voiceOf, voicedOf, outsOf}
+use Rattle.oneaccount.specs.Alongside.{voiceCourse-append, samples-move, samples-give, bytes-leave, voice-alike}
+use Rattle.oneaccount.specs.Written.{onward-none, onward-before, onward-behind, lead-more, voice-more, outs-same, rest-many, kept-room, leadOut, kept-after, all-written}
 use Rattle.oneaccount.specs.Cutting.{leadAfter}
 use Rattle.oneaccount.specs.Following.{lead-agree, fresh-after, block-gives, block-after, change-after, bytes-after}
 
@@ -54,14 +57,15 @@ pub record Keeps (r : Received) (t : Tuner) : Type 0 where
   pub listed : t .numbers .listed ≡ r .listed
   pub intervals : chosenOf t ≡ r .intervals
   pub figures : r .figures ≡ figuresOf (givenOf r)
+  pub wrote : r .wrote ≡ outsOf r
   pub voices : (j : ℕ) → j < t .numbers .chosen → let v = voiceAt (t .numbers .voices) j in standsAt t v ≡ voiceOf (v .interval) r
 
 -- ---- a fresh tuner
 silent-keeps : (hertz : ℕ) (s : Settings) (listed chosen : ℕ) (vs : List Voice) (is : List ℕ) → SampleRate hertz → InRange s → Stays (silentTuner (freshNumbers hertz s listed chosen vs))
     → map (λ (v : Voice). v .interval) (take chosen vs) ≡ is → ((j : ℕ) → voiceAt vs j .behind ≡ 0) → Keeps (begun hertz s listed is) (silentTuner (freshNumbers hertz s listed chosen vs))
-unfolding silentTuner freshNumbers courseAfter givenBy voiceCourse
+unfolding silentTuner freshNumbers courseAfter givenBy voiceCourse voicedIn samplesOut voiceOuts
 silent-keeps hertz s listed chosen vs is rate e g same level =
-    record { stays = g; began = fresh-course-in rate e; ranges = tt; is = fresh-after hertz s listed chosen vs; listed = refl; intervals = same; figures = sym figures-none; voices = λ j h. ap (λ (b : ℕ). inputAt 0 -ℤ pos b) (level j) ∙ +ℤ-idr (inputAt 0) }
+    record { stays = g; began = fresh-course-in rate e; ranges = tt; is = fresh-after hertz s listed chosen vs; listed = refl; intervals = same; figures = sym figures-none; wrote = refl; voices = λ j h. ap (λ (b : ℕ). inputAt 0 -ℤ pos b) (level j) ∙ +ℤ-idr (inputAt 0) }
 
 chosen-intervals : (zs : List ℤ) → length zs ≤ 3 → map (λ (v : Voice). v .interval) (take (length zs) (chosenVoices zs)) ≡ map keptInterval zs
 unfolding chosenVoices
@@ -93,9 +97,13 @@ start-keeps {hertz} {s} {listed} {zs} {store} {t′} {v} p =
     (silent-keeps hertz s (keptList listed) (length zs) (chosenVoices zs) (map keptInterval zs) (r .0) (r .1) (subst Stays is (started-stays p)) (chosen-intervals zs (number-says zs (q .1) .1)) (chosen-level zs))))
     (λ e. rw e (subst (λ (u : Tuner). Keeps (begun cdRate defaults 0 []) u) (sym (p .tuner ∙ cond-no (freshTuner hertz s (keptList listed) zs) defaultTuner e)) default-keeps))
 
--- ---- more has happened, and more was counted
-abbrev pub more : Received → List Event → Figures → Received
-more r es f = record { hertz = r .hertz; settings = r .settings; listed = r .listed; intervals = r .intervals; events = r .events ++ es; figures = added (r .figures) f }
+-- ---- more has happened, more was counted, and this was written in all
+abbrev pub more : Received → List Event → Figures → List (List ℤ) → Received
+more r es f ws = record { hertz = r .hertz; settings = r .settings; listed = r .listed; intervals = r .intervals; events = r .events ++ es; figures = added (r .figures) f; wrote = ws }
+
+-- samples were taken, and stand at the beginning of the outputs
+abbrev pub moreSamples : Received → (n : ℕ) → List ℤ → Figures → List (List ℤ) → Received
+moreSamples r n xs f os = more r (map sample xs) f (onward 0 n (r .wrote) os)
 
 -- nothing counted
 added-none : (f : Figures) → added f noFigures ≡ f
@@ -117,8 +125,8 @@ added-assoc f g h =
       sum = add-assoc (f .sum) (g .sum) (h .sum) i;
     }
 
-more-none : (r : Received) → more r [] noFigures ≡ r
-more-none r = λ i. record { hertz = r .hertz; settings = r .settings; listed = r .listed; intervals = r .intervals; events = append-nil (r .events) i; figures = added-none (r .figures) i }
+more-none : (r : Received) (os : List (List ℤ)) → moreSamples r 0 [] noFigures os ≡ r
+more-none r os = λ i. record { hertz = r .hertz; settings = r .settings; listed = r .listed; intervals = r .intervals; events = append-nil (r .events) i; figures = added-none (r .figures) i; wrote = onward-none 0 (r .wrote) os i }
 
 -- the lead of a tuner is its own
 along : (d : Course) {t u : Tuner} → t ≡ u → u ≡ leadAfter d u → t ≡ leadAfter d t
@@ -140,8 +148,8 @@ module _ {r : Received} {t : Tuner} (k : Keeps r t) where
     given-more : givenBy (freshCourse (r .hertz) (r .settings)) (r .events ++ es) ≡ givenOf r ++ givenBy (courseOf r) es
     given-more = givenBy-append (freshCourse (r .hertz) (r .settings)) (r .events) es
 
-    more-keeps : {f : Figures} → f ≡ figuresOf (givenBy (courseOf r) es) → Keeps (more r es f) t′
-    more-keeps f =
+    more-keeps : {f : Figures} {ws : List (List ℤ)} → f ≡ figuresOf (givenBy (courseOf r) es) → ws ≡ outsOf (withEvents r es) → Keeps (more r es f ws) t′
+    more-keeps f o =
         record {
           stays = g;
           began = k .began;
@@ -150,14 +158,15 @@ module _ {r : Received} {t : Tuner} (k : Keeps r t) where
           listed = l ∙ k .listed;
           intervals = v ∙ k .intervals;
           figures = (λ i. added (k .figures i) (f i)) ∙ sym (ap figuresOf given-more ∙ figures-append (givenOf r) (givenBy (courseOf r) es));
+          wrote = o;
           voices = λ j h. w j h ∙ sym (voiceCourse-append (voiceAt (t′ .numbers .voices) j .interval) (freshCourse (r .hertz) (r .settings)) (inputAt 0) (r .events) es);
         }
 
     -- no sample among it
-    events-keep : givenBy (courseOf r) es ≡ [] → Keeps (withEvents r es) t′
-    events-keep none =
-        subst (λ (f : Figures). Keeps (record { hertz = r .hertz; settings = r .settings; listed = r .listed; intervals = r .intervals; events = r .events ++ es; figures = f }) t′) (added-none (r .figures))
-        (more-keeps (sym (ap figuresOf none ∙ figures-none)))
+    events-keep : givenBy (courseOf r) es ≡ [] → ((i : ℕ) → voicedIn i (courseOf r) (voiceOf i r) es ≡ []) → Keeps (withEvents r es) t′
+    events-keep none quiet =
+        subst (λ (f : Figures). Keeps (record { hertz = r .hertz; settings = r .settings; listed = r .listed; intervals = r .intervals; events = r .events ++ es; figures = f; wrote = r .wrote }) t′) (added-none (r .figures))
+        (more-keeps (sym (ap figuresOf none ∙ figures-none)) (k .wrote ∙ sym (outs-same r es none quiet)))
 
   -- ---- a block taken
   beside-intervals : (f : Voice → Voice) → ((v : Voice) → f v .interval ≡ v .interval) → (n : ℕ) (vs : List Voice)
@@ -166,7 +175,48 @@ module _ {r : Received} {t : Tuner} (k : Keeps r t) where
   beside-intervals f e (suc n) [] = refl
   beside-intervals f e (suc n) (v ∷ vs) = λ i. e v i ∷ beside-intervals f e n vs i
 
+  -- each voice goes on as over the whole take
+  voice-goes : (xs : List ℤ) (v : Voice) → VoiceIn v → standsAt t v ≡ voiceOf (v .interval) r
+      → (voiceAfter (forceOf t) (v .interval) (takeOf t) (standsAt t v) xs ≡ voiceCourse (v .interval) (courseOf r) (voiceOf (v .interval) r) (map sample xs))
+      × (voiceGives (forceOf t) (v .interval) (takeOf t) (standsAt t v) xs ≡ voicedIn (v .interval) (courseOf r) (voiceOf (v .interval) r) (map sample xs))
+  unfolding leadAfter
+  voice-goes xs v i e =
+      let c = courseOf r in
+      let here : InBounds (t .numbers .count) (standsAt t v) = behind-in-bounds (record { is = refl; near = i .behind }) in
+      let level : InBounds (c .take .count) (standsAt t v) = subst (λ (m : ℕ). InBounds m (standsAt t v)) (ap (λ (u : Tuner). u .numbers .count) (k .is)) here in
+      let same = voice-alike (course-force course-right) (v .interval) (course-right .take) (lead-agree course-right t) level xs in (
+        ap (λ (u : Tuner). voiceAfter (forceOf u) (v .interval) (takeOf u) (standsAt t v) xs) (k .is)
+            ∙ sym (same .0)
+            ∙ sym (samples-move (v .interval) c (standsAt t v) xs)
+            ∙ ap (λ (z : ℤ). voiceCourse (v .interval) c z (map sample xs)) e,
+        ap (λ (u : Tuner). voiceGives (forceOf u) (v .interval) (takeOf u) (standsAt t v) xs) (k .is)
+            ∙ sym (same .1)
+            ∙ sym (samples-give (v .interval) c (standsAt t v) xs)
+            ∙ ap (λ (z : ℤ). voicedIn (v .interval) c z (map sample xs)) e,
+      )
+
+  -- as many outputs as there are lead and chosen voices
+  wrote-many : length (r .wrote) ≡ 1 + t .numbers .chosen
+  wrote-many =
+      let n = t .numbers in
+      let three = k .stays .1 .voices in
+      let few = k .stays .0 .voices .few in
+      ap length (k .wrote)
+      ∙ omega (arith, length-map (r .intervals) (λ (i : ℕ). voiceOuts (voicedOf i r)), ap length (k .intervals), length-map (take (n .chosen) (n .voices)) (λ (v : Voice). v .interval), length-take-le (n .chosen) (n .voices) (omega arith))
+
   module _ {n : ℕ} {xs : List ℤ} {os os′ : List (List ℤ)} {store store′ : List ℕ} {t′ : Tuner} {a : Answer} (p : Took t n xs os store t′ a os′ store′) where
+    chosen-same : t′ .numbers .chosen ≡ t .numbers .chosen
+    chosen-same =
+        ap (λ (u : Tuner). u .numbers .chosen) (p .tuner)
+        ∙ cond-case (eqb (p .number) 0) (afterBlock t n xs store) t (λ (u : Tuner). u .numbers .chosen ≡ t .numbers .chosen) (λ e. after-last t n xs store .1) (λ e. refl)
+
+    -- what was taken or given again stands in the outputs
+    pub wrote-room : a .number ≤ 1 → Roomy (length xs) (r .wrote) os′
+    wrote-room h =
+        let f = verdict-fits (p .verdict) (omega (arith, took-number p)) in
+        let room = room-after t (t′ .outs) os (length xs) (t′ .numbers .chosen) (length xs) refl chosen-same (f .room) in
+        rw (took-keeps p h .1) (kept-room (took-stays (k .stays .0) (k .stays .1) p) (length xs) (r .wrote) os (f .most) (wrote-many ∙ ap (λ (m : ℕ). 1 + m) (sym chosen-same)) room)
+
     module _ (z : a .number ≡ 0) where
       taken-is : t′ ≡ afterBlock t n xs store
       taken-is = took-taken p z .0
@@ -187,18 +237,11 @@ module _ {r : Received} {t : Tuner} (k : Keeps r t) where
           ∙ (λ i. record { samples = sym (given-length (forceOf t) (takeOf t) xs) i; pitched = f .pitched; repeated = f .repeated; dropped = f .dropped; sum = f .sum })
           ∙ ap figuresOf gives-is
 
-      -- each voice goes on as over the whole take
       voice-moved : (v : Voice) → VoiceIn v → standsAt t v ≡ voiceOf (v .interval) r → standsAt (afterBlock t n xs store) (voiceBeside t xs v) ≡ voiceCourse (v .interval) (courseOf r) (voiceOf (v .interval) r) (map sample xs)
-      unfolding afterBlock heardAfter takeOf leadAfter
+      unfolding afterBlock heardAfter takeOf
       voice-moved v i e =
-          let c = courseOf r in
           let here : InBounds (t .numbers .count) (standsAt t v) = behind-in-bounds (record { is = refl; near = i .behind }) in
-          let level : InBounds (c .take .count) (standsAt t v) = subst (λ (m : ℕ). InBounds m (standsAt t v)) (ap (λ (u : Tuner). u .numbers .count) (k .is)) here in
-          sym (in-bounds-behind (voice-bounds (forceOf t) (v .interval) (takeOf t) (standsAt t v) xs (good-force (k .stays .0)) (good-sane (k .stays .0)) here) .is)
-          ∙ ap (λ (u : Tuner). voiceAfter (forceOf u) (v .interval) (takeOf u) (standsAt t v) xs) (k .is)
-          ∙ sym (voice-alike (course-force course-right) (v .interval) (course-right .take) (lead-agree course-right t) level xs .0)
-          ∙ sym (samples-move (v .interval) c (standsAt t v) xs)
-          ∙ ap (λ (z : ℤ). voiceCourse (v .interval) c z (map sample xs)) e
+          sym (in-bounds-behind (voice-bounds (forceOf t) (v .interval) (takeOf t) (standsAt t v) xs (good-force (k .stays .0)) (good-sane (k .stays .0)) here) .is) ∙ voice-goes xs v i e .0
 
       taken-moved : MovedBy r (map sample xs) (afterBlock t n xs store)
       unfolding afterBlock
@@ -208,27 +251,60 @@ module _ {r : Received} {t : Tuner} (k : Keeps r t) where
           subst (λ (v : Voice). standsAt (afterBlock t n xs store) v ≡ voiceCourse (v .interval) (courseOf r) (voiceOf (v .interval) r) (map sample xs)) (sym at)
           (voice-moved (voiceAt (m .voices) j) (k .stays .0 .voices .each j h) (k .voices j h))
 
-      pub taken-keeps : Keeps (more r (map sample xs) (countedBy a)) t′
+      pub taken-length : a .written ≡ length xs
+      taken-length = ap (λ (b : Answer). b .written) (took-keeps p (omega arith) .0)
+
+      -- the lead's samples out, and a voice's, come behind those before them
+      lead-wrote : samplesOut (givenOf r) ++ take (length xs) (leadOut t xs) ≡ samplesOut (givenOf (withEvents r (map sample xs)))
+      lead-wrote =
+          ap (λ (zs : List ℤ). samplesOut (givenOf r) ++ zs) (take-at (samplesOut (gives (forceOf t) (takeOf t) xs)) _ (length xs) (gives-length (forceOf t) (takeOf t) xs) ∙ ap samplesOut gives-is)
+          ∙ sym (lead-more r (map sample xs))
+
+      voice-wrote : (v : Voice) → VoiceIn v → standsAt t v ≡ voiceOf (v .interval) r → voiceOuts (voicedOf (v .interval) r) ++ take (length xs) (voiceOut t xs v) ≡ voiceOuts (voicedOf (v .interval) (withEvents r (map sample xs)))
+      voice-wrote v i e =
+          let gave = voiceGives (forceOf t) (v .interval) (takeOf t) (standsAt t v) xs in
+          ap (λ (zs : List ℤ). voiceOuts (voicedOf (v .interval) r) ++ zs)
+          (take-at (voiceOuts gave) _ (length xs) (voice-length (forceOf t) (v .interval) (takeOf t) (standsAt t v) xs) ∙ ap voiceOuts (voice-goes xs v i e .1))
+          ∙ sym (voice-more r (map sample xs) (v .interval))
+
+      each-same : (f g : Voice → List ℤ) (m : ℕ) (vs : List Voice) → ((j : ℕ) → j < m → f (voiceAt vs j) ≡ g (voiceAt vs j)) → m ≤ length vs → map f (take m vs) ≡ map g (take m vs)
+      each-same f g zero vs e h = refl
+      each-same f g (suc m) [] e h = refl
+      each-same f g (suc m) (v ∷ vs) e h = λ i. e 0 (omega arith) i ∷ each-same f g m vs (λ j l. e (suc j) (omega arith)) (omega arith) i
+
+      taken-wrote : onward 0 (a .written) (r .wrote) os′ ≡ outsOf (withEvents r (map sample xs))
+      unfolding afterBlock
+      taken-wrote =
+          let m = t .numbers in
+          let f = verdict-fits (p .verdict) (omega (arith, took-number p)) in
+          let vs = take (m .chosen) (m .voices) in
+          let kept = kept-after (k .stays) n xs store (f .most) in
+          let was : Voice → List ℤ = λ v. voiceOuts (voicedOf (v .interval) r) in
+          let new : Voice → List ℤ = λ v. voiceOuts (voicedOf (v .interval) (withEvents r (map sample xs))) in
+          let wrote : os′ ≡ written (length xs) (leadOut t xs ∷ map (voiceOut t xs) vs) os = took-keeps p (omega arith) .1 ∙ (λ i. written (length xs) ((ap keptOuts taken-is ∙ kept) i) os) in
+          let before : r .wrote ≡ samplesOut (givenOf r) ∷ map was vs =
+          k .wrote ∙ (λ i. samplesOut (givenOf r) ∷ (ap (map (λ (i : ℕ). voiceOuts (voicedOf i r))) (sym (k .intervals)) ∙ map-map _ _ vs) i) in
+          (λ i. onward 0 (taken-length i) (before i) (wrote i))
+          ∙ all-written (samplesOut (givenOf r)) (leadOut t xs) was (voiceOut t xs) (length xs) (omega (arith, lead-out-length t xs (f .most), f .most)) (λ v. omega (arith, voice-out-length t xs (f .most) v, f .most)) vs os
+          (subst (λ (ks : List (List ℤ)). Roomy (length xs) ks os) kept (roomy-same (length xs) (1 + m .chosen) (t .outs) (outsBeside t xs) os (f .room)))
+          ∙ (λ i. lead-wrote i
+          ∷ (each-same (λ (v : Voice). was v ++ take (length xs) (voiceOut t xs v)) new (m .chosen) (m .voices) (λ j h. voice-wrote (voiceAt (m .voices) j) (k .stays .0 .voices .each j h) (k .voices j h)) (omega (arith, k .stays .1 .voices, k .stays .0 .voices .few))
+          ∙ sym (ap (map (λ (i : ℕ). voiceOuts (voicedOf i (withEvents r (map sample xs))))) (sym (k .intervals)) ∙ map-map _ _ vs)) i)
+
+      pub taken-keeps : Keeps (moreSamples r (a .written) xs (countedBy a) os′) t′
       unfolding afterBlock
       taken-keeps =
           more-keeps (map sample xs) (samples-in xs) (took-stays (k .stays .0) (k .stays .1) p) (ap (λ (u : Tuner). u .numbers .listed) taken-is)
-          (ap chosenOf taken-is ∙ beside-intervals _ (λ v. refl) (t .numbers .chosen) (t .numbers .voices)) taken-lead (subst (MovedBy r (map sample xs)) (sym taken-is) taken-moved) counted-is
-
-      pub taken-length : a .written ≡ length xs
-      taken-length = ap (λ (b : Answer). b .written) (took-keeps p (omega arith) .0)
+          (ap chosenOf taken-is ∙ beside-intervals _ (λ v. refl) (t .numbers .chosen) (t .numbers .voices)) taken-lead (subst (MovedBy r (map sample xs)) (sym taken-is) taken-moved) counted-is taken-wrote
 
     untaken-keeps : 0 < a .number → Keeps r t′
     untaken-keeps h = subst (Keeps r) (sym (untaken-unchanged p h .0)) k
 
-    block-keeps : Keeps (ifTaken (a .number) (withSamples r 0 (a .written) xs (countedBy a)) r) t′
+    block-keeps : Keeps (ifTaken (a .number) (withSamples r 0 (a .written) xs (countedBy a) os′) r) t′
     block-keeps =
-        cond-case (eqb (a .number) 0) (withSamples r 0 (a .written) xs (countedBy a)) r (λ (q : Received). Keeps q t′)
-        (λ e. let z = eqb-true (a .number) 0 e in subst (λ (ys : List ℤ). Keeps (more r (map sample ys) (countedBy a)) t′) (sym (ap (λ (m : ℕ). take m xs) (taken-length z) ∙ take-all xs)) (taken-keeps z))
+        cond-case (eqb (a .number) 0) (withSamples r 0 (a .written) xs (countedBy a) os′) r (λ (q : Received). Keeps q t′)
+        (λ e. let z = eqb-true (a .number) 0 e in subst (λ (ys : List ℤ). Keeps (moreSamples r (a .written) ys (countedBy a) os′) t′) (sym (ap (λ (m : ℕ). take m xs) (taken-length z) ∙ take-length xs)) (taken-keeps z))
         (λ e. let some = eqb-false (a .number) 0 e in untaken-keeps (omega arith))
-      where
-        take-all : (ys : List ℤ) → take (length ys) ys ≡ ys
-        take-all [] = refl
-        take-all (y ∷ ys) = ap (λ (l : List ℤ). y ∷ l) (take-all ys)
 
   -- ---- the other calls: taken, they leave u; refused, all is as it was
   if-taken : {own v : ℕ} {u t′ : Tuner} (r′ : Received) → Done own t u t′ v → (v ≡ 0 → t′ ≡ u → Keeps r′ t′) → Keeps (ifTaken v r′ r) t′
@@ -238,14 +314,14 @@ module _ {r : Received} {t : Tuner} (k : Keeps r t) where
       (λ f. subst (Keeps r) (sym (p .tuner ∙ cond-no u t f)) k)
 
   change-keeps : (s : Settings) {t′ : Tuner} {v : ℕ} → Changed t s t′ v → Keeps (ifTaken v (withEvents r (new-settings s ∷ [])) r) t′
-  unfolding givenBy withKeys voiceCourse
+  unfolding givenBy withKeys voiceCourse voicedIn
   change-keeps s {t′} p =
       if-taken (withEvents r (new-settings s ∷ [])) p
       (λ z e.
       events-keep (new-settings s ∷ []) (sym (own-number (k .stays .0) (k .stays .1) (p .number)) ∙ z, tt) (changed-stays (k .stays .0) (k .stays .1) s p)
       (ap (λ (u : Tuner). u .numbers .listed) e) (ap chosenOf e)
       (along (courseAfter (courseOf r) (new-settings s ∷ [])) (e ∙ ap (λ (u : Tuner). withNumbers u (withSettings (u .numbers) s)) (k .is)) (change-after (courseOf r) t s))
-      (subst (MovedBy r (new-settings s ∷ [])) (sym e) (k .voices)) refl)
+      (subst (MovedBy r (new-settings s ∷ [])) (sym e) (k .voices)) refl (λ i. refl))
 
   midi-keeps : (bytes : List ℕ) {t′ : Tuner} {v : ℕ} → Keyed t bytes t′ v → Keeps (ifTaken v (withEvents r (map byte bytes)) r) t′
   unfolding withKeys
@@ -254,7 +330,7 @@ module _ {r : Received} {t : Tuner} (k : Keeps r t) where
       (λ z e.
       events-keep (map byte bytes) (bytes-in bytes) (keyed-stays (k .stays .0) (k .stays .1) bytes p) (ap (λ (u : Tuner). u .numbers .listed) e) (ap chosenOf e)
       (along (courseAfter (courseOf r) (map byte bytes)) (e ∙ ap (λ (u : Tuner). withNumbers u (withBytes (u .numbers) bytes)) (k .is)) (bytes-after (courseOf r) t bytes))
-      (subst (MovedBy r (map byte bytes)) (sym e) (λ j h. k .voices j h ∙ sym (bytes-leave (voiceAt (t .numbers .voices) j .interval) (courseOf r) _ bytes .0))) (given-bytes (courseOf r) bytes))
+      (subst (MovedBy r (map byte bytes)) (sym e) (λ j h. k .voices j h ∙ sym (bytes-leave (voiceAt (t .numbers .voices) j .interval) (courseOf r) _ bytes .0))) (given-bytes (courseOf r) bytes) (λ i. bytes-leave i (courseOf r) (voiceOf i r) bytes .1))
 
   -- settings and sample rate are the course's
   settings-are : t .numbers .settings ≡ courseOf r .settings
@@ -288,8 +364,8 @@ module _ {r : Received} {t : Tuner} (k : Keeps r t) where
 -- ---- a night
 
 -- samples, and more samples after them
-more-more : (r : Received) (xs ys : List ℤ) (f g : Figures) → more (more r (map sample xs) f) (map sample ys) g ≡ more r (map sample (xs ++ ys)) (added f g)
-more-more r xs ys f g =
+more-more : (r : Received) (xs ys : List ℤ) (f g : Figures) (ws vs us : List (List ℤ)) → vs ≡ us → more (more r (map sample xs) f ws) (map sample ys) g vs ≡ more r (map sample (xs ++ ys)) (added f g) us
+more-more r xs ys f g ws vs us e =
     λ i. record {
       hertz = r .hertz;
       settings = r .settings;
@@ -297,6 +373,7 @@ more-more r xs ys f g =
       intervals = r .intervals;
       events = (append-assoc (r .events) (map sample xs) (map sample ys) ∙ ap (λ (es : List Event). r .events ++ es) (joined xs)) i;
       figures = added-assoc (r .figures) f g i;
+      wrote = e i;
     }
   where
     joined : (xs : List ℤ) → map sample xs ++ map sample ys ≡ map sample (xs ++ ys)
@@ -361,7 +438,7 @@ stretches-all (suc n) (suc size) (x ∷ xs) h l =
 
 -- a block that is taken keeps this too, of what was received, the tuner and the store
 pub record Carried (P : Received → Tuner → List ℕ → Type 0) : Type 0 where
-  pub step : {r : Received} {t u : Tuner} {k : ℕ} {xs : List ℤ} {os ps : List (List ℤ)} {store mid : List ℕ} {a : Answer} → Keeps r t → P r t store → Took t k xs os store u a ps mid → a .number ≡ 0 → P (more r (map sample xs) (countedBy a)) u mid
+  pub step : {r : Received} {t u : Tuner} {k : ℕ} {xs : List ℤ} {os ps : List (List ℤ)} {store mid : List ℕ} {a : Answer} → Keeps r t → P r t store → Took t k xs os store u a ps mid → a .number ≡ 0 → P (moreSamples r (a .written) xs (countedBy a) ps) u mid
 
 -- and so a night does
 module _ (P : Received → Tuner → List ℕ → Type 0) (carried : Carried P) where
@@ -371,32 +448,37 @@ module _ (P : Received → Tuner → List ℕ → Type 0) (carried : Carried P) 
   untaken-both : {r : Received} {t u : Tuner} {k : ℕ} {xs : List ℤ} {os ps : List (List ℤ)} {store mid : List ℕ} {a : Answer} → Both r t store → Took t k xs os store u a ps mid → 0 < a .number → Both r u mid
   untaken-both {r} h p m = let e = untaken-unchanged p m in transport (λ i. Both r (sym (e .0) i) (sym (e .1) i)) h
 
-  -- blocks of which none is given again: what they count, and what is received of their samples
-  record Went (r : Received) (t′ : Tuner) (s : List ℕ) (n n′ : NightAnswer) (xss : List (List ℤ)) : Type 0 where
+  -- blocks of which none is given again: what they count, what is received of their samples, and what of the outputs ps
+  record Went (r : Received) (t′ : Tuner) (s : List ℕ) (n n′ : NightAnswer) (xss ps : List (List ℤ)) : Type 0 where
     counts : Figures
-    keeps : Both (more r (map sample (take (counts .samples) (flatten xss))) counts) t′ s
+    keeps : Both (moreSamples r (counts .samples) (take (counts .samples) (flatten xss)) counts ps) t′ s
     figures : countedIn n′ ≡ added (countedIn n) counts
     again : n′ .again ≡ n .again
 
-  went-none : {r : Received} {t′ : Tuner} {s : List ℕ} (n n′ : NightAnswer) (xss : List (List ℤ)) → Both r t′ s → countedIn n′ ≡ countedIn n → n′ .again ≡ n .again → Went r t′ s n n′ xss
-  went-none {r} {t′} {s} n n′ xss k e f = record { counts = noFigures; keeps = subst (λ (q : Received). Both q t′ s) (sym (more-none r)) k; figures = e ∙ sym (added-none (countedIn n)); again = f }
+  went-none : {r : Received} {t′ : Tuner} {s : List ℕ} (n n′ : NightAnswer) (xss ps : List (List ℤ)) → Both r t′ s → countedIn n′ ≡ countedIn n → n′ .again ≡ n .again → Went r t′ s n n′ xss ps
+  went-none {r} {t′} {s} n n′ xss ps k e f = record { counts = noFigures; keeps = subst (λ (q : Received). Both q t′ s) (sym (more-none r ps)) k; figures = e ∙ sym (added-none (countedIn n)); again = f }
 
-  goes : {r : Received} {t t′ : Tuner} {k : ℕ} {n n′ : NightAnswer} {xss os ps : List (List ℤ)} {store s : List ℕ} → Both r t store → (IsLast t k → ⊥) → OneByOne t k n xss os store t′ n′ ps s → Went r t′ s n n′ xss
+  goes : {r : Received} {t t′ : Tuner} {k : ℕ} {n n′ : NightAnswer} {xss os ps : List (List ℤ)} {store s : List ℕ} → Both r t store → (IsLast t k → ⊥) → OneByOne t k n xss os store t′ n′ ps s → Went r t′ s n n′ xss ps
   unfolding flatten added afterBlock
-  goes {n = n} h l all-done = went-none n n [] h refl refl
-  goes {k = k} {n} h l (refused {xs = xs} {xss = xss} {a = a} p m) = let e = added-refused n k a (a .number) m in went-none n (addedBy (a .number) n k a) (xs ∷ xss) (untaken-both h p (omega arith)) (e .0) (e .1)
-  goes {r} {t} {t′} {k} {n} {n′} {s = s} h l (and-on {u = u} {xs = xs} {xss = xss} {store = store} {a = a} p m o) =
+  goes {n = n} {os = os} h l all-done = went-none n n [] os h refl refl
+  goes {k = k} {n} h l (refused {xs = xs} {xss = xss} {ps = ps} {a = a} p m) = let e = added-refused n k a (a .number) m in went-none n (addedBy (a .number) n k a) (xs ∷ xss) ps (untaken-both h p (omega arith)) (e .0) (e .1)
+  goes {r} {t} {t′} {k} {n} {n′} {s = s} h l (and-on {u = u} {xs = xs} {xss = xss} {ps = ps} {qs} {a = a} p m o) =
       let zero-is : a .number ≡ 0 = by-zero in
       let w = goes (taken-keeps (h .0) p zero-is, carried .step (h .0) (h .1) p zero-is) (not-itself u k (ap (λ (v : Tuner). v .numbers .last .number) (taken-is (h .0) p zero-is))) o in
       let e = added-zero n k a (a .number) zero-is in
       let c = w .counts in
-      let many : a .written + c .samples ≡ length xs + c .samples = ap (λ (m : ℕ). m + c .samples) (taken-length (h .0) p zero-is) in
+      let long = taken-length (h .0) p zero-is in
+      let many : a .written + c .samples ≡ length xs + c .samples = ap (λ (m : ℕ). m + c .samples) long in
+      let wrote : onward 0 (c .samples) (onward 0 (a .written) (r .wrote) ps) qs ≡ onward 0 (a .written + c .samples) (r .wrote) (before (length xs) ps qs) =
+      ap (λ (m : ℕ). onward 0 (c .samples) (onward 0 m (r .wrote) ps) qs) long
+      ∙ sym (onward-before (length xs) (c .samples) (r .wrote) ps qs (wrote-room (h .0) p m) (rest-many (length xs) ps o))
+      ∙ ap (λ (m : ℕ). onward 0 m (r .wrote) (before (length xs) ps qs)) (sym many) in
       record {
         counts = added (countedBy a) c;
         keeps =
             subst (λ (q : Received). Both q t′ s)
-            (more-more r xs (take (c .samples) (flatten xss)) (countedBy a) c
-            ∙ ap (λ (ys : List ℤ). more r (map sample ys) (added (countedBy a) c)) (sym (ap (λ (m : ℕ). take m (xs ++ flatten xss)) many ∙ take-append-add xs (flatten xss) (c .samples))))
+            (more-more r xs (take (c .samples) (flatten xss)) (countedBy a) c (onward 0 (a .written) (r .wrote) ps) _ _ wrote
+            ∙ ap (λ (ys : List ℤ). moreSamples r (a .written + c .samples) ys (added (countedBy a) c) (before (length xs) ps qs)) (sym (ap (λ (m : ℕ). take m (xs ++ flatten xss)) many ∙ take-append-add xs (flatten xss) (c .samples))))
             (w .keeps);
         figures = w .figures ∙ ap (λ (f : Figures). added f c) (e .0) ∙ added-assoc (countedIn n) (countedBy a) c;
         again = w .again ∙ e .1;
@@ -406,43 +488,46 @@ module _ (P : Received → Tuner → List ℕ → Type 0) (carried : Carried P) 
       by-zero = by (eqb (a .number) 0) (λ e. eqb-true (a .number) 0 e) (λ e. let some = eqb-false (a .number) 0 e in absurd (l (again-last (p .verdict) (took-number p ∙ (omega arith)))))
 
   -- all blocks of a night, from nothing on
-  abbrev Nights : Received → NightAnswer → List ℤ → Tuner → List ℕ → Type 0
-  Nights r a xs t′ s = Both (withSamples r (a .again .written) (a .written) xs (countedIn a)) t′ s
+  abbrev Nights : Received → NightAnswer → List ℤ → List (List ℤ) → Tuner → List ℕ → Type 0
+  Nights r a xs os t′ s = Both (withSamples r (a .again .written) (a .written) xs (countedIn a) os) t′ s
 
   -- what went, behind the samples ys of a first block that was given again
-  behind : {r : Received} {t′ : Tuner} {s : List ℕ} {n n′ : NightAnswer} {xss : List (List ℤ)} (ys : List ℤ) → Went r t′ s n n′ xss → countedIn n ≡ noFigures → n .again .written ≡ length ys → Nights r n′ (ys ++ flatten xss) t′ s
-  behind {r} {t′} {s} {n} {n′} {xss} ys w none long =
+  behind : {r : Received} {t′ : Tuner} {s : List ℕ} {n n′ : NightAnswer} {xss ps : List (List ℤ)} (ys : List ℤ) (os : List (List ℤ)) → Went r t′ s n n′ xss ps → countedIn n ≡ noFigures → n .again .written ≡ length ys
+      → ((m : ℕ) → onward (length ys) m (r .wrote) os ≡ onward 0 m (r .wrote) ps) → Nights r n′ (ys ++ flatten xss) os t′ s
+  behind {r} {t′} {s} {n} {n′} {xss} {ps} ys os w none long same =
       let is : countedIn n′ ≡ w .counts = w .figures ∙ ap (λ (f : Figures). added f (w .counts)) none ∙ none-added (w .counts) in
       let from : n′ .again .written ≡ length ys = ap (λ (b : Answer). b .written) (w .again) ∙ long in
       let rest : drop (n′ .again .written) (ys ++ flatten xss) ≡ flatten xss = ap (λ (m : ℕ). drop m (ys ++ flatten xss)) from ∙ drop-append-seam ys (flatten xss) in
-      subst (λ (q : Received). Both q t′ s) (sym (λ i. more r (map sample (take (is i .samples) (rest i))) (is i))) (w .keeps)
+      let wrote : onward (n′ .again .written) (n′ .written) (r .wrote) os ≡ onward 0 (w .counts .samples) (r .wrote) ps = (λ i. onward (from i) (is i .samples) (r .wrote) os) ∙ same (w .counts .samples) in
+      subst (λ (q : Received). Both q t′ s) (sym (λ i. more r (map sample (take (is i .samples) (rest i))) (is i) (wrote i))) (w .keeps)
 
-  night-keeps : {r : Received} {t t′ : Tuner} {k : ℕ} {n n′ : NightAnswer} {xss os ps : List (List ℤ)} {store s : List ℕ} → Both r t store → countedIn n ≡ noFigures → n .again .written ≡ 0 → OneByOne t k n xss os store t′ n′ ps s → Nights r n′ (flatten xss) t′ s
+  night-keeps : {r : Received} {t t′ : Tuner} {k : ℕ} {n n′ : NightAnswer} {xss os ps : List (List ℤ)} {store s : List ℕ} → Both r t store → countedIn n ≡ noFigures → n .again .written ≡ 0 → OneByOne t k n xss os store t′ n′ ps s → Nights r n′ (flatten xss) ps t′ s
   unfolding flatten afterBlock
-  night-keeps {n = n} h none long all-done = behind {n = n} [] (went-none n n [] h refl refl) none long
-  night-keeps {k = k} {n} h none long (refused {xs = xs} {xss = xss} {a = a} p m) =
-      let e = added-refused n k a (a .number) m in behind {n = n} [] (went-none n (addedBy (a .number) n k a) (xs ∷ xss) (untaken-both h p (omega arith)) (e .0) (e .1)) none long
-  night-keeps {r} {t} {t′} {k} {n} {n′} h none long (and-on {u = u} {xs = xs} {xss = xss} {a = a} p m o) =
+  night-keeps {n = n} {os = os} h none long all-done = behind {n = n} [] os (went-none n n [] os h refl refl) none long (λ m. refl)
+  night-keeps {k = k} {n} h none long (refused {xs = xs} {xss = xss} {ps = ps} {a = a} p m) =
+      let e = added-refused n k a (a .number) m in behind {n = n} [] ps (went-none n (addedBy (a .number) n k a) (xs ∷ xss) ps (untaken-both h p (omega arith)) (e .0) (e .1)) none long (λ m. refl)
+  night-keeps {r} {t} {t′} {k} {n} {n′} h none long (and-on {u = u} {xs = xs} {xss = xss} {ps = ps} {qs} {a = a} p m o) =
       by (eqb (a .number) 0)
-      (λ e. behind {n = n} [] (goes h (taken-new (p .verdict) (took-number p ∙ eqb-true (a .number) 0 e)) (and-on p m o)) none long)
+      (λ e. behind {n = n} [] (before (length xs) ps qs) (goes h (taken-new (p .verdict) (took-number p ∙ eqb-true (a .number) 0 e)) (and-on p m o)) none long (λ m. refl))
       (λ e. let some = eqb-false (a .number) 0 e in
       let one : a .number ≡ 1 = omega arith in
       let last = again-last (p .verdict) (took-number p ∙ one) in
       let same : u .numbers .last .number ≡ k = ap (λ (v : Tuner). v .numbers .last .number) (untaken-unchanged p (omega arith) .0) ∙ sym (last .1) in
       let q = added-again n k a (a .number) one in
-      behind {n = addedBy (a .number) n k a} xs (goes (untaken-both h p (omega arith)) (not-itself u k same) o) (q .0 ∙ none)
-      (ap (λ (b : Answer). b .written) (q .1) ∙ ap (λ (b : Answer). b .written) (took-keeps p m .0)))
+      behind {n = addedBy (a .number) n k a} xs (before (length xs) ps qs) (goes (untaken-both h p (omega arith)) (not-itself u k same) o) (q .0 ∙ none)
+      (ap (λ (b : Answer). b .written) (q .1) ∙ ap (λ (b : Answer). b .written) (took-keeps p m .0))
+      (λ l. onward-behind (length xs) l (r .wrote) ps qs (wrote-room (h .0) p m) (rest-many (length xs) ps o)))
 
-  untouched-keeps : {r : Received} {v : ℕ} {t t′ : Tuner} {os ps : List (List ℤ)} {store s : List ℕ} {a : NightAnswer} (xs : List ℤ) → Both r t store → Untouched v t os store t′ a ps s → Nights r a xs t′ s
-  untouched-keeps {r} {v} {t} {t′} {s = s} xs k u =
-      subst (λ (b : NightAnswer). Nights r b xs t′ s) (sym (u .answer)) (subst (λ (q : Received). Both q t′ s) (sym (more-none r)) (transport (λ i. Both r (sym (u .tuner) i) (sym (u .rows) i)) k))
+  untouched-keeps : {r : Received} {v : ℕ} {t t′ : Tuner} {os ps : List (List ℤ)} {store s : List ℕ} {a : NightAnswer} (xs : List ℤ) → Both r t store → Untouched v t os store t′ a ps s → Nights r a xs ps t′ s
+  untouched-keeps {r} {v} {t} {t′} {ps = ps} {s = s} xs k u =
+      subst (λ (b : NightAnswer). Nights r b xs ps t′ s) (sym (u .answer)) (subst (λ (q : Received). Both q t′ s) (sym (more-none r ps)) (transport (λ i. Both r (sym (u .tuner) i) (sym (u .rows) i)) k))
 
-  pub nighted-keeps : {r : Received} {t t′ : Tuner} {k size : ℕ} {xs : List ℤ} {os ps : List (List ℤ)} {store s : List ℕ} {a : NightAnswer} → Both r t store → Nighted t k size xs os store t′ a ps s → Nights r a xs t′ s
+  pub nighted-keeps : {r : Received} {t t′ : Tuner} {k size : ℕ} {xs : List ℤ} {os ps : List (List ℤ)} {store s : List ℕ} {a : NightAnswer} → Both r t store → Nighted t k size xs os store t′ a ps s → Nights r a xs ps t′ s
   nighted-keeps {xs = xs} k (Night.record-out-of-range n u) = untouched-keeps xs k u
   nighted-keeps {xs = xs} k (Night.size-out-of-range g z u) = untouched-keeps xs k u
   nighted-keeps {xs = xs} k (Night.output-short g z m r u) = untouched-keeps xs k u
-  nighted-keeps {r} {t′ = t′} {size = size} {xs = xs} {s = s} {a = a} k (Night.one-by-one g z m room o) =
-      subst (λ (ys : List ℤ). Nights r a ys t′ s) (stretches-all (length xs) size xs z (omega arith)) (night-keeps k refl refl o)
+  nighted-keeps {r} {t′ = t′} {size = size} {xs = xs} {ps = ps} {s = s} {a = a} k (Night.one-by-one g z m room o) =
+      subst (λ (ys : List ℤ). Nights r a ys ps t′ s) (stretches-all (length xs) size xs z (omega arith)) (night-keeps k refl refl o)
 
 -- ---- after any series of calls
 call-keeps : {r : Received} {t t′ : Tuner} {c : Call} → Keeps r t → Leaves t c t′ → Keeps (plus c r) t′

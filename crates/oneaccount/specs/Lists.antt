@@ -8,6 +8,7 @@ use borrow.Author.Tests.{ne-eqb, eq-eqb, eqb-true, eqb-false}
 use lib.Dec.{eqb}
 use lib.IntN.{ℤ}
 use lib.ListN.{length, take, length-map}
+use lib.Seq.{take-length}
 use Rattle.whole.specs.Tests.{cond-case, cond-yes, cond-no}
 use Rattle.rules.specs.declared.Settings.{Settings}
 use Rattle.rules.specs.Rules.{noNote, Given, stepped, freshTake, noTone, gives, defaults, cdRate}
@@ -24,7 +25,7 @@ use Rattle.one.specs.Tuners.{takeOf, forceOf, freshNumbers, silentTuner, freshT
 use Rattle.onestaying.specs.Staying.{took-taken, untaken-unchanged}
 use Rattle.oneaccount.specs.Account.{Call, by-start, by-change, by-block, by-night, by-midi, by-reset, by-meter, Series, and-then, Received, begun, courseOf, givenOf, withEvents, withSamples, countedBy, ifTaken, plus, received, notesOf, Lent, at-start, at-reset, not-reset, to-block, to-night, past-change, past-midi, past-meter, ListTheorem}
 use Rattle.oneaccount.specs.Cutting.{leadAfter, ListCutting}
-use Rattle.oneaccount.specs.Keeps.{Keeps, more, Carried, gives-is, taken-length, nighted-keeps, series-keeps}
+use Rattle.oneaccount.specs.Keeps.{Keeps, moreSamples, Carried, gives-is, taken-length, nighted-keeps, series-keeps}
 
 -- ---- the note of the last sample is that of the take's tone
 last-given : (c : Course) (es : List Event) → lastNote (sungNote (c .take .pitch .tone)) (notesSung (givenBy c es)) ≡ sungNote (courseAfter c es .take .pitch .tone)
@@ -56,7 +57,7 @@ module _ {r : Received} {t : Tuner} (k : Keeps r t) where
       joined [] = refl
       joined (g ∷ gs) = ap (λ (ns : List ℕ). sungNote (g .tone) ∷ ns) (joined gs)
 
-  block-listed : (began : List ℕ) {n : ℕ} {xs : List ℤ} {os ps : List (List ℤ)} {store mid : List ℕ} {u : Tuner} {a : Answer} → Listed began r t store → Took t n xs os store u a ps mid → a .number ≡ 0 → Listed began (more r (map sample xs) (countedBy a)) u mid
+  block-listed : (began : List ℕ) {n : ℕ} {xs : List ℤ} {os ps : List (List ℤ)} {store mid : List ℕ} {u : Tuner} {a : Answer} → Listed began r t store → Took t n xs os store u a ps mid → a .number ≡ 0 → Listed began (moreSamples r (a .written) xs (countedBy a) ps) u mid
   unfolding afterBlock listAfter
   block-listed began {n} {xs} {store = store} h p z some =
       let m = t .numbers in
@@ -85,10 +86,6 @@ begun-listed : (hertz : ℕ) (s : Settings) (listed : ℕ) (is store : List ℕ)
 unfolding givenBy afterNotes
 begun-listed hertz s listed is store t e some = ap (λ (l : Listing). sheet l store) e
 
-take-all : (ys : List ℤ) → take (length ys) ys ≡ ys
-take-all [] = refl
-take-all (y ∷ ys) = ap (λ (l : List ℤ). y ∷ l) (take-all ys)
-
 carried : (began : List ℕ) → Carried (Listed began)
 carried began = record { step = λ k h p z. block-listed k began h p z }
 
@@ -110,12 +107,12 @@ listed-so {began = began} {now} (and-then {cs = ds} {t = t} {t′ = t′} h (by-
     let r = received ds in
     let e = ne-eqb v 0 (λ o. omega arith) in
     transport (λ i. Listed began (sym (cond-no (begun (r .hertz) (courseOf r .settings) (r .listed) (r .intervals)) r e) i) (sym (p .tuner ∙ cond-no (silentTuner (begunAgain (t .numbers))) t e) i) now) (listed-so h l)
-listed-so {began = began} (and-then {cs = ds} {t = t} {t′ = t′} h (by-block {xs = xs} {store = store} {store′} {a} p)) (to-block l) =
+listed-so {began = began} (and-then {cs = ds} {t = t} {t′ = t′} h (by-block {xs = xs} {os′ = os′} {store′ = store′} {a = a} p)) (to-block l) =
     let r = received ds in
     let k = series-keeps h in
-    cond-case (eqb (a .number) 0) (withSamples r 0 (a .written) xs (countedBy a)) r (λ (q : Received). Listed began q t′ store′)
+    cond-case (eqb (a .number) 0) (withSamples r 0 (a .written) xs (countedBy a) os′) r (λ (q : Received). Listed began q t′ store′)
     (λ e. let z = eqb-true (a .number) 0 e in
-    subst (λ (ys : List ℤ). Listed began (more r (map sample ys) (countedBy a)) t′ store′) (sym (ap (λ (m : ℕ). take m xs) (taken-length k p z) ∙ take-all xs)) (block-listed k began (listed-so h l) p z))
+    subst (λ (ys : List ℤ). Listed began (moreSamples r (a .written) ys (countedBy a) os′) t′ store′) (sym (ap (λ (m : ℕ). take m xs) (taken-length k p z) ∙ take-length xs)) (block-listed k began (listed-so h l) p z))
     (λ e. let some = eqb-false (a .number) 0 e in
     let same = untaken-unchanged p (omega arith) in
     transport (λ i. Listed began r (sym (same .0) i) (sym (same .1) i)) (listed-so h l))
