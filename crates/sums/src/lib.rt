@@ -10,7 +10,7 @@ ghost use Rattle.rules.specs.Rules.{older, sq, E};
 ghost use Rattle.rules.specs.Rules as rules;
 ghost use Rattle.ages.specs.Ages.{ago};
 ghost use Rattle.sums.specs.Direct.{highOf, lowOf, products};
-ghost use Rattle.sums.specs.Kept.{squares, RightAt, Enough};
+ghost use Rattle.sums.specs.Kept.{squares, RightAt, Enough, Zeros};
 ghost use Rattle.rules.specs.Facts.{Right};
 
 pub struct Sums {
@@ -214,4 +214,34 @@ pub fn all_right(e: &[u64], h: &[i64], low: usize, s: &[i16], m: usize) -> bool
         i += 1;
     }
     true
+}
+
+// All of these are 0.
+fn none(e: &[u64], h: &[i64]) -> bool
+    requires { ⌜ length (now h) ≡ length (now e) ⌝ }
+    ensures { λ r. ⌜ Decides r (Zeros (now (e .entry)) (now (h .entry))) ⌝ }
+{
+    let n = e.len();
+    let mut i: usize = 0;
+    while i < n {
+        if e[i] != 0 {
+            return false;
+        }
+        if h[i] != 0 {
+            return false;
+        }
+        i += 1;
+    }
+    true
+}
+
+// Each kept E and H at eighth rate, at the lags from 2 on, is the direct sum. In silence, which the energy of one lag more shows, each is 0.
+pub fn eighths_right(e: &[u64], h: &[i64], s: &[i16], m: usize) -> bool
+    requires { ⌜ Enough (now s) m 2 (length (now e)) × (length (now h) ≡ length (now e)) ⌝ }
+    ensures { λ r. ⌜ Decides r (Right (ago (now (s .entry)) m) 2 (length (now (e .entry))) (now (e .entry)) (now (h .entry))) ⌝ }
+{
+    if energy(s, m, 2 * (2 + e.len())) == 0 {
+        return none(e, h);
+    }
+    all_right(e, h, 2, s, m)
 }
