@@ -207,7 +207,7 @@ fn heard_right(
     if !silent(eighths, before(count / 8, KEPT_EIGHTHS)) {
         return false;
     }
-    sums::all_right(energies, correlations, 2, eighths, KEPT_EIGHTHS)
+    sums::eighths_right(energies, correlations, eighths, KEPT_EIGHTHS)
 }
 
 // Either a period, a wanted note or none, and a rate in their ranges, or no period and the rate 65536; and what is kept, 0 to 255.

@@ -1,13 +1,13 @@
 -- Energies and correlations that are kept: that they are the direct sums.
 use mathlib.Core.Path.{_≡_}
 use mathlib.Core.List.{List}
-use Prim.Native.Nat.{ℕ, _+_, _*_, _≤_}
-use lib.IntN.{ℤ}
-use lib.ListN.{length}
+use Prim.Native.Nat.{ℕ, _+_, _*_, _≤_, _<_}
+use lib.IntN.{ℤ, pos}
+use lib.ListN.{length, getD}
 use mir.Syntax.{w16}
 use mir.Val.{SFits}
 use Rattle.whole.specs.Numbers.{total}
-use Rattle.rules.specs.Facts.{Right}
+use Rattle.rules.specs.Facts.{valueAt, Right}
 use Rattle.rules.specs.Rules.{Sound, sq, E, H}
 use Rattle.ages.specs.Ages.{Samples}
 
@@ -27,6 +27,10 @@ pub record Enough (s : List ℤ) (m low n : ℕ) : Type 0 where
   pub from : 1 ≤ low
   pub upto : low + n ≤ 881
   pub reach : 2 * (low + n) ≤ m
+
+-- all of them are 0
+abbrev pub Zeros : List ℕ → List ℤ → Type 0
+Zeros e h = (j : ℕ) → j < length e → (getD e j 0 ≡ 0) × (valueAt h j ≡ pos 0)
 
 -- some sound of 16-bit samples, of which e and h are the direct sums at n lags up to 880
 pub record Kept (n : ℕ) (e : List ℕ) (h : List ℤ) : Type 0 where

@@ -1,3 +1,4 @@
 pub mod Kept
 pub mod Direct
 pub mod Sweep
+pub mod Silence

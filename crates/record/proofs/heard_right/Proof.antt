@@ -44,8 +44,8 @@ silent-requires-2 c κs = omega (arith, start8 c .pre .eighths, c .before3 .ensu
 returns-3 : tie.Need-returns-3
 returns-3 c = refused (λ p. failed (before-take8 (c .before)) (c .if3 .taken) (p .eighthsBefore))
 
-all-right-requires : tie.Need-all-right-requires
-all-right-requires c κs =
+eighths-right-requires : tie.Need-eighths-right-requires
+eighths-right-requires c κs =
     let k = start8 (c .before .before .before .before .before) .pre in
     (record { samples = k .eighthsFit; long = omega (arith, k .eighths); from = omega arith; upto = omega (arith, k .energies); reach = omega (arith, k .energies) }, omega (arith, k .energies, k .correlations))
 
@@ -55,7 +55,7 @@ returns-4 c =
     let c2 = c3 .before .before .before .before in
     let c1 = c2 .before .before .before .before in
     let s = c1 .before in
-    decides-as (right-of (s .args .eighths .now) 224 109 (s .pre .eighths) (s .pre .energies) (c .all-right .ensures))
+    decides-as (right-of (s .args .eighths .now) 224 109 (s .pre .eighths) (s .pre .energies) (c .eighths-right .ensures))
     (λ r. record { count = c1 .if1 .left; before = passed (before-take (c2 .before)) (c2 .if2 .left); eighthsBefore = passed (before-take8 (c3 .before)) (c3 .if3 .left); sums = r })
     (λ p. p .sums)
 
@@ -70,5 +70,5 @@ heard-right-spec =
     before-requires-2
     silent-requires-2
     returns-3
-    all-right-requires
+    eighths-right-requires
     returns-4)

@@ -1,4 +1,4 @@
--- `sums::high_part` meets its contract: a shift to the right rounds down, and 2^30 by 65536 is small (`high-small`).
+-- `sums::high_part` meets its contract: a shift to the right rounds down, and 2^31 by 65536 is small (`high-small`).
 -- Assumes nothing.
 use mathlib.Core.Path.{ap}
 use native.Mathlib.Omega.{arith}

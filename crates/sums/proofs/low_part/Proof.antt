@@ -3,27 +3,30 @@
 use mathlib.Core.Path.{_≡_, ap, _∙_}
 use native.Mathlib.Omega.{arith}
 use borrow.Author.Needs.{sfits-of}
-use lib.IntN.{pos, natAbs, _-ℤ_, _*ℤ_}
+use lib.IntN.{ℤ, pos, natAbs, _-ℤ_, _*ℤ_}
 use mir.Syntax.{w32}
 use mir.Val.{toZ, ofZ}
 use mir.Facts.{toZ-ofZ}
-use Rattle.whole.specs.Words.{Bits, arg≤, lit, mul, mul-ok, fit, is, ok-of, kept-of}
-use Rattle.sums.specs.Direct.{highOf, lowOf, low-small}
+use Rattle.whole.specs.Words.{Bits, arg≤, fit, is, ok-of, kept-of}
+use Rattle.sums.specs.Direct.{highOf, lowOf, high-fits, low-small}
 use Rattle.sums.proofs.low_part.Statement.{statement}
 use Rattle.sums.proofs.low_part.Tie as tie
 
 high-part-requires : tie.Need-high-part-requires
 high-part-requires c κs = rw (toZ-ofZ (c .fits .p)) (c .pre)
 
-top : (c : tie.After-high-part) → Bits w32 16385 (ofZ w32 (c .high-part .result)) (highOf (c .before .args .p))
+top : (c : tie.After-high-part) → Bits w32 32768 (ofZ w32 (c .high-part .result)) (highOf (c .before .args .p))
 top c = is (c .high-part .ensures .0 ∙ ap highOf (toZ-ofZ (c .before .fits .p))) (arg≤ (c .high-part .ensures .1) (sfits-of (c .high-part .ok)))
 
+placed : (c : tie.After-high-part) → toZ w32 (ofZ w32 (c .high-part .result)) *ℤ pos 65536 ≡ highOf (c .before .args .p) *ℤ pos 65536
+placed c = ap (λ (z : ℤ). z *ℤ pos 65536) (top c .reads)
+
 mul-result : tie.Need-mul-result
-mul-result c = mul-ok (top c) (lit w32 65536) tt
+mul-result c = ok-of (placed c) (high-fits (c .before .args .p) (c .before .pre))
 
 rest : (c : tie.After-high-part)
     → toZ w32 (ofZ w32 (c .before .args .p)) -ℤ toZ w32 (ofZ w32 (toZ w32 (ofZ w32 (c .high-part .result)) *ℤ pos 65536)) ≡ lowOf (c .before .args .p)
-rest c = λ i. toZ-ofZ (c .before .fits .p) i -ℤ mul (top c) (lit w32 65536) tt .reads i
+rest c = λ i. toZ-ofZ (c .before .fits .p) i -ℤ (toZ-ofZ (mul-result c) ∙ placed c) i
 
 sub-result : tie.Need-sub-result
 sub-result c = ok-of (rest c) (fit (low-small (c .before .args .p)) tt)
