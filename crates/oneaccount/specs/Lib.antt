@@ -8,3 +8,4 @@ pub mod Written
 pub mod Keeps
 pub mod Lists
 pub mod Holds
+pub mod Nights
