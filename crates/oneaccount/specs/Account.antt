@@ -1,8 +1,8 @@
--- The account: what holds of the tuner after any series of calls, nights among them. Definitions only, and six statements (`Theorem`, `ToneTheorem`, `LateTheorem`, `ListTheorem`, `SentAgain`, `NeverNine`); their proofs are `holds`, `tone-holds` and `late-holds` in Holds.antt, `list-holds` in Lists.antt, `again-holds` and `never-nine` in Calls.antt.
+-- The account: what holds of the tuner after any series of calls, nights among them. Definitions only, and seven statements (`Theorem`, `ToneTheorem`, `LateTheorem`, `ListTheorem`, `SentAgain`, `NightAgain`, `NeverNine`); their proofs are `holds`, `tone-holds` and `late-holds` in Holds.antt, `list-holds` in Lists.antt, `again-holds` and `never-nine` in Calls.antt, and `night-again` in Nights.antt.
 use mathlib.Core.Path.{_≡_}
 use mathlib.Core.Bool.{cond}
 use mathlib.Core.List.{List, [], _∷_, _++_, map}
-use Prim.Native.Nat.{ℕ, _+_, _<_}
+use Prim.Native.Nat.{ℕ, _+_, _%_, _<_}
 use lib.Dec.{eqb}
 use lib.IntN.{ℤ, pos, _+ℤ_, _-ℤ_}
 use lib.ListN.{length, take, drop, getD}
@@ -20,9 +20,10 @@ use Rattle.tuner.specs.Tuners.{made}
 use Rattle.one.specs.declared.Voice.{Voice}
 use Rattle.one.specs.declared.Tuner.{Tuner}
 use Rattle.one.specs.declared.Answer.{Answer}
-use Rattle.one.specs.Tuners.{takeOf, forceOf, voiceAt, Good, standsAt, defaultTuner, keptList, keptOuts, Roomy, Took, Started, Changed, Keyed, Reset, Metered}
+use Rattle.one.specs.Tuners.{takeOf, forceOf, voiceAt, Good, standsAt, defaultTuner, keptList, keptOuts, Roomy, plain, Took, Started, Changed, Keyed, Reset, Metered}
 use Rattle.onenight.specs.declared.NightAnswer.{NightAnswer}
-use Rattle.onenight.specs.Night.{Nighted}
+use Rattle.onenight.specs.Night as Night
+use Rattle.onenight.specs.Night.{noNight, Nighted}
 
 -- ---- the history
 
@@ -266,6 +267,51 @@ abbrev pub SentAgain : Type 0
 SentAgain =
     (cs : List Call) (t u w w′ : Tuner) (k : ℕ) (xs : List ℤ) (os ps os₂ qs : List (List ℤ)) (store store₁ store₂ store₃ : List ℕ) (a b : Answer)
     → Series cs t → Took t k xs os store u a ps store₁ → a .number ≡ 0 → Meanwhile u w → Roomy (length xs) (keptOuts w) os₂ → Took w k xs os₂ store₂ w′ b qs store₃ → GivenAgain (length xs) w w′ a b ps qs store₂ store₃
+
+-- ---- a night sent again
+
+-- how many of its blocks were taken or given again: behind them a number that much further on is due
+abbrev pub through : NightAnswer → ℕ
+through a = a .taken + a .again .number
+
+-- refused with 5 at the first block, number k: nothing is taken, and tuner, outputs and store are as they were
+pub record NightRefused (k : ℕ) (w w′ : Tuner) (b : NightAnswer) (os os′ : List (List ℤ)) (store store′ : List ℕ) : Type 0 where
+  pub answer : b ≡ Night.added (noNight 0 (w .numbers)) k (plain 5 (w .numbers))
+  pub unchanged : w′ ≡ w
+  pub outs : os′ ≡ os
+  pub rows : store′ ≡ store
+
+-- the same answer, but that its one block was given again and not taken
+abbrev pub nightAgain : NightAnswer → NightAnswer
+nightAgain a =
+    record {
+      number = a .number;
+      refused = a .refused;
+      taken = 0;
+      written = 0;
+      repeated = 0;
+      dropped = 0;
+      pitched = 0;
+      strayed = 0;
+      again = record { number = 1; written = a .written; repeated = a .repeated; dropped = a .dropped; pitched = a .pitched; strayed = a .strayed; rows = a .rows; left = a .left };
+      rows = a .rows;
+      left = a .left;
+    }
+
+-- the one block that a night took, answered a, was given again: tuner and store as they were, and the same samples out of the lead and each chosen voice
+pub record NightGivenAgain (w w′ : Tuner) (a b : NightAnswer) (ps qs : List (List ℤ)) (store store′ : List ℕ) : Type 0 where
+  pub answer : b ≡ nightAgain a
+  pub unchanged : w′ ≡ w
+  pub rows : store′ ≡ store
+  pub samples : let n = a .written in let many = 1 + w .numbers .chosen in map (take n) (take many qs) ≡ map (take n) (take many ps)
+
+-- after any series of calls: a night, and the same night sent again with room for its samples and only such calls between. Where two blocks or more were taken or given again it is refused with 5, and where it took its first block alone that is given again.
+-- Block numbers wrap: after 65536 blocks the first number is due once more, and after one more it is the last block's. Nothing is said of those
+abbrev pub NightAgain : Type 0
+NightAgain =
+    (cs : List Call) (t u w w′ : Tuner) (k size : ℕ) (xs : List ℤ) (os ps os₂ qs : List (List ℤ)) (store store₁ store₂ store₃ : List ℕ) (a b : NightAnswer)
+    → Series cs t → Nighted t k size xs os store u a ps store₁ → Meanwhile u w → Roomy (length xs) (keptOuts w) os₂ → Nighted w k size xs os₂ store₂ w′ b qs store₃
+    → (1 < through a % 65536 → NightRefused k w w′ b os₂ qs store₂ store₃) × (a .taken ≡ 1 → a .again .number ≡ 0 → NightGivenAgain w w′ a b ps qs store₂ store₃)
 
 -- ---- never 9
 

@@ -1,7 +1,7 @@
 -- Laws of a voice over the history of a take: events, and more events after them; samples one after the other are a block's, settings and bytes leave it; its account; and takes that agree where a step and a voice look are beside a voice alike.
 use mathlib.Core.Path.{_≡_, refl, ap, _∙_, subst}
 use mathlib.Core.List.{List, [], _∷_, _++_, map}
-use Prim.Native.Nat.{ℕ, zero, suc, _+_}
+use Prim.Native.Nat.{ℕ, zero, suc}
 use native.Mathlib.Omega.{arith}
 use lib.IntN.{ℤ}
 use lib.ListN.{length}

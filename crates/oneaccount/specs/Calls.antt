@@ -115,6 +115,7 @@ never-nine cs t t′ c h p = call-not-nine (series-stays h) p
 -- ---- what no such call touches
 
 pub record SameLast (u w : Tuner) : Type 0 where
+  pub count : w .numbers .count ≡ u .numbers .count
   pub heard : w .heard ≡ u .heard
   pub outs : w .outs ≡ u .outs
   pub last : w .numbers .last ≡ u .numbers .last
@@ -122,7 +123,7 @@ pub record SameLast (u w : Tuner) : Type 0 where
   pub list : w .numbers .list ≡ u .numbers .list
 
 same-self : {u : Tuner} → SameLast u u
-same-self = record { heard = refl; outs = refl; last = refl; chosen = refl; list = refl }
+same-self = record { count = refl; heard = refl; outs = refl; last = refl; chosen = refl; list = refl }
 
 same-kept : {u w w′ : Tuner} → SameLast u w → w′ ≡ w → SameLast u w′
 same-kept {u} k e = subst (SameLast u) (sym e) k
@@ -145,7 +146,7 @@ unfolding addedBy
 added-none zero n k a h = absurd (omega arith)
 added-none (suc v) n k a h = omega arith
 
-singly-taken : {t t′ : Tuner} {k : ℕ} {n n′ : NightAnswer} {xss os ps : List (List ℤ)} {store s : List ℕ} → OneByOne t k n xss os store t′ n′ ps s → n .taken ≤ n′ .taken
+pub singly-taken : {t t′ : Tuner} {k : ℕ} {n n′ : NightAnswer} {xss os ps : List (List ℤ)} {store s : List ℕ} → OneByOne t k n xss os store t′ n′ ps s → n .taken ≤ n′ .taken
 singly-taken all-done = omega arith
 singly-taken {k = k} {n} (and-on {a = a} p l r) = omega (arith, added-taken (a .number) n k a, singly-taken r)
 singly-taken {k = k} {n} (refused {a = a} p l) = added-taken (a .number) n k a
@@ -166,14 +167,14 @@ pub meanwhile-same : {u w : Tuner} → Meanwhile u w → SameLast u w
 unfolding TakesNone withKeys
 meanwhile-same nothing = same-self
 meanwhile-same (and-meanwhile m (by-start p) n) = absurd n
-meanwhile-same (and-meanwhile m (by-change p) n) = let k = meanwhile-same m in done-same k (record { heard = k .heard; outs = k .outs; last = k .last; chosen = k .chosen; list = k .list }) p
+meanwhile-same (and-meanwhile m (by-change p) n) = let k = meanwhile-same m in done-same k (record { count = k .count; heard = k .heard; outs = k .outs; last = k .last; chosen = k .chosen; list = k .list }) p
 meanwhile-same (and-meanwhile m (by-block p) n) = same-kept (meanwhile-same m) (untaken-unchanged p n .0)
 meanwhile-same (and-meanwhile m (by-night p) n) = same-kept (meanwhile-same m) (night-none p n)
-meanwhile-same (and-meanwhile m (by-midi p) n) = let k = meanwhile-same m in done-same k (record { heard = k .heard; outs = k .outs; last = k .last; chosen = k .chosen; list = k .list }) p
+meanwhile-same (and-meanwhile m (by-midi p) n) = let k = meanwhile-same m in done-same k (record { count = k .count; heard = k .heard; outs = k .outs; last = k .last; chosen = k .chosen; list = k .list }) p
 meanwhile-same (and-meanwhile m (by-reset p) n) = same-kept (meanwhile-same m) (done-kept n p)
 meanwhile-same (and-meanwhile m (by-meter p) n) = meanwhile-same m
 
-meanwhile-stays : {u w : Tuner} → Stays u → Meanwhile u w → Stays w
+pub meanwhile-stays : {u w : Tuner} → Stays u → Meanwhile u w → Stays w
 meanwhile-stays k nothing = k
 meanwhile-stays k (and-meanwhile m p n) = call-stays (meanwhile-stays k m) p
 

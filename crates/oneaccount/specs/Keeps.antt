@@ -128,6 +128,23 @@ added-assoc f g h =
 more-none : (r : Received) (os : List (List ℤ)) → moreSamples r 0 [] noFigures os ≡ r
 more-none r os = λ i. record { hertz = r .hertz; settings = r .settings; listed = r .listed; intervals = r .intervals; events = append-nil (r .events) i; figures = added-none (r .figures) i; wrote = onward-none 0 (r .wrote) os i }
 
+-- samples, and more samples after them
+more-more : (r : Received) (xs ys : List ℤ) (f g : Figures) (ws vs us : List (List ℤ)) → vs ≡ us → more (more r (map sample xs) f ws) (map sample ys) g vs ≡ more r (map sample (xs ++ ys)) (added f g) us
+more-more r xs ys f g ws vs us e =
+    λ i. record {
+      hertz = r .hertz;
+      settings = r .settings;
+      listed = r .listed;
+      intervals = r .intervals;
+      events = (append-assoc (r .events) (map sample xs) (map sample ys) ∙ ap (λ (es : List Event). r .events ++ es) (joined xs)) i;
+      figures = added-assoc (r .figures) f g i;
+      wrote = e i;
+    }
+  where
+    joined : (xs : List ℤ) → map sample xs ++ map sample ys ≡ map sample (xs ++ ys)
+    joined [] = refl
+    joined (x ∷ xs) = ap (λ (es : List Event). sample x ∷ es) (joined xs)
+
 -- the lead of a tuner is its own
 along : (d : Course) {t u : Tuner} → t ≡ u → u ≡ leadAfter d u → t ≡ leadAfter d t
 along d e p = subst (λ (v : Tuner). v ≡ leadAfter d v) (sym e) p
@@ -297,6 +314,20 @@ module _ {r : Received} {t : Tuner} (k : Keeps r t) where
           more-keeps (map sample xs) (samples-in xs) (took-stays (k .stays .0) (k .stays .1) p) (ap (λ (u : Tuner). u .numbers .listed) taken-is)
           (ap chosenOf taken-is ∙ beside-intervals _ (λ v. refl) (t .numbers .chosen) (t .numbers .voices)) taken-lead (subst (MovedBy r (map sample xs)) (sym taken-is) taken-moved) counted-is taken-wrote
 
+      -- and samples of ys behind them, in the same outputs
+      more-on : (c : Figures) (ys : List ℤ) (qs : List (List ℤ)) → length qs ≡ length os′
+          → moreSamples (moreSamples r (a .written) xs (countedBy a) os′) (c .samples) (take (c .samples) ys) c qs
+          ≡ moreSamples r (a .written + c .samples) (take (a .written + c .samples) (xs ++ ys)) (added (countedBy a) c) (before (length xs) os′ qs)
+      more-on c ys qs e =
+          let m = c .samples in
+          let joined : take (a .written + m) (xs ++ ys) ≡ xs ++ take m ys = ap (λ (l : ℕ). take (l + m) (xs ++ ys)) taken-length ∙ take-append-add xs ys m in
+          let wrote : onward 0 m (onward 0 (a .written) (r .wrote) os′) qs ≡ onward 0 (a .written + m) (r .wrote) (before (length xs) os′ qs) =
+          ap (λ (l : ℕ). onward 0 m (onward 0 l (r .wrote) os′) qs) taken-length
+          ∙ sym (onward-before (length xs) m (r .wrote) os′ qs (wrote-room (omega arith)) e)
+          ∙ ap (λ (l : ℕ). onward 0 (l + m) (r .wrote) (before (length xs) os′ qs)) (sym taken-length) in
+          more-more r xs (take m ys) (countedBy a) c (onward 0 (a .written) (r .wrote) os′) _ _ wrote
+          ∙ ap (λ (zs : List ℤ). moreSamples r (a .written + m) zs (added (countedBy a) c) (before (length xs) os′ qs)) (sym joined)
+
     untaken-keeps : 0 < a .number → Keeps r t′
     untaken-keeps h = subst (Keeps r) (sym (untaken-unchanged p h .0)) k
 
@@ -363,43 +394,26 @@ module _ {r : Received} {t : Tuner} (k : Keeps r t) where
 
 -- ---- a night
 
--- samples, and more samples after them
-more-more : (r : Received) (xs ys : List ℤ) (f g : Figures) (ws vs us : List (List ℤ)) → vs ≡ us → more (more r (map sample xs) f ws) (map sample ys) g vs ≡ more r (map sample (xs ++ ys)) (added f g) us
-more-more r xs ys f g ws vs us e =
-    λ i. record {
-      hertz = r .hertz;
-      settings = r .settings;
-      listed = r .listed;
-      intervals = r .intervals;
-      events = (append-assoc (r .events) (map sample xs) (map sample ys) ∙ ap (λ (es : List Event). r .events ++ es) (joined xs)) i;
-      figures = added-assoc (r .figures) f g i;
-      wrote = e i;
-    }
-  where
-    joined : (xs : List ℤ) → map sample xs ++ map sample ys ≡ map sample (xs ++ ys)
-    joined [] = refl
-    joined (x ∷ xs) = ap (λ (es : List Event). sample x ∷ es) (joined xs)
-
 -- what a single call adds to the answer of a night
-added-zero : (n : NightAnswer) (k : ℕ) (a : Answer) (v : ℕ) → v ≡ 0 → (countedIn (addedBy v n k a) ≡ added (countedIn n) (countedBy a)) × (addedBy v n k a .again ≡ n .again)
+pub added-zero : (n : NightAnswer) (k : ℕ) (a : Answer) (v : ℕ) → v ≡ 0 → (countedIn (addedBy v n k a) ≡ added (countedIn n) (countedBy a)) × (addedBy v n k a .again ≡ n .again) × (addedBy v n k a .taken ≡ n .taken + 1)
 unfolding addedBy added
-added-zero n k a zero e = (refl, refl)
+added-zero n k a zero e = (refl, refl, refl)
 added-zero n k a (suc v) e = absurd (omega arith)
 
-added-again : (n : NightAnswer) (k : ℕ) (a : Answer) (v : ℕ) → v ≡ 1 → (countedIn (addedBy v n k a) ≡ countedIn n) × (addedBy v n k a .again ≡ a)
+pub added-again : (n : NightAnswer) (k : ℕ) (a : Answer) (v : ℕ) → v ≡ 1 → (countedIn (addedBy v n k a) ≡ countedIn n) × (addedBy v n k a .again ≡ a) × (addedBy v n k a .taken ≡ n .taken)
 unfolding addedBy
 added-again n k a zero e = absurd (omega arith)
-added-again n k a (suc zero) e = (refl, refl)
+added-again n k a (suc zero) e = (refl, refl, refl)
 added-again n k a (suc (suc v)) e = absurd (omega arith)
 
-added-refused : (n : NightAnswer) (k : ℕ) (a : Answer) (v : ℕ) → 1 < v → (countedIn (addedBy v n k a) ≡ countedIn n) × (addedBy v n k a .again ≡ n .again)
+pub added-refused : (n : NightAnswer) (k : ℕ) (a : Answer) (v : ℕ) → 1 < v → (countedIn (addedBy v n k a) ≡ countedIn n) × (addedBy v n k a .again ≡ n .again) × (addedBy v n k a .taken ≡ n .taken)
 unfolding addedBy
 added-refused n k a zero e = absurd (omega arith)
 added-refused n k a (suc zero) e = absurd (omega arith)
-added-refused n k a (suc (suc v)) e = (refl, refl)
+added-refused n k a (suc (suc v)) e = (refl, refl, refl)
 
 -- what is given again is the last block
-again-last : {t : Tuner} {k : ℕ} {xs : List ℤ} {os : List (List ℤ)} {v : ℕ} → Verdict t k xs os v → v ≡ 1 → IsLast t k
+pub again-last : {t : Tuner} {k : ℕ} {xs : List ℤ} {os : List (List ℤ)} {v : ℕ} → Verdict t k xs os v → v ≡ 1 → IsLast t k
 again-last (given-again f l p) e = l
 again-last (record-out-of-range n) e = absurd (omega arith)
 again-last (block-empty g p) e = absurd (omega arith)
@@ -411,7 +425,7 @@ again-last (take-full f l n c) e = absurd (omega arith)
 again-last (taken f l n c) e = absurd (omega arith)
 
 -- what is taken is not
-taken-new : {t : Tuner} {k : ℕ} {xs : List ℤ} {os : List (List ℤ)} {v : ℕ} → Verdict t k xs os v → v ≡ 0 → IsLast t k → ⊥
+pub taken-new : {t : Tuner} {k : ℕ} {xs : List ℤ} {os : List (List ℤ)} {v : ℕ} → Verdict t k xs os v → v ≡ 0 → IsLast t k → ⊥
 taken-new (taken f l n c) e = l
 taken-new (given-again f l p) e = absurd (omega arith)
 taken-new (record-out-of-range n) e = absurd (omega arith)
@@ -422,12 +436,16 @@ taken-new (number-neither f l n) e = absurd (omega arith)
 taken-new (other-samples f l n) e = absurd (omega arith)
 taken-new (take-full f l n c) e = absurd (omega arith)
 
+-- what is answered 0 or 1 and is not the last block is taken
+pub new-taken : {t u : Tuner} {k : ℕ} {xs : List ℤ} {os ps : List (List ℤ)} {store mid : List ℕ} {a : Answer} → Took t k xs os store u a ps mid → a .number ≤ 1 → (IsLast t k → ⊥) → a .number ≡ 0
+new-taken {a = a} p m l = by (eqb (a .number) 0) (λ e. eqb-true (a .number) 0 e) (λ e. let some = eqb-false (a .number) 0 e in absurd (l (again-last (p .verdict) (took-number p ∙ (omega arith)))))
+
 -- no block is followed by its own number
-not-itself : (t : Tuner) (k : ℕ) → t .numbers .last .number ≡ k → IsLast t (numberAfter k) → ⊥
+pub not-itself : (t : Tuner) (k : ℕ) → t .numbers .last .number ≡ k → IsLast t (numberAfter k) → ⊥
 not-itself t k e l = let n = l .1 in omega arith
 
 -- the stretches of a recording are the recording
-stretches-all : (n size : ℕ) (xs : List ℤ) → 0 < size → length xs ≤ n → flatten (firstStretches n size xs) ≡ xs
+pub stretches-all : (n size : ℕ) (xs : List ℤ) → 0 < size → length xs ≤ n → flatten (firstStretches n size xs) ≡ xs
 unfolding firstStretches flatten
 stretches-all zero size [] h l = refl
 stretches-all zero size (x ∷ xs) h l = absurd (omega arith)
@@ -458,34 +476,27 @@ module _ (P : Received → Tuner → List ℕ → Type 0) (carried : Carried P) 
   went-none : {r : Received} {t′ : Tuner} {s : List ℕ} (n n′ : NightAnswer) (xss ps : List (List ℤ)) → Both r t′ s → countedIn n′ ≡ countedIn n → n′ .again ≡ n .again → Went r t′ s n n′ xss ps
   went-none {r} {t′} {s} n n′ xss ps k e f = record { counts = noFigures; keeps = subst (λ (q : Received). Both q t′ s) (sym (more-none r ps)) k; figures = e ∙ sym (added-none (countedIn n)); again = f }
 
-  goes : {r : Received} {t t′ : Tuner} {k : ℕ} {n n′ : NightAnswer} {xss os ps : List (List ℤ)} {store s : List ℕ} → Both r t store → (IsLast t k → ⊥) → OneByOne t k n xss os store t′ n′ ps s → Went r t′ s n n′ xss ps
-  unfolding flatten added afterBlock
-  goes {n = n} {os = os} h l all-done = went-none n n [] os h refl refl
-  goes {k = k} {n} h l (refused {xs = xs} {xss = xss} {ps = ps} {a = a} p m) = let e = added-refused n k a (a .number) m in went-none n (addedBy (a .number) n k a) (xs ∷ xss) ps (untaken-both h p (omega arith)) (e .0) (e .1)
-  goes {r} {t} {t′} {k} {n} {n′} {s = s} h l (and-on {u = u} {xs = xs} {xss = xss} {ps = ps} {qs} {a = a} p m o) =
-      let zero-is : a .number ≡ 0 = by-zero in
-      let w = goes (taken-keeps (h .0) p zero-is, carried .step (h .0) (h .1) p zero-is) (not-itself u k (ap (λ (v : Tuner). v .numbers .last .number) (taken-is (h .0) p zero-is))) o in
-      let e = added-zero n k a (a .number) zero-is in
-      let c = w .counts in
-      let long = taken-length (h .0) p zero-is in
-      let many : a .written + c .samples ≡ length xs + c .samples = ap (λ (m : ℕ). m + c .samples) long in
-      let wrote : onward 0 (c .samples) (onward 0 (a .written) (r .wrote) ps) qs ≡ onward 0 (a .written + c .samples) (r .wrote) (before (length xs) ps qs) =
-      ap (λ (m : ℕ). onward 0 (c .samples) (onward 0 m (r .wrote) ps) qs) long
-      ∙ sym (onward-before (length xs) (c .samples) (r .wrote) ps qs (wrote-room (h .0) p m) (rest-many (length xs) ps o))
-      ∙ ap (λ (m : ℕ). onward 0 m (r .wrote) (before (length xs) ps qs)) (sym many) in
+  -- a block that is taken, and those behind it
+  went-on : {r : Received} {t u t′ : Tuner} {k : ℕ} {n n′ : NightAnswer} {xs : List ℤ} {xss os ps qs : List (List ℤ)} {store mid s : List ℕ} {a : Answer}
+      → Keeps r t → Took t k xs os store u a ps mid → a .number ≡ 0 → length qs ≡ length ps → Went (moreSamples r (a .written) xs (countedBy a) ps) t′ s (addedBy (a .number) n k a) n′ xss qs → Went r t′ s n n′ (xs ∷ xss) (before (length xs) ps qs)
+  unfolding flatten added
+  went-on {t′ = t′} {k} {n} {xss = xss} {qs = qs} {s = s} {a} h p z many w =
+      let e = added-zero n k a (a .number) z in
       record {
-        counts = added (countedBy a) c;
-        keeps =
-            subst (λ (q : Received). Both q t′ s)
-            (more-more r xs (take (c .samples) (flatten xss)) (countedBy a) c (onward 0 (a .written) (r .wrote) ps) _ _ wrote
-            ∙ ap (λ (ys : List ℤ). moreSamples r (a .written + c .samples) ys (added (countedBy a) c) (before (length xs) ps qs)) (sym (ap (λ (m : ℕ). take m (xs ++ flatten xss)) many ∙ take-append-add xs (flatten xss) (c .samples))))
-            (w .keeps);
-        figures = w .figures ∙ ap (λ (f : Figures). added f c) (e .0) ∙ added-assoc (countedIn n) (countedBy a) c;
+        counts = added (countedBy a) (w .counts);
+        keeps = subst (λ (q : Received). Both q t′ s) (more-on h p z (w .counts) (flatten xss) qs many) (w .keeps);
+        figures = w .figures ∙ ap (λ (f : Figures). added f (w .counts)) (e .0) ∙ added-assoc (countedIn n) (countedBy a) (w .counts);
         again = w .again ∙ e .1;
       }
-    where
-      by-zero : a .number ≡ 0
-      by-zero = by (eqb (a .number) 0) (λ e. eqb-true (a .number) 0 e) (λ e. let some = eqb-false (a .number) 0 e in absurd (l (again-last (p .verdict) (took-number p ∙ (omega arith)))))
+
+  goes : {r : Received} {t t′ : Tuner} {k : ℕ} {n n′ : NightAnswer} {xss os ps : List (List ℤ)} {store s : List ℕ} → Both r t store → (IsLast t k → ⊥) → OneByOne t k n xss os store t′ n′ ps s → Went r t′ s n n′ xss ps
+  unfolding afterBlock
+  goes {n = n} {os = os} h l all-done = went-none n n [] os h refl refl
+  goes {k = k} {n} h l (refused {xs = xs} {xss = xss} {ps = ps} {a = a} p m) = let e = added-refused n k a (a .number) m in went-none n (addedBy (a .number) n k a) (xs ∷ xss) ps (untaken-both h p (omega arith)) (e .0) (e .1)
+  goes {k = k} {n} h l (and-on {u = u} {xs = xs} {ps = ps} {a = a} p m o) =
+      let z : a .number ≡ 0 = new-taken p m l in
+      went-on {n = n} (h .0) p z (rest-many (length xs) ps o)
+      (goes (taken-keeps (h .0) p z, carried .step (h .0) (h .1) p z) (not-itself u k (ap (λ (v : Tuner). v .numbers .last .number) (taken-is (h .0) p z))) o)
 
   -- all blocks of a night, from nothing on
   abbrev Nights : Received → NightAnswer → List ℤ → List (List ℤ) → Tuner → List ℕ → Type 0

@@ -12,3 +12,4 @@ pub mod Wrong
 pub mod ShutOut
 pub mod WrongCuts
 pub mod CutsShutOut
+pub mod Nights

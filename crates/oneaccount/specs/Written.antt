@@ -118,7 +118,7 @@ parts-many zero zs = refl
 parts-many (suc m) zs = ap suc (parts-many m (drop 512 zs))
 
 -- what was written has room for what was written
-roomy-written : (n m : ℕ) (zs : List ℤ) (os : List (List ℤ)) → n ≤ 512 → 512 * m ≤ length zs → Roomy n (parts m zs) os → Roomy n (parts m zs) (written n (parts m zs) os)
+pub roomy-written : (n m : ℕ) (zs : List ℤ) (os : List (List ℤ)) → n ≤ 512 → 512 * m ≤ length zs → Roomy n (parts m zs) os → Roomy n (parts m zs) (written n (parts m zs) os)
 unfolding parts Roomy written
 roomy-written n zero zs os few h r = tt
 roomy-written n (suc m) zs [] few h r = r
