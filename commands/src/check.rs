@@ -4,45 +4,105 @@
 
 use crate::place::named;
 use crate::settings;
+use crate::song::Song;
 use crate::source::Source;
+use std::ffi::OsString;
+use std::io::Read;
 use std::os::unix::process::ExitStatusExt;
 use std::path::{Path, PathBuf};
-use std::process::Command;
+use std::process::{Child, Command, ExitStatus, Stdio};
+use std::time::Duration;
 use words::end::{failed, no, End, FILE};
-use words::request::Check;
+use words::request::{self, Check};
+use words::signals::{ended, note_all};
+use words::standard::print;
 
 pub const PROGRAM: &str = "daxfolin check";
 
 /// The program that checks stands beside this one.
 const CHECKER: &str = "daxfolin-check";
+/// How often it is looked at.
+const EVERY: Duration = Duration::from_millis(10);
 
 pub fn run(request: &Check) -> Result<(), End> {
+    note_all();
+    let mut read = Vec::new();
+    if let Some(song) = &request.song {
+        read.push(Song::of(song)?.source);
+    }
     let source = Source::of(&request.from)?;
     let (take, _) = source.take()?;
-    let settings = settings(&request.take, take.hertz);
+    read.push(source);
     for voice in 0..=request.take.voices.len() {
-        Source::of(&named(&request.tuned, voice))?;
+        read.push(Source::of(&named(&request.tuned, voice))?);
     }
     let checker = checker()?;
     let mut command = Command::new(&checker);
     command.args([&request.from, &request.tuned].map(|file| plain(file)));
-    for (name, number) in [
+    command.args(options(request, take.hertz));
+    command.stdin(Stdio::null()).stdout(Stdio::piped());
+    let child = command.spawn().map_err(|error| failed(&checker, &error))?;
+    let (status, printed) = finished(child, &checker)?;
+    print(&printed)?;
+    match (status.code(), status.signal()) {
+        (Some(0), _) => read.iter().try_for_each(Source::unchanged),
+        (Some(code), _) => Err(End::Said(u8::try_from(code).unwrap_or(FILE))),
+        (None, signal) => Err(End::Signal(signal.unwrap_or(9))),
+    }
+}
+
+/// The words that the checker takes.
+fn options(request: &Check, hertz: u32) -> Vec<OsString> {
+    let settings = settings(&request.take, hertz);
+    let mut words: Vec<OsString> = [
         ("scale", settings.scale),
         ("eps", settings.eps),
         ("decay", settings.decay),
         ("floor", settings.floor),
-    ] {
-        command.arg(format!("{name}={number}"));
+    ]
+    .map(|(name, number)| format!("{name}={number}").into())
+    .to_vec();
+    let voices = request.take.voices.iter();
+    words.extend(voices.map(|interval| format!("voice={interval}").into()));
+    words.extend(request.song.iter().flat_map(played));
+    words
+}
+
+/// Those about the MIDI file.
+fn played(song: &request::Song) -> Vec<OsString> {
+    let mut file = OsString::from("midi=");
+    file.push(&song.file);
+    let mut words = vec![
+        file,
+        format!("transpose={}", song.transpose).into(),
+        format!("offset={}", song.offset).into(),
+        format!("octave={}", song.octave).into(),
+    ];
+    let channel = song.channel.map(|channel| format!("channel={channel}"));
+    let track = song.track.map(|track| format!("track={track}"));
+    words.extend(channel.into_iter().chain(track).map(OsString::from));
+    words
+}
+
+/// The checker's status, and what it printed, which is a line. A signal that ends this program ends it too.
+fn finished(mut child: Child, checker: &Path) -> Result<(ExitStatus, String), End> {
+    let failed = |error| failed(checker, &error);
+    let status = loop {
+        if let Some(status) = child.try_wait().map_err(failed)? {
+            break status;
+        }
+        if let Err(end) = ended() {
+            child.kill().map_err(failed)?;
+            child.wait().map_err(failed)?;
+            return Err(end);
+        }
+        std::thread::sleep(EVERY);
+    };
+    let mut printed = Vec::new();
+    if let Some(mut from) = child.stdout.take() {
+        from.read_to_end(&mut printed).map_err(failed)?;
     }
-    for interval in &request.take.voices {
-        command.arg(format!("voice={interval}"));
-    }
-    let status = command.status().map_err(|error| failed(&checker, &error))?;
-    match (status.code(), status.signal()) {
-        (Some(0), _) => source.unchanged(),
-        (Some(code), _) => Err(End::Said(u8::try_from(code).unwrap_or(FILE))),
-        (None, signal) => Err(End::Signal(signal.unwrap_or(9))),
-    }
+    Ok((status, String::from_utf8_lossy(&printed).into_owned()))
 }
 
 /// A name that cannot be taken for an option.

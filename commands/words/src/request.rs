@@ -131,6 +131,7 @@ pub struct Mend {
 #[derive(Debug, PartialEq)]
 pub struct Check {
     pub take: Take,
+    pub song: Option<Song>,
     pub from: PathBuf,
     pub tuned: PathBuf,
 }
@@ -139,7 +140,9 @@ impl Request {
     /// The files that have to be there.
     pub fn inputs(&self) -> Vec<&Path> {
         let song = match self {
-            Request::Tune(Tune { song, .. }) | Request::Report(Report { song, .. }) => song,
+            Request::Tune(Tune { song, .. })
+            | Request::Report(Report { song, .. })
+            | Request::Check(Check { song, .. }) => song,
             _ => &None,
         };
         let song = song.iter().map(|song| &song.file);
@@ -428,8 +431,14 @@ fn mend(given: &Given) -> Result<Mend, String> {
 
 fn check(given: &Given) -> Result<Check, String> {
     let take = take(given)?;
+    let song = song(given)?;
     let [from, tuned] = files(given, ["IN.wav", "OUT.wav"])?;
-    Ok(Check { take, from, tuned })
+    Ok(Check {
+        take,
+        song,
+        from,
+        tuned,
+    })
 }
 
 #[cfg(test)]
@@ -651,6 +660,7 @@ mod tests {
             (&["tune", "-", "b"], &[]),
             (&["tune", "a", "b", "--midi", "m"], &["m", "a"]),
             (&["check", "a", "b"], &["a", "b"]),
+            (&["check", "a", "b", "--midi", "m"], &["m", "a", "b"]),
             (&["mend", "a"], &["a"]),
             (&["notes", "a"], &["a"]),
             (&["report", "a"], &["a"]),

@@ -361,9 +361,9 @@ pub const COMMANDS: &[Command] = &[
         name: "check",
         short: "check a tuned take, sample by sample, with a second program",
         forms: &["[OPTION..] IN.wav OUT.wav"],
-        options: &[TAKE, VOICE, COMMON],
+        options: &[TAKE, VOICE, MIDI, COMMON],
         about: &[
-            "Tunes IN.wav once more with the independent program, which shares no line with the one that it checks, and compares every sample of OUT.wav with its own. With --voice it compares OUT-1.wav and so on too. Give it the options that OUT was tuned with.",
+            "Tunes IN.wav once more with the independent program, which shares no line with the one that it checks, and compares every sample of OUT.wav with its own. With --voice it compares OUT-1.wav and so on too. Give it the options that OUT was tuned with, a MIDI file among them.",
             "Prints equal, or the first difference with its sample and time.",
         ],
         more: &["It takes about a second of processor time for each minute of sound."],
