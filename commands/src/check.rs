@@ -2,27 +2,24 @@
 //! it. It is a program apart, so that it shares no line with what it checks;
 //! here it is only found and started.
 
+use crate::apart::{finished, found};
 use crate::place::named;
 use crate::settings;
 use crate::song::Song;
 use crate::source::Source;
 use std::ffi::OsString;
-use std::io::Read;
 use std::os::unix::process::ExitStatusExt;
 use std::path::{Path, PathBuf};
-use std::process::{Child, Command, ExitStatus, Stdio};
-use std::time::Duration;
+use std::process::{Command, Stdio};
 use words::end::{failed, no, End, FILE};
 use words::request::{self, Check};
-use words::signals::{ended, note_all};
+use words::signals::note_all;
 use words::standard::print;
 
 pub const PROGRAM: &str = "daxfolin check";
 
-/// The program that checks stands beside this one.
+/// The program that checks.
 const CHECKER: &str = "daxfolin-check";
-/// How often it is looked at.
-const EVERY: Duration = Duration::from_millis(10);
 
 pub fn run(request: &Check) -> Result<(), End> {
     note_all();
@@ -36,14 +33,17 @@ pub fn run(request: &Check) -> Result<(), End> {
     for voice in 0..=request.take.voices.len() {
         read.push(Source::of(&named(&request.tuned, voice))?);
     }
-    let checker = checker()?;
+    let checker = found(CHECKER)?;
     let mut command = Command::new(&checker);
     command.args([&request.from, &request.tuned].map(|file| plain(file)));
     command.args(options(request, take.hertz));
     command.stdin(Stdio::null()).stdout(Stdio::piped());
-    let child = command.spawn().map_err(|error| failed(&checker, &error))?;
-    let (status, printed) = finished(child, &checker)?;
-    print(&printed)?;
+    let mut child = command.spawn().map_err(|error| failed(&checker, &error))?;
+    let Some(from) = child.stdout.take() else {
+        return Err(no(&checker, "it cannot be heard"));
+    };
+    let (status, printed) = finished(child, &checker, from)?;
+    print(&String::from_utf8_lossy(&printed))?;
     match (status.code(), status.signal()) {
         (Some(0), _) => read.iter().try_for_each(Source::unchanged),
         (Some(code), _) => Err(End::Said(u8::try_from(code).unwrap_or(FILE))),
@@ -84,43 +84,10 @@ fn played(song: &request::Song) -> Vec<OsString> {
     words
 }
 
-/// The checker's status, and what it printed, which is a line. A signal that ends this program ends it too.
-fn finished(mut child: Child, checker: &Path) -> Result<(ExitStatus, String), End> {
-    let failed = |error| failed(checker, &error);
-    let status = loop {
-        if let Some(status) = child.try_wait().map_err(failed)? {
-            break status;
-        }
-        if let Err(end) = ended() {
-            child.kill().map_err(failed)?;
-            child.wait().map_err(failed)?;
-            return Err(end);
-        }
-        std::thread::sleep(EVERY);
-    };
-    let mut printed = Vec::new();
-    if let Some(mut from) = child.stdout.take() {
-        from.read_to_end(&mut printed).map_err(failed)?;
-    }
-    Ok((status, String::from_utf8_lossy(&printed).into_owned()))
-}
-
 /// A name that cannot be taken for an option.
 fn plain(file: &Path) -> PathBuf {
     match file.as_os_str().as_encoded_bytes().starts_with(b"-") {
         true => Path::new(".").join(file),
         false => file.to_path_buf(),
-    }
-}
-
-fn checker() -> Result<PathBuf, End> {
-    let own = std::env::current_exe().map_err(|error| failed(Path::new(CHECKER), &error))?;
-    let checker = own.with_file_name(CHECKER);
-    match checker.is_file() {
-        true => Ok(checker),
-        false => Err(no(
-            &checker,
-            "it is not there: build it with tools/commands",
-        )),
     }
 }

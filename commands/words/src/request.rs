@@ -118,6 +118,7 @@ pub enum Form {
 pub struct Report {
     pub take: Take,
     pub song: Option<Song>,
+    /// None: lines on standard input.
     pub from: Vec<PathBuf>,
     pub tsv: bool,
 }
@@ -412,7 +413,7 @@ fn report(given: &Given) -> Result<Report, String> {
     let take = take(given)?;
     let song = song(given)?;
     given.files.iter().try_for_each(not_a_dash)?;
-    if given.files.is_empty() {
+    if given.files.is_empty() && !given.is_empty() {
         return Err("IN.wav is missing".to_string());
     }
     Ok(Report {
