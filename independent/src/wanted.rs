@@ -138,6 +138,7 @@ fn in_octave(key: u8, note: Note) -> Note {
 mod tests {
     use super::*;
     use crate::generator::cases::sung;
+    use crate::settings::KEYBOARD;
     use crate::table::CD;
 
     fn key(sample: u64, key: u8, down: bool) -> Key {
@@ -192,7 +193,13 @@ mod tests {
         let notes = singer.notes(&sung);
         assert_eq!(notes.len(), sung.len());
         let keys = vec![key(0, 9, true)];
-        let sent = Wanted::nearest(keys, CD, Settings::DEFAULT).at(&sung);
+        // whatever scale and mode the take itself is tuned by
+        let settings = Settings {
+            scale: 1,
+            mode: KEYBOARD,
+            ..Settings::DEFAULT
+        };
+        let sent = Wanted::nearest(keys, CD, settings).at(&sung);
         let right = notes.iter().map(|note| in_octave(9, *note));
         assert!(sent.into_iter().eq(right));
         assert!(notes.contains(&Some(57)) && notes.contains(&None));

@@ -174,7 +174,7 @@ const MIDI: &[Opt] = &[
         ..valued(
             "octave",
             "WORD",
-            "nearest: each key in the octave nearest to what was sung there; exact: as the file says (nearest)",
+            "the octave of each key: nearest, to what was sung there; or exact, as the file says (nearest)",
         )
     },
 ];
