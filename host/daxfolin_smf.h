@@ -1,7 +1,8 @@
 /* Daxfolin for C: Standard MIDI Files, formats 0 and 1, byte after byte.
  *
  * Each function below is proved (crates/files over crates/smf): for any numbers it comes to an end, does nothing undefined, and answers as
- * said here. It has no state, takes no memory but some stack, and calls nothing. It is in the archive of daxfolin_wave.h.
+ * said here. It has no state, takes no memory but some stack, and calls nothing. It is in the archive of daxfolin_wave.h,
+ * whose daxfolin_files_version answers the version of these calls too.
  *
  *     daxfolin_song song = daxfolin_smf_begin();
  *     for (size_t at = 0; at < length; at++) {

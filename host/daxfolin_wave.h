@@ -38,7 +38,8 @@ enum {
     DAXFOLIN_WAVE_FILE_TOO_LONG = 29    /* mending: 2,147,483,648 bytes or more */
 };
 
-#define DAXFOLIN_WAVE_HEADER 44u /* bytes before the samples, in the files that are written */
+#define DAXFOLIN_FILES_VERSION 1u /* of these calls and those of daxfolin_smf.h: what daxfolin_files_version() answers */
+#define DAXFOLIN_WAVE_HEADER 44u  /* bytes before the samples, in the files that are written */
 
 /* What was read: the sample rate, and how many samples. */
 typedef struct daxfolin_wave_was_read {
@@ -118,6 +119,9 @@ DAXFOLIN_SAME(offsetof(daxfolin_seek, past), 56);
 DAXFOLIN_SAME(sizeof(daxfolin_seek), 80);
 DAXFOLIN_SAME(sizeof(size_t), 8);
 #undef DAXFOLIN_SAME
+
+/* The version of these calls and of those of daxfolin_smf.h: DAXFOLIN_FILES_VERSION. Test it once, before any other call. */
+uint32_t daxfolin_files_version(void);
 
 /* ---- whole files in memory */
 

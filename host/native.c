@@ -106,3 +106,6 @@ daxfolin_song daxfolin_smf_begin(void)
 }
 ANSWERED(daxfolin_song, smf_byte, (daxfolin_song song, uint8_t byte), (daxfolin_song *, const daxfolin_song *, uint8_t), &song, byte)
 PASSED(uint32_t, smf_end, (daxfolin_song song), (const daxfolin_song *), (&song))
+
+/* the version of the calls for files */
+PASSED(uint32_t, files_version, (void), (void), ())

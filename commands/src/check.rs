@@ -2,47 +2,86 @@
 //! it. It is a program apart, so that it shares no line with what it checks;
 //! here it is only found and started.
 
+use crate::apart::{finished, found};
 use crate::place::named;
 use crate::settings;
+use crate::song::Song;
 use crate::source::Source;
+use std::ffi::OsString;
 use std::os::unix::process::ExitStatusExt;
 use std::path::{Path, PathBuf};
-use std::process::Command;
+use std::process::{Command, Stdio};
 use words::end::{failed, no, End, FILE};
-use words::request::Check;
+use words::request::{self, Check};
+use words::signals::note_all;
+use words::standard::print;
 
 pub const PROGRAM: &str = "daxfolin check";
 
-/// The program that checks stands beside this one.
+/// The program that checks.
 const CHECKER: &str = "daxfolin-check";
 
 pub fn run(request: &Check) -> Result<(), End> {
+    note_all();
+    let mut read = Vec::new();
+    if let Some(song) = &request.song {
+        read.push(Song::of(song)?.source);
+    }
     let source = Source::of(&request.from)?;
     let (take, _) = source.take()?;
-    let settings = settings(&request.take, take.hertz);
+    read.push(source);
     for voice in 0..=request.take.voices.len() {
-        Source::of(&named(&request.tuned, voice))?;
+        read.push(Source::of(&named(&request.tuned, voice))?);
     }
-    let checker = checker()?;
+    let checker = found(CHECKER)?;
     let mut command = Command::new(&checker);
     command.args([&request.from, &request.tuned].map(|file| plain(file)));
-    for (name, number) in [
+    command.args(options(request, take.hertz));
+    command.stdin(Stdio::null()).stdout(Stdio::piped());
+    let mut child = command.spawn().map_err(|error| failed(&checker, &error))?;
+    let Some(from) = child.stdout.take() else {
+        return Err(no(&checker, "it cannot be heard"));
+    };
+    let (status, printed) = finished(child, &checker, from)?;
+    print(&String::from_utf8_lossy(&printed))?;
+    match (status.code(), status.signal()) {
+        (Some(0), _) => read.iter().try_for_each(Source::unchanged),
+        (Some(code), _) => Err(End::Said(u8::try_from(code).unwrap_or(FILE))),
+        (None, signal) => Err(End::Signal(signal.unwrap_or(9))),
+    }
+}
+
+/// The words that the checker takes.
+fn options(request: &Check, hertz: u32) -> Vec<OsString> {
+    let settings = settings(&request.take, hertz);
+    let mut words: Vec<OsString> = [
         ("scale", settings.scale),
         ("eps", settings.eps),
         ("decay", settings.decay),
         ("floor", settings.floor),
-    ] {
-        command.arg(format!("{name}={number}"));
-    }
-    for interval in &request.take.voices {
-        command.arg(format!("voice={interval}"));
-    }
-    let status = command.status().map_err(|error| failed(&checker, &error))?;
-    match (status.code(), status.signal()) {
-        (Some(0), _) => source.unchanged(),
-        (Some(code), _) => Err(End::Said(u8::try_from(code).unwrap_or(FILE))),
-        (None, signal) => Err(End::Signal(signal.unwrap_or(9))),
-    }
+    ]
+    .map(|(name, number)| format!("{name}={number}").into())
+    .to_vec();
+    let voices = request.take.voices.iter();
+    words.extend(voices.map(|interval| format!("voice={interval}").into()));
+    words.extend(request.song.iter().flat_map(played));
+    words
+}
+
+/// Those about the MIDI file.
+fn played(song: &request::Song) -> Vec<OsString> {
+    let mut file = OsString::from("midi=");
+    file.push(&song.file);
+    let mut words = vec![
+        file,
+        format!("transpose={}", song.transpose).into(),
+        format!("offset={}", song.offset).into(),
+        format!("octave={}", song.octave).into(),
+    ];
+    let channel = song.channel.map(|channel| format!("channel={channel}"));
+    let track = song.track.map(|track| format!("track={track}"));
+    words.extend(channel.into_iter().chain(track).map(OsString::from));
+    words
 }
 
 /// A name that cannot be taken for an option.
@@ -50,17 +89,5 @@ fn plain(file: &Path) -> PathBuf {
     match file.as_os_str().as_encoded_bytes().starts_with(b"-") {
         true => Path::new(".").join(file),
         false => file.to_path_buf(),
-    }
-}
-
-fn checker() -> Result<PathBuf, End> {
-    let own = std::env::current_exe().map_err(|error| failed(Path::new(CHECKER), &error))?;
-    let checker = own.with_file_name(CHECKER);
-    match checker.is_file() {
-        true => Ok(checker),
-        false => Err(no(
-            &checker,
-            "it is not there: build it with tools/commands",
-        )),
     }
 }

@@ -2,6 +2,7 @@
 //! number of a file, every sample and every refusal is a proved call's. Their
 //! words are those of the crate [`words`].
 
+pub mod apart;
 pub mod check;
 pub mod chunks;
 pub mod delivery;
@@ -30,6 +31,8 @@ use std::process::ExitCode;
 use words::end::finish;
 use words::request::{Request, Take};
 
+const LINES: &str = "daxfolin lines";
+
 /// The program, over its words.
 pub fn run(given: Vec<OsString>) -> ExitCode {
     let library = format!("calls of version {}", daxfolin::version());
@@ -41,16 +44,9 @@ pub fn run(given: Vec<OsString>) -> ExitCode {
         Ok(Some(Request::Report(request))) => (report::PROGRAM.to_string(), report::run(&request)),
         Ok(Some(Request::Mend(request))) => (mend::PROGRAM.to_string(), mend::run(&request)),
         Ok(Some(Request::Check(request))) => (check::PROGRAM.to_string(), check::run(&request)),
-        Ok(Some(Request::Lines)) => ("daxfolin lines".to_string(), Err(lines_are_apart())),
+        Ok(Some(Request::Lines)) => (LINES.to_string(), apart::ANSWERS.run(LINES)),
     };
     finish(&program, ended)
-}
-
-/// The line program is proved as a whole, and so a program apart.
-fn lines_are_apart() -> End {
-    End::File(
-        "the line program is a program apart: ./daxfolin lines in the checkout runs it".into(),
-    )
 }
 
 /// The settings of a take at its sample rate, for a start to judge.

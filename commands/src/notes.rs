@@ -1,6 +1,7 @@
 //! `daxfolin notes`: the notes sung in a take, a row for each; or those of the
 //! takes of the line program's input.
 
+use crate::apart::lines_only;
 use crate::lines::{each, Takes};
 use crate::place::{places, put, Output};
 use crate::rows::rows;
@@ -9,10 +10,7 @@ use crate::source::Source;
 use crate::{seconds, settings, started};
 use daxfolin::wave::Take;
 use daxfolin::{Listing, Meter, Record, Settings, LONGEST_BLOCK, MOST_ROWS, ROW, TAKEN};
-use std::fs::File;
-use std::io::{stdin, BufReader, IsTerminal};
-use std::os::fd::AsFd;
-use std::os::unix::fs::FileExt;
+use std::io::BufReader;
 use std::path::Path;
 use words::end::{say, End};
 use words::request::{Form, Notes};
@@ -199,25 +197,4 @@ fn lines() -> Result<(), End> {
         |line| takes.line(line).map_or(Ok(()), |rows| print(&rows)),
     )?;
     print(&takes.rows())
-}
-
-/// A person at a terminal, and a WAVE file, are not what is read there. A file is looked at without reading on in it.
-fn lines_only() -> Result<(), End> {
-    let input = stdin();
-    if input.is_terminal() {
-        let why = "it reads lines from standard input, which is a terminal";
-        return Err(End::Usage(why.to_string()));
-    }
-    let file = input.as_fd().try_clone_to_owned().map(File::from);
-    let mut begins = [0; 4];
-    let read = file.and_then(|file| match file.metadata()?.is_file() {
-        true => file.read_exact_at(&mut begins, 0),
-        false => Ok(()),
-    });
-    match read.is_ok() && begins == *b"RIFF" {
-        true => Err(End::Usage(
-            "standard input is a WAVE file, and this form reads lines".to_string(),
-        )),
-        false => Ok(()),
-    }
 }

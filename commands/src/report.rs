@@ -5,7 +5,7 @@ use crate::delivery::{Delivery, Part};
 use crate::midi::by_keys;
 use crate::song::Song;
 use crate::source::Source;
-use crate::{settings, started};
+use crate::{apart, settings, started};
 use daxfolin::{Meter, Record, LONGEST_BLOCK, TAKEN};
 use std::fmt;
 use std::path::{Path, PathBuf};
@@ -23,6 +23,9 @@ const LEVEL: u64 = 65_536;
 const HEADING: &str = "file\tsamples\tpitched\trepeated\tdropped\tsum\tmean\tremainder\trefusal\n";
 
 pub fn run(request: &Report) -> Result<(), End> {
+    if request.from.is_empty() {
+        return apart::REPORT.run(PROGRAM);
+    }
     let count = request.from.len();
     if count > MOST_TAKES {
         let why = format!("{count} files: 28, {}", daxfolin::words(TOO_MANY_TAKES));

@@ -1,11 +1,13 @@
 //! A take and what was made of it, held together sample by sample, for the
 //! engineer who wants to see for herself.
 
+use crate::list::Note;
 use crate::rules::{input_position, LONGEST_BLOCK};
-use crate::settings::Settings;
+use crate::settings::{Settings, KEYBOARD};
 use crate::statistics::Statistics;
 use crate::tuner::{Answer, Tuner};
 use crate::voices::Ensemble;
+use crate::wanted::Wanted;
 
 /// A sample that is not what it should be.
 #[derive(Clone, Copy, Debug, PartialEq, Eq)]
@@ -25,6 +27,9 @@ pub struct Player {
     /// Of each voice its interval and its position.
     voices: Vec<(i32, i64)>,
     number: u16,
+    /// What the file plays that the take is tuned to, and the key that is down.
+    wanted: Option<Wanted>,
+    key: Note,
 }
 
 impl Player {
@@ -39,13 +44,70 @@ impl Player {
                     .map(|interval| (*interval, input_position(0)))
                     .collect(),
                 number: 0,
+                wanted: None,
+                key: None,
             }),
             refused => Err(refused.number()),
         }
     }
 
+    /// One that plays by keys, with these settings otherwise.
+    pub fn by_keys(
+        hertz: u32,
+        settings: Settings,
+        intervals: &[i32],
+        wanted: Wanted,
+    ) -> Result<Player, usize> {
+        let settings = Settings {
+            mode: KEYBOARD,
+            channel: 0,
+            ..settings
+        };
+        let player = Player::start(hertz, settings, intervals)?;
+        Ok(Player {
+            wanted: Some(wanted),
+            ..player
+        })
+    }
+
     /// What the lead and each voice make of up to 512 samples.
     pub fn play(&mut self, sung: &[i16]) -> Vec<Vec<i16>> {
+        let keys = match &mut self.wanted {
+            Some(wanted) => wanted.at(sung),
+            None => vec![None; sung.len()],
+        };
+        let mut outputs = vec![Vec::new(); 1 + self.voices.len()];
+        let mut left = sung;
+        for run in keys.chunk_by(|key, next| key == next) {
+            let (now, later) = left.split_at(run.len());
+            self.press(run[0]);
+            for (output, part) in outputs.iter_mut().zip(self.take(now)) {
+                output.extend(part);
+            }
+            left = later;
+        }
+        outputs
+    }
+
+    /// Releases the key that is down, and presses this one.
+    fn press(&mut self, key: Note) {
+        let message = |key: u8, velocity| [0x90, key, velocity];
+        let messages = match (self.key, key) {
+            (old, new) if old == new => return,
+            (old, new) => [
+                old.map(|key| message(key, 0)),
+                new.map(|key| message(key, 1)),
+            ],
+        };
+        for bytes in messages.into_iter().flatten() {
+            let answer = self.tuner.midi(&bytes, &mut Statistics::default());
+            assert_eq!(answer, Answer::Taken, "bytes of a keyboard are taken");
+        }
+        self.key = key;
+    }
+
+    /// What the lead and each voice make of a block.
+    fn take(&mut self, sung: &[i16]) -> Vec<Vec<i16>> {
         let from = self.tuner.count();
         let mut lead = vec![0; sung.len()];
         let seen = &mut Statistics::default();
@@ -89,6 +151,7 @@ impl Player {
 mod tests {
     use super::*;
     use crate::generator::cases::sung;
+    use crate::smf::Key;
     use crate::table::{CD, FILM};
 
     /// What it forgets is not missed: it plays as the tuner that keeps all.
@@ -138,6 +201,38 @@ mod tests {
             assert_eq!(difference, Some(right));
             files[file][sample] ^= 1;
         }
+    }
+
+    /// Keys come before their samples, wherever blocks are cut.
+    #[test]
+    fn it_plays_by_keys() {
+        let sung = sung();
+        let keys = [(0, 57), (700, 60), (20_000, 64)];
+        let down = |(sample, key)| Key {
+            sample,
+            key,
+            down: true,
+        };
+        let settings = Settings {
+            mode: KEYBOARD,
+            ..Settings::DEFAULT
+        };
+        let (_, mut ensemble) = Ensemble::start(CD, settings, None, &[7]);
+        let (mut right, seen) = (vec![vec![]; 2], &mut Statistics::default());
+        for (number, block) in sung.chunks(100).enumerate() {
+            for (_, key) in keys.iter().filter(|(at, _)| *at == 100 * number as u64) {
+                ensemble.lead.midi(&[0x90, *key, 100], seen);
+            }
+            let mut outputs = vec![vec![0; block.len()]; 2];
+            let (lead, voices) = outputs.split_at_mut(1);
+            ensemble.block(number as u16, block, &mut lead[0], voices, seen);
+            for (right, output) in right.iter_mut().zip(outputs) {
+                right.extend(output);
+            }
+        }
+        let wanted = Wanted::exact(keys.map(down).to_vec());
+        let mut player = Player::by_keys(CD, Settings::DEFAULT, &[7], wanted).unwrap();
+        assert_eq!(player.first_difference(&sung, &right), None);
     }
 
     #[test]

@@ -29,6 +29,7 @@ pub mod tuner;
 pub mod voice_lines;
 pub mod voice_statistics;
 pub mod voices;
+pub mod wanted;
 pub mod wave;
 pub mod waves;
 pub mod words;

@@ -141,7 +141,12 @@ _daxfolin() {{
     completion) _values shell {} ;;
 {cases}    esac
 }}
-compdef _daxfolin daxfolin
+# in a folder of $fpath this file is the function itself when it is first asked for
+if [[ $funcstack[1] == _daxfolin ]]; then
+    _daxfolin \"$@\"
+else
+    compdef _daxfolin daxfolin
+fi
 ",
         names(),
         SHELLS.join(" ")
@@ -195,7 +200,13 @@ fn first_part(says: &str) -> &str {
 
 fn fish() -> String {
     let mut text = String::from(
-        "# fish completion for daxfolin: daxfolin completion fish | source\ncomplete -c daxfolin -f\n",
+        r#"# fish completion for daxfolin: daxfolin completion fish | source
+function __daxfolin_files -a ending -d 'Files that end so, and folders'
+    set -l word (commandline -ct)
+    complete -C "'' $word" | string replace -r '\t.*' '' | string match -ri '.*(?:\.'$ending'|/)$'
+end
+complete -c daxfolin -f
+"#,
     );
     for command in COMMANDS {
         text += &format!(
@@ -226,21 +237,17 @@ fn fish_command(command: &Command) -> String {
     );
     let mut text = String::new();
     if command.offer == Offer::Waves {
-        text += &format!("{seen} -F\n");
+        text += &format!("{seen} -a '(__daxfolin_files wav)'\n");
     }
     for option in command.options() {
         let short = option.short.map(|short| format!(" -s {short}"));
         let offered = match option.offer {
             Offer::Words(words) => format!(" -a '{}'", words.join(" ")),
             Offer::Folders => " -a '(__fish_complete_directories)'".to_string(),
-            _ => String::new(),
+            Offer::Songs => " -a '(__daxfolin_files mid)'".to_string(),
+            Offer::Nothing | Offer::Waves => String::new(),
         };
-        let how = if option.offer == Offer::Songs {
-            "-rF"
-        } else {
-            "-x"
-        };
-        let value = option.value.map(|_| format!(" {how}{offered}"));
+        let value = option.value.map(|_| format!(" -x{offered}"));
         text += &format!(
             "{seen}{} -l {}{} -d '{}'\n",
             short.unwrap_or_default(),

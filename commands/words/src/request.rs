@@ -118,6 +118,7 @@ pub enum Form {
 pub struct Report {
     pub take: Take,
     pub song: Option<Song>,
+    /// None: lines on standard input.
     pub from: Vec<PathBuf>,
     pub tsv: bool,
 }
@@ -131,6 +132,7 @@ pub struct Mend {
 #[derive(Debug, PartialEq)]
 pub struct Check {
     pub take: Take,
+    pub song: Option<Song>,
     pub from: PathBuf,
     pub tuned: PathBuf,
 }
@@ -139,7 +141,9 @@ impl Request {
     /// The files that have to be there.
     pub fn inputs(&self) -> Vec<&Path> {
         let song = match self {
-            Request::Tune(Tune { song, .. }) | Request::Report(Report { song, .. }) => song,
+            Request::Tune(Tune { song, .. })
+            | Request::Report(Report { song, .. })
+            | Request::Check(Check { song, .. }) => song,
             _ => &None,
         };
         let song = song.iter().map(|song| &song.file);
@@ -409,7 +413,7 @@ fn report(given: &Given) -> Result<Report, String> {
     let take = take(given)?;
     let song = song(given)?;
     given.files.iter().try_for_each(not_a_dash)?;
-    if given.files.is_empty() {
+    if given.files.is_empty() && !given.is_empty() {
         return Err("IN.wav is missing".to_string());
     }
     Ok(Report {
@@ -428,8 +432,14 @@ fn mend(given: &Given) -> Result<Mend, String> {
 
 fn check(given: &Given) -> Result<Check, String> {
     let take = take(given)?;
+    let song = song(given)?;
     let [from, tuned] = files(given, ["IN.wav", "OUT.wav"])?;
-    Ok(Check { take, from, tuned })
+    Ok(Check {
+        take,
+        song,
+        from,
+        tuned,
+    })
 }
 
 #[cfg(test)]
@@ -651,6 +661,7 @@ mod tests {
             (&["tune", "-", "b"], &[]),
             (&["tune", "a", "b", "--midi", "m"], &["m", "a"]),
             (&["check", "a", "b"], &["a", "b"]),
+            (&["check", "a", "b", "--midi", "m"], &["m", "a", "b"]),
             (&["mend", "a"], &["a"]),
             (&["notes", "a"], &["a"]),
             (&["report", "a"], &["a"]),

@@ -85,14 +85,30 @@ impl Standard {
     }
 
     fn wait(&self) {
-        let mut polled = Polled {
-            file: self.file.as_raw_fd(),
-            events: self.events,
-            found: 0,
-        };
-        // SAFETY: it is one such record, and lent for the call alone.
-        unsafe { poll(&mut polled, 1, MILLISECONDS) };
+        is_ready(self.file.as_raw_fd(), self.events);
     }
+}
+
+/// Waits until a file is ready, but no longer than a signal may have to wait; whether it is.
+fn is_ready(file: c_int, events: c_short) -> bool {
+    let mut polled = Polled {
+        file,
+        events,
+        found: 0,
+    };
+    // SAFETY: it is one such record, and lent for the call alone.
+    unsafe { poll(&mut polled, 1, MILLISECONDS) > 0 }
+}
+
+/// Waits so until there is something to read, or the end of it.
+pub fn is_readable(file: &impl AsRawFd) -> bool {
+    is_ready(file.as_raw_fd(), READABLE)
+}
+
+/// Standard input and output, where they are closed.
+pub fn closed() -> [Option<c_int>; 2] {
+    let if_closed = |closed: &AtomicBool, file| closed.load(Relaxed).then_some(file);
+    [if_closed(&INPUT_CLOSED, 0), if_closed(&OUTPUT_CLOSED, 1)]
 }
 
 impl Read for Standard {

@@ -174,7 +174,7 @@ const MIDI: &[Opt] = &[
         ..valued(
             "octave",
             "WORD",
-            "nearest: each key in the octave nearest to what was sung there; exact: as the file says (nearest)",
+            "the octave of each key: nearest, to what was sung there; or exact, as the file says (nearest)",
         )
     },
 ];
@@ -361,12 +361,15 @@ pub const COMMANDS: &[Command] = &[
         name: "check",
         short: "check a tuned take, sample by sample, with a second program",
         forms: &["[OPTION..] IN.wav OUT.wav"],
-        options: &[TAKE, VOICE, COMMON],
+        options: &[TAKE, VOICE, MIDI, COMMON],
         about: &[
-            "Tunes IN.wav once more with the independent program, which shares no line with the one that it checks, and compares every sample of OUT.wav with its own. With --voice it compares OUT-1.wav and so on too. Give it the options that OUT was tuned with.",
+            "Tunes IN.wav once more with the independent program, which shares no line with the one that it checks, and compares every sample of OUT.wav with its own. With --voice it compares OUT-1.wav and so on too. Give it the options that OUT was tuned with, a MIDI file among them.",
             "Prints equal, or the first difference with its sample and time.",
         ],
-        more: &["It takes about a second of processor time for each minute of sound."],
+        more: &[
+            A_LINE,
+            "It takes about two seconds of processor time for each minute of sound, and twice as long for keys in the octave that was sung.",
+        ],
         statuses: &[
             (0, "equal"),
             WRONG,
@@ -393,7 +396,7 @@ pub const COMMANDS: &[Command] = &[
                 1,
                 "a read or a write failed, or standard input is a terminal or a WAVE file",
             ),
-            (2, "the program could not be built"),
+            (2, "the line program is not there, and could not be built"),
         ],
         offer: Offer::Nothing,
     },

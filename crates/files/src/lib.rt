@@ -14,6 +14,14 @@ use wave::WaveRead;
 use wave::WaveTake;
 use writing::WaveWritten;
 
+// The version of these calls.
+#[no_mangle]
+pub extern "C" fn daxfolin_files_version() -> u32
+    ensures { λ r. ⌜ r ≡ 1 ⌝ }
+{
+    1
+}
+
 // Reads the take of a file: its samples to the front of the output.
 #[no_mangle]
 pub extern "C" fn daxfolin_wave_read(bytes: &[u8], out: &mut [i16]) -> WaveRead

@@ -28,7 +28,14 @@ pub fn try_again() -> bool {
     false
 }
 
-// Writes all bytes to standard output, each once, and says whether it did; standard error has the name where it did not. A proved loop ends: no run uses up the tries.
+// Says that standard output takes no byte: such a write has no error of its own.
+fn takes_nothing(name: &[u8]) {
+    io::write_all(libc::STDERR_FILENO, name);
+    io::write_all(libc::STDERR_FILENO, b": it takes no byte\n");
+}
+
+// Writes all bytes to standard output, each once, and says whether it did; standard error has the name where it did not. A write that takes no byte is a
+// failed one, so that it is not tried for ever. A proved loop ends: no run uses up the tries.
 pub fn write_out(bytes: &[u8], name: &[u8]) -> bool {
     let mut done: usize = 0;
     let mut tries = u64::MAX;
@@ -38,6 +45,10 @@ pub fn write_out(bytes: &[u8], name: &[u8]) -> bool {
         }
         let rest = &bytes[done..];
         let put = libc::write(STDOUT_FILENO, rest);
+        if put == 0 {
+            takes_nothing(name);
+            return false;
+        }
         if put < 0 {
             if !try_again() {
                 os::fail(name);

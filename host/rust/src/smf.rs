@@ -12,6 +12,8 @@
 //! }
 //! ```
 
+use crate::wave::linked;
+
 /// No Standard MIDI File: it does not begin with `MThd`.
 pub const NO_MIDI_FILE: u32 = 30;
 /// The format is not 0 or 1.
@@ -133,6 +135,7 @@ pub struct Read {
 impl Song {
     /// A file of which no byte was read.
     pub fn begin() -> Song {
+        linked();
         // SAFETY: it takes nothing.
         unsafe { archive::daxfolin_smf_begin() }
     }

@@ -16,6 +16,9 @@
 //! }
 //! ```
 
+/// The version of the calls for files, those of [`crate::smf`] among them.
+pub const VERSION: u32 = 1;
+
 /// Not a RIFF WAVE file. A refusal, any of these, leaves every output as it was.
 pub const NOT_RIFF_WAVE: u32 = 20;
 /// No fmt before the data or the end.
@@ -122,6 +125,7 @@ mod archive {
     }
 
     extern "C" {
+        pub fn daxfolin_files_version() -> u32;
         pub fn daxfolin_wave_read(
             bytes: *const u8,
             length: usize,
@@ -169,6 +173,18 @@ const _: () = {
     assert!(size_of::<archive::WaveWritten>() == 16 && size_of::<archive::Mending>() == 40);
 };
 
+/// The version of the archive that is linked.
+pub fn version() -> u32 {
+    // SAFETY: it takes nothing and reads nothing.
+    unsafe { archive::daxfolin_files_version() }
+}
+
+/// Nothing that is not of this version is called.
+pub(crate) fn linked() {
+    let right = version() == VERSION;
+    assert!(right, "an archive of another version is linked");
+}
+
 /// A number that refuses, or what came of it.
 fn unless<T>(number: u32, answer: T) -> Result<T, u32> {
     if number == 0 {
@@ -180,6 +196,7 @@ fn unless<T>(number: u32, answer: T) -> Result<T, u32> {
 
 /// Reads the take of a file, its samples to the front of the output; or 20 to 25, and the output is as it was.
 pub fn read(file: &[u8], out: &mut [i16]) -> Result<Read, u32> {
+    linked();
     // SAFETY: the slices are references', so that they don't overlap, and the lengths are their own.
     let r = unsafe {
         archive::daxfolin_wave_read(file.as_ptr(), file.len(), out.as_mut_ptr(), out.len())
@@ -196,6 +213,7 @@ pub fn read(file: &[u8], out: &mut [i16]) -> Result<Read, u32> {
 /// Writes a take in the canonical form, a header of 44 bytes and the samples, to the front of the output, and says how many bytes; or 16
 /// for an unknown rate, 7 for over 1,000,000,000 samples, 25, and the output is as it was.
 pub fn write(hertz: u32, samples: &[i16], out: &mut [u8]) -> Result<usize, u32> {
+    linked();
     // SAFETY: the slices are references', so that they don't overlap, and the lengths are their own.
     let w = unsafe {
         archive::daxfolin_wave_write(
@@ -211,6 +229,7 @@ pub fn write(hertz: u32, samples: &[i16], out: &mut [u8]) -> Result<usize, u32> 
 
 /// What is mended in a file that a recorder left: the RIFF size and the data size; or 20, 29, 26, 27.
 pub fn mend(file: &[u8]) -> Result<(Size, Size), u32> {
+    linked();
     // SAFETY: the slice is a reference's, and the length is its own.
     let m = unsafe { archive::daxfolin_wave_mend(file.as_ptr(), file.len()) };
     unless(m.number, (m.riff, m.data))
@@ -218,6 +237,7 @@ pub fn mend(file: &[u8]) -> Result<(Size, Size), u32> {
 
 /// The canonical form's 44 bytes before so many samples; or 16 for an unknown rate, 7 for over 1,000,000,000 samples.
 pub fn header(hertz: u32, samples: u64) -> Result<[u8; 44], u32> {
+    linked();
     let mut out = [0; 44];
     // SAFETY: the output is an array, and the length is its own.
     let w = unsafe { archive::daxfolin_wave_header(hertz, samples, out.as_mut_ptr(), out.len()) };
@@ -226,6 +246,7 @@ pub fn header(hertz: u32, samples: u64) -> Result<[u8; 44], u32> {
 
 /// Bytes of a file as samples, as many as both have room for; says how many.
 pub fn samples(bytes: &[u8], out: &mut [i16]) -> usize {
+    linked();
     // SAFETY: the slices are references', so that they don't overlap, and the lengths are their own.
     unsafe {
         archive::daxfolin_wave_samples(bytes.as_ptr(), bytes.len(), out.as_mut_ptr(), out.len())
@@ -234,6 +255,7 @@ pub fn samples(bytes: &[u8], out: &mut [i16]) -> usize {
 
 /// Samples as bytes of a file, as many as both have room for; says how many samples.
 pub fn bytes(samples: &[i16], out: &mut [u8]) -> usize {
+    linked();
     // SAFETY: the slices are references', so that they don't overlap, and the lengths are their own.
     unsafe {
         archive::daxfolin_wave_bytes(samples.as_ptr(), samples.len(), out.as_mut_ptr(), out.len())
@@ -243,12 +265,14 @@ pub fn bytes(samples: &[i16], out: &mut [u8]) -> usize {
 impl Seek {
     /// For the take in a file of so many bytes, as [`read`] finds it.
     pub fn take(length: u64) -> Seek {
+        linked();
         // SAFETY: it takes a number.
         unsafe { archive::daxfolin_seek_take(length) }
     }
 
     /// For what is mended in a file of so many bytes, as [`mend`] finds it.
     pub fn mending(length: u64) -> Seek {
+        linked();
         // SAFETY: it takes a number.
         unsafe { archive::daxfolin_seek_mending(length) }
     }

@@ -3,15 +3,19 @@
 
 use independent::check::{Difference, Player};
 use independent::settings::Settings;
+use independent::smf::{song, Choice, Key, Wrong};
+use independent::wanted::Wanted;
 use independent::wave::take;
-use independent::words::{words, wrong};
+use independent::words::wrong;
+use std::ffi::{OsStr, OsString};
 use std::fs::{self, File};
 use std::io::{self, BufReader, IsTerminal, Read, Seek, SeekFrom};
+use std::os::unix::ffi::OsStrExt;
 use std::path::{Path, PathBuf};
 use std::process::exit;
 use std::time::{Duration, Instant};
 
-const USAGE: &str = "check IN.wav OUT.wav [scale=N] [eps=N] [decay=N] [floor=N] [voice=N]..";
+const USAGE: &str = "check IN.wav OUT.wav [scale=N] [eps=N] [decay=N] [floor=N] [voice=N].. [midi=FILE [channel=N] [track=N] [transpose=N] [offset=MS] [octave=nearest|exact]]";
 /// How many samples are played between two looks at the files.
 const STRETCH: usize = 1 << 16;
 /// The statuses: a file or a setting is refused, a file cannot be read, and the
@@ -21,24 +25,27 @@ const UNREAD: i32 = 3;
 const DIFFERS: i32 = 6;
 
 fn main() {
-    let words = words(USAGE);
+    let words: Vec<OsString> = std::env::args_os().skip(1).collect();
+    if words.first().is_some_and(|word| word == "--help") {
+        println!("usage: {USAGE}");
+        return;
+    }
     let [from, out, options @ ..] = &words[..] else {
         wrong(USAGE)
     };
-    let (settings, intervals) = settings(options);
+    let asked = asked(options);
     let mut sung = Wave::open(Path::new(from));
     let (hertz, count) = (sung.hertz, sung.count);
-    let mut player = Player::start(hertz, settings, &intervals)
-        .unwrap_or_else(|number| refused("the settings", number));
-    let names: Vec<PathBuf> = (0..=intervals.len())
-        .map(|voice| named(out, voice))
+    let mut player = player(&asked, hertz);
+    let names: Vec<PathBuf> = (0..=asked.intervals.len())
+        .map(|voice| named(Path::new(out), voice))
         .collect();
     let mut files: Vec<Wave> = names.iter().map(|name| Wave::open(name)).collect();
     for file in &files {
         if (file.hertz, file.count) != (hertz, count) {
             differs(&format!(
                 "{}: {} samples at {}, and the take has {count} at {hertz}",
-                file.name.display(),
+                shown(&file.name),
                 file.count,
                 file.hertz
             ));
@@ -56,7 +63,7 @@ fn main() {
         progress.show(from + length);
     }
     progress.end();
-    let voices = match intervals.len() {
+    let voices = match asked.intervals.len() {
         0 => String::new(),
         1 => ", and those of 1 voice".to_string(),
         count => format!(", and those of {count} voices"),
@@ -64,38 +71,115 @@ fn main() {
     println!("equal: all {count} samples{voices}");
 }
 
-/// The settings and the intervals of voices that words say, the default where
-/// one says nothing.
-fn settings(words: &[String]) -> (Settings, Vec<i32>) {
-    let (mut settings, mut intervals) = (Settings::DEFAULT, Vec::new());
+/// How a take was tuned.
+struct Asked {
+    settings: Settings,
+    intervals: Vec<i32>,
+    /// The MIDI file that it was tuned to, what of it, and whether its keys are
+    /// meant as they are.
+    midi: Option<PathBuf>,
+    choice: Choice,
+    exact: bool,
+}
+
+/// What words say, the default where one says nothing.
+fn asked(words: &[OsString]) -> Asked {
+    let mut asked = Asked {
+        settings: Settings::DEFAULT,
+        intervals: Vec::new(),
+        midi: None,
+        choice: Choice::default(),
+        exact: false,
+    };
     for word in words {
-        let (name, value) = word.split_once('=').unwrap_or_else(|| wrong(USAGE));
-        let number: i64 = value.parse().unwrap_or_else(|_| wrong(USAGE));
-        let whole = || u32::try_from(number).unwrap_or(u32::MAX);
+        let bytes = word.as_bytes();
+        let Some(at) = bytes.iter().position(|&byte| byte == b'=') else {
+            wrong(USAGE)
+        };
+        let (name, value) = (&bytes[..at], OsStr::from_bytes(&bytes[at + 1..]));
+        let number = || -> i64 {
+            let number = value.to_str().and_then(|text| text.parse().ok());
+            number.unwrap_or_else(|| wrong(USAGE))
+        };
+        let whole = || u32::try_from(number()).unwrap_or(u32::MAX);
+        let signed = || i32::try_from(number()).unwrap_or(i32::MAX);
         match name {
-            "scale" => settings.scale = whole(),
-            "eps" => settings.eps = whole(),
-            "decay" => settings.decay = whole(),
-            "floor" => settings.floor = whole(),
-            "voice" => intervals.push(i32::try_from(number).unwrap_or(i32::MAX)),
+            b"scale" => asked.settings.scale = whole(),
+            b"eps" => asked.settings.eps = whole(),
+            b"decay" => asked.settings.decay = whole(),
+            b"floor" => asked.settings.floor = whole(),
+            b"voice" => asked.intervals.push(signed()),
+            b"midi" => asked.midi = Some(value.into()),
+            b"channel" => asked.choice.channel = Some(whole() as u8),
+            b"track" => asked.choice.track = Some(whole()),
+            b"transpose" => asked.choice.transpose = signed(),
+            b"offset" => asked.choice.offset = number(),
+            b"octave" if value == "exact" || value == "nearest" => asked.exact = value == "exact",
             _ => wrong(USAGE),
         }
     }
-    (settings, intervals)
+    asked
+}
+
+/// The player that tunes as was asked.
+fn player(asked: &Asked, hertz: u32) -> Player {
+    let (settings, intervals) = (asked.settings, &asked.intervals);
+    let player = match &asked.midi {
+        None => Player::start(hertz, settings, intervals),
+        Some(name) => {
+            let keys = keys(name, hertz, &asked.choice);
+            let wanted = match asked.exact {
+                true => Wanted::exact(keys),
+                false => Wanted::nearest(keys, hertz, settings),
+            };
+            Player::by_keys(hertz, settings, intervals, wanted)
+        }
+    };
+    player.unwrap_or_else(|number| refused("the settings", number))
+}
+
+/// The keys that a file plays.
+fn keys(name: &Path, hertz: u32, choice: &Choice) -> Vec<Key> {
+    let file = fs::read(name).unwrap_or_else(|error| unread(name, &error));
+    match song(&file) {
+        Ok(song) => song.line(hertz, choice).keys,
+        Err(Wrong { number, at }) => {
+            let why = format!("byte {at}: {number}, refused by the independent program");
+            eprintln!("daxfolin check: {}: {why}", shown(name));
+            exit(UNREAD)
+        }
+    }
 }
 
 /// OUT.wav, and its voices OUT-1.wav, OUT-2.wav and OUT-3.wav.
-fn named(out: &str, voice: usize) -> PathBuf {
-    let path = Path::new(out);
+fn named(out: &Path, voice: usize) -> PathBuf {
     if voice == 0 {
-        return path.to_path_buf();
+        return out.to_path_buf();
     }
-    let stem = path.file_stem().unwrap_or_default().to_string_lossy();
-    let name = match path.extension() {
-        Some(ending) => format!("{stem}-{voice}.{}", ending.to_string_lossy()),
-        None => format!("{stem}-{voice}"),
+    let mut name = out.file_stem().unwrap_or_default().to_os_string();
+    name.push(format!("-{voice}"));
+    if let Some(ending) = out.extension() {
+        name.push(".");
+        name.push(ending);
+    }
+    out.with_file_name(name)
+}
+
+/// A file's name for people. One with control characters, or that is no text,
+/// is quoted as a shell takes it.
+fn shown(name: &Path) -> String {
+    let quoted = |byte: &u8| match byte {
+        b'\'' | b'\\' => format!("\\{}", *byte as char),
+        b' '..=b'~' => (*byte as char).to_string(),
+        _ => format!("\\{byte:03o}"),
     };
-    path.with_file_name(name)
+    match name.to_str() {
+        Some(text) if !text.chars().any(char::is_control) => text.to_string(),
+        _ => {
+            let bytes = name.as_os_str().as_bytes();
+            format!("$'{}'", bytes.iter().map(quoted).collect::<String>())
+        }
+    }
 }
 
 fn line(name: &Path, found: Difference, hertz: u32) -> String {
@@ -106,7 +190,7 @@ fn line(name: &Path, found: Difference, hertz: u32) -> String {
         ..
     } = found;
     let seconds = sample as f64 / f64::from(hertz);
-    let name = name.display();
+    let name = shown(name);
     format!("{name}: sample {sample} ({seconds:.6} s) is {is} and should be {should_be}")
 }
 
@@ -122,7 +206,7 @@ fn refused(what: &str, number: usize) -> ! {
 }
 
 fn unread(name: &Path, error: &io::Error) -> ! {
-    eprintln!("daxfolin check: {}: {error}", name.display());
+    eprintln!("daxfolin check: {}: {error}", shown(name));
     exit(UNREAD)
 }
 
@@ -139,8 +223,7 @@ impl Wave {
         let failed = |error: io::Error| -> ! { unread(name, &error) };
         let bytes = fs::read(name).unwrap_or_else(|error| failed(error));
         let found = take(&bytes);
-        let found =
-            found.unwrap_or_else(|number| refused(&name.display().to_string(), number as usize));
+        let found = found.unwrap_or_else(|number| refused(&shown(name), number as usize));
         let mut from = BufReader::new(File::open(name).unwrap_or_else(|error| failed(error)));
         if let Err(error) = from.seek(SeekFrom::Start(found.at)) {
             failed(error)

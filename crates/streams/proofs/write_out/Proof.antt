@@ -1,4 +1,4 @@
--- `streams::write_out` meets its contract: no more is written than there is, and the tries fall.
+-- `streams::write_out` meets its contract: no more is written than there is, and the tries fall at each write that is followed by another.
 -- Assumes nothing.
 use borrow.Author.Needs.{needs}
 use Prim.Native.Nat.{_≤_}
@@ -30,14 +30,20 @@ part-rest-end c = search needs
 write-requires : tie.Need-write-requires Inv-loop μ-loop
 write-requires c κs = search needs
 
+takes-nothing-requires : tie.Need-takes-nothing-requires Inv-loop μ-loop
+takes-nothing-requires c κs = search needs
+
+returns-2 : tie.Need-returns-2 Inv-loop μ-loop
+returns-2 c = search needs
+
 try-again-requires : tie.Need-try-again-requires Inv-loop μ-loop
 try-again-requires c κs = search needs
 
 fail-requires : tie.Need-fail-requires Inv-loop μ-loop
 fail-requires c κs = search needs
 
-returns-2 : tie.Need-returns-2 Inv-loop μ-loop
-returns-2 c = search needs
+returns-3 : tie.Need-returns-3 Inv-loop μ-loop
+returns-3 c = search needs
 
 count-requires : tie.Need-count-requires Inv-loop μ-loop
 count-requires c κs = search needs
@@ -54,8 +60,8 @@ loop-less c = search needs
 loop-again : tie.Need-loop-again Inv-loop μ-loop
 loop-again c = search needs
 
-returns-3 : tie.Need-returns-3 Inv-loop μ-loop
-returns-3 c = search needs
+returns-4 : tie.Need-returns-4 Inv-loop μ-loop
+returns-4 c = search needs
 
 pub write-out-spec : {M : Type 1} → statement M
 write-out-spec =
@@ -69,12 +75,14 @@ write-out-spec =
     part-rest-start
     part-rest-end
     write-requires
+    takes-nothing-requires
+    returns-2
     try-again-requires
     fail-requires
-    returns-2
+    returns-3
     count-requires
     add-done
     sub-tries
     loop-less
     loop-again
-    returns-3)
+    returns-4)
