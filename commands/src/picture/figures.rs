@@ -2,7 +2,7 @@
 //! cycles and the samples of each note are counts of theirs; shares, the median
 //! and the percentile are taken of these here.
 
-use super::heard::{Heard, Point, STRETCH};
+use super::heard::{Heard, Point};
 use std::cmp::Reverse;
 use words::scales::{sets, Set};
 
@@ -49,7 +49,11 @@ impl Figures {
             dropped: points.clone().map(|point| u64::from(point.dropped)).sum(),
             twelve,
             off: (!off.is_empty()).then(|| [50, 95].map(|percent| rank(&off, percent))),
-            lost: STRETCH * points.filter(|point| lost(point)).count() as u64,
+            lost: heard
+                .stretches()
+                .filter(|(_, point)| lost(point))
+                .map(|(samples, _)| samples)
+                .sum(),
         }
     }
 

@@ -18,7 +18,7 @@ use words::request::Take;
 use words::signals::ended;
 
 /// A point comes after so many samples, and one at the take's end.
-pub const STRETCH: u64 = 256;
+const STRETCH: u64 = 256;
 
 /// What the meter shows at the end of a stretch, and what the stretch had.
 #[derive(Clone, Copy, Debug, Default, PartialEq)]
@@ -80,6 +80,13 @@ impl Heard {
     /// The last sample of a point's stretch is the one before this.
     pub fn end(&self, point: usize) -> u64 {
         (STRETCH * (point as u64 + 1)).min(self.samples)
+    }
+
+    /// Each point, and how many samples its stretch has.
+    pub fn stretches(&self) -> impl Iterator<Item = (u64, &Point)> {
+        let begin = |at: usize| STRETCH * at as u64;
+        let points = self.points.iter().enumerate();
+        points.map(move |(at, point)| (self.end(at) - begin(at), point))
     }
 
     /// The points whose stretches end within these samples, by their places.

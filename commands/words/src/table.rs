@@ -231,7 +231,7 @@ const NOTES: &[Opt] = &[
 ];
 
 const PICTURE: &[Opt] = &[
-    flag('f', "force", "write over OUT.svg if it exists"),
+    flag('f', "force", "write over OUT.svg and OUT.png if they exist"),
     valued(
         "from",
         "TIME",
@@ -366,7 +366,7 @@ pub const COMMANDS: &[Command] = &[
             "A note that was sung counts for the nearest of all twelve. Where more than a fifth was sung outside of the scale, a banner says so and names scales that hold at least 95 %.",
             "With --from and --to the page has a part of the take. The figures at its head are those of the whole take.",
             A_LINE,
-            "A page is one file, however long the take is, and the same bytes on every run. It appears when it is whole, and not before. A PNG is at most 32,767 pixels high, some 20 minutes: for a longer take give --from and --to.",
+            "A page is one file, however long the take is, and the same bytes on every run. It appears when it is whole, and not before. rsvg-convert makes no PNG higher than 32,767 pixels, which a take of over a quarter of an hour may reach: give --from and --to then.",
         ],
         statuses: &[
             (0, "the picture is written"),
