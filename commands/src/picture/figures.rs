@@ -80,7 +80,7 @@ impl Figures {
         }
     }
 
-    /// The scales that hold what was sung, the common ones first; or the one that comes nearest.
+    /// The scales that hold what was sung, common kinds first; or the one that comes nearest.
     fn best(&self) -> Best {
         let inside = |set: &Set| -> u64 {
             let twelve = (0..).zip(self.twelve);
@@ -89,8 +89,11 @@ impl Figures {
         };
         let mut scales: Vec<(u64, Set)> =
             sets().into_iter().map(|set| (inside(&set), set)).collect();
-        // stable: what stands first in the list of scales stays first
-        scales.sort_by_key(|(inside, _)| Reverse(*inside));
+        // those that hold most first, by the whole percent, and of these the one whose tonic was sung longest
+        scales.sort_by_key(|(inside, set)| {
+            let tonic = self.twelve[set.tonic as usize];
+            Reverse((100 * inside / self.pitched.max(1), tonic))
+        });
         let holds = |(inside, _): &&(u64, Set)| 100 * inside >= HOLDS * self.pitched;
         let holding = scales.iter().filter(holds).count();
         scales.truncate(holding.max(1));
@@ -234,8 +237,8 @@ mod tests {
         let best = sung([10, 0, 10, 0, 10, 0, 0, 10, 0, 10, 0, 0]).best();
         let majors = [
             "C-major / A-minor",
-            "F-major / D-minor",
             "G-major / E-minor",
+            "F-major / D-minor",
         ];
         assert_eq!(
             best.names[..3],
@@ -244,6 +247,9 @@ mod tests {
         assert_eq!(best.names.len(), NAMED);
         let more = format!("and in {} scales more.", best.holding - NAMED);
         assert!(best.words().ends_with(&more));
+        // of those that hold as much, the one whose tonic was sung longest
+        let best = sung([0, 7, 0, 0, 13, 0, 0, 0, 0, 15, 0, 0]).best();
+        assert_eq!(best.names[0], "A-major / F#-minor (100.0 %)");
         // a common scale that holds enough stands before one that holds more
         let best = sung([0, 5, 20, 0, 20, 20, 0, 20, 0, 20, 19, 0]).best();
         let both = ["F-major / D-minor (96.0 %)", "D-harmonic-minor (100.0 %)"];

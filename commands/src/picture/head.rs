@@ -222,7 +222,12 @@ fn bar(svg: &mut Svg, heard: &Heard, note: usize, sung: u64, x: f64, base: f64, 
     };
     svg.titled(Rect(x + 3.0, base - tall, BAR - 6.0, tall), &paint, &title);
     if tall > 1.0 {
-        let long = format!("{:.1}", sung as f64 / f64::from(heard.hertz));
+        let long = sung as f64 / f64::from(heard.hertz);
+        let long = if long < 1.0 {
+            format!("{long:.2}")
+        } else {
+            format!("{long:.1}")
+        };
         svg.words(middle, base - tall - 3.0, " font-size=\"9\"", &long);
     }
     match wanted {

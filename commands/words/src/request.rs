@@ -19,7 +19,7 @@ const CHANNELS: u32 = 16;
 const FARTHEST: i64 = 127;
 const LATEST: i64 = 100_000_000;
 /// The widths of a page, in pixels.
-const WIDTHS: std::ops::RangeInclusive<u32> = 600..=6000;
+const WIDTHS: std::ops::RangeInclusive<u32> = 700..=6000;
 
 #[derive(Debug, PartialEq)]
 pub enum Request {
@@ -746,9 +746,9 @@ mod tests {
         let right = Page {
             from: 65.5,
             to: Some(90.0),
-            width: 600,
+            width: 700,
         };
-        let words = ["--from", "1:05.5", "--to", "90", "--width", "600"];
+        let words = ["--from", "1:05.5", "--to", "90", "--width", "700"];
         assert_eq!(page(&words), Ok(right));
         for (words, why) in [
             (
@@ -761,10 +761,10 @@ mod tests {
                 "--from is a time like 12.5 or 1:05, not '1:2:3'",
             ),
             (["--to", "0"], "--to is not behind --from"),
-            (["--width", "599"], "--width is 600 to 6000 pixels, not 599"),
+            (["--width", "699"], "--width is 700 to 6000 pixels, not 699"),
             (
                 ["--width", "6001"],
-                "--width is 600 to 6000 pixels, not 6001",
+                "--width is 700 to 6000 pixels, not 6001",
             ),
         ] {
             assert_eq!(page(&words), Err(why.to_string()));

@@ -97,6 +97,8 @@ pub struct Set {
     pub mask: u32,
     /// Where it has several names the first two, as C-major / A-minor.
     pub name: String,
+    /// The first name's, C 0 to B 11.
+    pub tonic: u32,
     /// The place of its kind in the list of scales: what is more common comes first.
     pub kind: usize,
 }
@@ -111,7 +113,12 @@ pub fn sets() -> Vec<Set> {
             match sets.iter_mut().find(|set| set.mask == mask) {
                 Some(set) if !set.name.contains('/') => set.name += &format!(" / {name}"),
                 Some(_) => {}
-                None => sets.push(Set { mask, name, kind }),
+                None => sets.push(Set {
+                    mask,
+                    name,
+                    tonic,
+                    kind,
+                }),
             }
         }
     }
@@ -264,6 +271,7 @@ mod tests {
         let first = Set {
             mask: 2741,
             name,
+            tonic: 0,
             kind: 0,
         };
         assert_eq!(sets[0], first);

@@ -241,7 +241,7 @@ const PICTURE: &[Opt] = &[
     valued(
         "width",
         "PIXELS",
-        "the width of the page, 600 to 6000 (1280)",
+        "the width of the page, 700 to 6000 (1280)",
     ),
     switch(
         "png",
