@@ -35,7 +35,6 @@ pub fn write(program: &'static str, request: &Picture) -> Result<String, End> {
     let song = request.song.as_ref().map(Song::of).transpose()?;
     let source = Source::of(&request.from)?;
     let started = Started::of(&source, &request.take, song.as_ref())?;
-    part(&source, &started, &request.page)?;
     let read: Vec<&Source> = song
         .iter()
         .map(|song| &song.source)

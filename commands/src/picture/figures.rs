@@ -3,6 +3,7 @@
 //! and the percentile are taken of these here.
 
 use super::heard::{Heard, Point};
+use crate::octave::ALL;
 use std::cmp::Reverse;
 use words::scales::{sets, Set};
 
@@ -68,15 +69,16 @@ impl Figures {
 
     pub fn verdict(&self, heard: &Heard) -> Verdict {
         let outside = self.outside(heard);
-        let all = heard.settings.scale == crate::octave::ALL;
-        match () {
-            () if self.pitched == 0 => Verdict::Silent,
-            () if heard.keys.is_some() => Verdict::Keys,
-            () if all => Verdict::All(self.best()),
-            () if WRONG * outside > self.pitched => {
-                Verdict::Wrong(percent(outside, self.pitched), self.best())
-            }
-            () => Verdict::Right(percent(self.pitched - outside, self.pitched)),
+        if self.pitched == 0 {
+            Verdict::Silent
+        } else if heard.keys.is_some() {
+            Verdict::Keys
+        } else if heard.settings.scale == ALL {
+            Verdict::All(self.best())
+        } else if WRONG * outside > self.pitched {
+            Verdict::Wrong(percent(outside, self.pitched), self.best())
+        } else {
+            Verdict::Right(percent(self.pitched - outside, self.pitched))
         }
     }
 

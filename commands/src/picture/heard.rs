@@ -65,6 +65,8 @@ pub struct Heard {
     pub samples: u64,
     pub settings: Settings,
     pub voices: Vec<i32>,
+    /// The notes that are wanted anywhere, as a scale has them.
+    wanted: u32,
     pub points: Vec<Point>,
     /// The wanted notes.
     pub rows: Vec<Row>,
@@ -98,13 +100,9 @@ impl Heard {
         (from / STRETCH) as usize..last
     }
 
-    /// Whether this note is wanted anywhere: of the scale, or of the keys of the line.
+    /// Whether this note is wanted anywhere: it is of the scale, or a key of the line.
     pub fn wants(&self, note: i64) -> bool {
-        let class = note.rem_euclid(12);
-        match &self.keys {
-            None => self.settings.scale >> class & 1 == 1,
-            Some(keys) => keys.iter().any(|held| i64::from(held.key) % 12 == class),
-        }
+        self.wanted >> note.rem_euclid(12) & 1 == 1
     }
 
     /// The note of a voice beside a wanted one; none outside of the table, where it is silent.
@@ -143,13 +141,12 @@ impl Started {
         // the lead is the same without voices, and these are only asked for
         let answer = Choir::default().start(take.hertz, wanted, &voices, &[]);
         started(answer.answer.number)?;
-        let tuner = Listed::start(take.hertz, wanted);
-        let refused = |number| started(number).err().unwrap_or(End::Said(0));
+        let tuner = Listed::start(take.hertz, wanted).map_err(|number| source.refused(number))?;
         Ok(Started {
             take,
             settings,
             voices,
-            tuner: tuner.map_err(refused)?,
+            tuner,
         })
     }
 
@@ -179,12 +176,17 @@ impl Started {
         if let Some(played) = &played {
             played.remark(program, source);
         }
+        let classes = |keys: &Vec<Held>| {
+            keys.iter()
+                .fold(0, |mask, held| mask | 1 << (held.key % 12))
+        };
         let [sum, farthest] = hearing.behind;
         Ok(Heard {
             hertz: take.hertz,
             samples: take.count,
             settings,
             voices: self.voices,
+            wanted: keys.as_ref().map_or(settings.scale, classes),
             points: hearing.points,
             rows,
             sung,

@@ -26,6 +26,10 @@ const AXIS: f64 = 34.0;
 /// Notes shorter than so many seconds do not widen a row, nor do the lowest and the highest points, so many percent of either.
 const SHORT: f64 = 0.05;
 const ENDS: usize = 5;
+/// A key that is held shorter does not widen it either.
+const SHORT_KEY: f64 = 0.3;
+/// The highest note there is.
+const HIGHEST: i64 = 127;
 /// A step of more semitones than this from one point to the next is no line.
 const LEAP: f64 = 1.5;
 /// The cents at which a row's curve of them ends, and the softest level drawn, in decibels.
@@ -156,21 +160,18 @@ impl Notes {
         if !sung.is_empty() {
             all.extend([rank(&sung, ENDS), rank(&sung, 100 - ENDS)]);
         }
-        let short = SHORT * f64::from(heard.hertz);
-        let lasts =
-            |from: u64, to: u64| from < span.to && to > span.from && (to - from) as f64 > short;
-        for row in heard.rows.iter().filter(|row| lasts(row.first, row.end())) {
-            let voices = heard
-                .voices
-                .iter()
-                .filter_map(|voice| heard.voice(row.note, *voice));
+        let lasts = |from: u64, to: u64, long: f64| {
+            let here = from < span.to && to > span.from;
+            here && (to - from) as f64 > long * f64::from(heard.hertz)
+        };
+        let rows = heard.rows.iter();
+        for row in rows.filter(|row| lasts(row.first, row.end(), SHORT)) {
+            let voices = heard.voices.iter();
+            let voices = voices.filter_map(|voice| heard.voice(row.note, *voice));
             all.extend(voices.chain([row.note]).map(f64::from));
         }
-        let keys = heard
-            .keys
-            .iter()
-            .flatten()
-            .filter(|held| lasts(held.from, held.to));
+        let keys = heard.keys.iter().flatten();
+        let keys = keys.filter(|held| lasts(held.from, held.to, SHORT_KEY));
         all.extend(keys.map(|held| f64::from(held.key)));
         let low = all.iter().copied().reduce(f64::min)?.round() as i64 - 2;
         let high = all.iter().copied().reduce(f64::max)?.round() as i64 + 2;
@@ -194,7 +195,7 @@ impl Notes {
 
     /// The notes that have a whole band.
     fn lanes(&self) -> std::ops::Range<i64> {
-        self.low + 1..self.high
+        (self.low + 1).max(0)..self.high.min(HIGHEST + 1)
     }
 
     /// At the left of the grid. Where there is little room, every fourth.
@@ -307,7 +308,8 @@ fn title(heard: &Heard, row: &Row) -> String {
     let points = &heard.points[heard.points_within(row.first, row.end())];
     let mut cents: Vec<f64> = points.iter().filter_map(Point::cents).collect();
     cents.sort_by(f64::total_cmp);
-    let median = (!cents.is_empty()).then(|| format!(", median {:+.0} cents", rank(&cents, 50)));
+    let median = (!cents.is_empty())
+        .then(|| format!(", median {:+.0} cents", rank(&cents, 50).round() + 0.0));
     format!(
         "{}, {} s to {} s, {} samples from {} on{}",
         name(row.note.into()),
@@ -422,8 +424,8 @@ fn level(svg: &mut Svg, heard: &Heard, span: Span) {
 
 // ---- time
 
-/// The seconds between lines of a row, and how many of them there are decimals for: a line a second, or ten in a row of few.
-fn ticks(heard: &Heard, span: Span) -> (f64, usize, Vec<f64>) {
+/// The decimals of a row's times, and the times: one a second, or ten where there is room.
+fn ticks(heard: &Heard, span: Span) -> (usize, Vec<f64>) {
     let hertz = f64::from(heard.hertz);
     let pixels = span.x(span.from + u64::from(heard.hertz));
     let (step, decimals) = if pixels >= 400.0 { (0.1, 1) } else { (1.0, 0) };
@@ -432,13 +434,13 @@ fn ticks(heard: &Heard, span: Span) -> (f64, usize, Vec<f64>) {
         span.to as f64 / hertz / step,
     );
     let ticks = (from.ceil() as u64..=to.floor() as u64).map(|tick| step * tick as f64);
-    (step, decimals, ticks.collect())
+    (decimals, ticks.collect())
 }
 
 /// Lines through the notes.
 fn seconds_of(svg: &mut Svg, heard: &Heard, span: Span, tall: f64) {
     let mut path = Path::default();
-    for second in ticks(heard, span).2 {
+    for second in ticks(heard, span).1 {
         let x = span.x((second * f64::from(heard.hertz)).round() as u64);
         path.go(x, 0.0);
         path.line(x, tall);
@@ -447,7 +449,7 @@ fn seconds_of(svg: &mut Svg, heard: &Heard, span: Span, tall: f64) {
 }
 
 fn axis(svg: &mut Svg, heard: &Heard, span: Span, top: f64) {
-    let (_, decimals, ticks) = ticks(heard, span);
+    let (decimals, ticks) = ticks(heard, span);
     svg.group(
         &format!("font-size=\"10\" text-anchor=\"middle\" fill=\"{SOFT}\""),
         |svg| {
