@@ -11,6 +11,7 @@ pub mod mend;
 pub mod midi;
 pub mod notes;
 pub mod octave;
+pub mod picture;
 pub mod place;
 mod progress;
 mod refusal;
@@ -42,6 +43,9 @@ pub fn run(given: Vec<OsString>) -> ExitCode {
         Ok(Some(Request::Tune(request))) => (tune::PROGRAM.to_string(), tune::run(&request)),
         Ok(Some(Request::Notes(request))) => (notes::PROGRAM.to_string(), notes::run(&request)),
         Ok(Some(Request::Report(request))) => (report::PROGRAM.to_string(), report::run(&request)),
+        Ok(Some(Request::Picture(request))) => {
+            (picture::PROGRAM.to_string(), picture::run(&request))
+        }
         Ok(Some(Request::Mend(request))) => (mend::PROGRAM.to_string(), mend::run(&request)),
         Ok(Some(Request::Check(request))) => (check::PROGRAM.to_string(), check::run(&request)),
         Ok(Some(Request::Lines)) => (LINES.to_string(), apart::ANSWERS.run(LINES)),

@@ -26,7 +26,7 @@ use words::end::End;
 const OCTAVE: i32 = 12;
 
 /// The scale of all twelve notes.
-const ALL: u32 = 4095;
+pub const ALL: u32 = 4095;
 
 /// In which octave keys are sent.
 #[derive(Clone, Copy, Debug, Default, PartialEq, Eq)]
@@ -71,10 +71,10 @@ impl Octave {
 
 /// A stretch of samples in which a key is wanted.
 #[derive(Clone, Copy, Debug, PartialEq, Eq)]
-struct Held {
-    key: u8,
-    from: u64,
-    to: u64,
+pub struct Held {
+    pub key: u8,
+    pub from: u64,
+    pub to: u64,
 }
 
 /// The keys of a line, each in the octave that was found. Rows are those of a first pass with all twelve notes.
@@ -89,7 +89,7 @@ pub fn nearest(keys: &[Key], rows: &[Row]) -> Vec<Key> {
 }
 
 /// The stretches in which a key is wanted: from the sample at which it goes down, until it goes up or another goes down.
-fn held(keys: &[Key]) -> Vec<Held> {
+pub fn held(keys: &[Key]) -> Vec<Held> {
     let mut all = Vec::new();
     let mut now: Option<(u8, u64)> = None;
     let mut end = |now: Option<(u8, u64)>, to: u64| {

@@ -82,17 +82,26 @@ impl Place {
 
 /// The places of OUT and of so many voices; none of them is a file that is read, or another of them.
 pub fn places(out: &Path, voices: usize, read: &[&Source], over: bool) -> Result<Vec<Place>, End> {
+    places_of((0..=voices).map(|voice| named(out, voice)), read, over)
+}
+
+/// The places of outputs with these names, likewise.
+pub fn places_of(
+    names: impl IntoIterator<Item = PathBuf>,
+    read: &[&Source],
+    over: bool,
+) -> Result<Vec<Place>, End> {
     let read = read.iter();
     let mut taken: Vec<(PathBuf, Identity)> = read
         .map(|source| (source.name.clone(), identity(&source.was)))
         .collect();
-    let place = |voice| {
-        let place = place(named(out, voice), &taken, over)?;
+    let place = |name| {
+        let place = place(name, &taken, over)?;
         let file = place.over.as_ref().map(identity);
         taken.extend(file.map(|file| (place.name.clone(), file)));
         Ok(place)
     };
-    (0..=voices).map(place).collect()
+    names.into_iter().map(place).collect()
 }
 
 /// The name of a voice's output: OUT's, with a dash and the voice's number before its ending. OUT itself is number 0.

@@ -5,7 +5,7 @@
 use crate::source::Source;
 use crate::started;
 use daxfolin::wave::Take;
-use daxfolin::{Answer, Listing, Record, Settings, LONGEST_BLOCK, MOST_ROWS, ROW, TAKEN};
+use daxfolin::{Answer, Listing, Meter, Record, Settings, LONGEST_BLOCK, MOST_ROWS, ROW, TAKEN};
 use words::end::End;
 use words::signals::ended;
 
@@ -71,6 +71,16 @@ impl Listed {
             .list_block(&mut self.listing, number, sung, out, store);
         self.move_out();
         answer.answer
+    }
+
+    /// `Record::meter`.
+    pub fn meter(&self) -> Meter {
+        self.tuner.meter()
+    }
+
+    /// `Record::behind`.
+    pub fn behind(&self) -> u64 {
+        self.tuner.behind()
     }
 
     /// All rows but the last are whole. The last one may go on: it stays, as the first row of a listing that is otherwise empty, which is

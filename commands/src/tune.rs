@@ -347,6 +347,18 @@ const READ_BEHIND: u64 = 4;
 /// The units of a position in a sample.
 const UNITS: u64 = 65_536;
 
+/// The latency in samples, to the nearest, where the read position lies so many units behind the input.
+pub fn latency(units: u64) -> u64 {
+    READ_BEHIND + (units + UNITS / 2) / UNITS
+}
+
+/// A latency for people.
+pub fn late(samples: u64, hertz: u32) -> String {
+    let hertz = u64::from(hertz);
+    let tenths = (10_000 * samples + hertz / 2) / hertz;
+    format!("{samples} samples ({}.{} ms)", tenths / 10, tenths % 10)
+}
+
 /// What was done to a take.
 #[derive(Default)]
 struct Tuned {
@@ -380,7 +392,7 @@ impl Tuned {
     /// The latency in samples, to the nearest: the mean, and the greatest.
     fn latency(&self) -> [u64; 2] {
         let mean = self.behind / self.blocks.max(1);
-        [mean, self.farthest].map(|units| READ_BEHIND + (units + UNITS / 2) / UNITS)
+        [mean, self.farthest].map(latency)
     }
 
     fn line(&self, take: &Take) -> String {
@@ -388,11 +400,7 @@ impl Tuned {
             0 => String::new(),
             blocks => {
                 let tenths = (1000 * self.pitched + blocks / 2) / blocks;
-                let [mean, most] = self.latency().map(|samples| {
-                    let tenths =
-                        (10_000 * samples + u64::from(take.hertz) / 2) / u64::from(take.hertz);
-                    format!("{samples} samples ({}.{} ms)", tenths / 10, tenths % 10)
-                });
+                let [mean, most] = self.latency().map(|samples| late(samples, take.hertz));
                 format!(
                     " ({}.{} %), latency {mean} on average, {most} at most",
                     tenths / 10,

@@ -18,12 +18,15 @@ const STEP: f64 = 5.0;
 const CHANNELS: u32 = 16;
 const FARTHEST: i64 = 127;
 const LATEST: i64 = 100_000_000;
+/// The widths of a page, in pixels.
+const WIDTHS: std::ops::RangeInclusive<u32> = 700..=6000;
 
 #[derive(Debug, PartialEq)]
 pub enum Request {
     Tune(Tune),
     Notes(Notes),
     Report(Report),
+    Picture(Picture),
     Mend(Mend),
     Check(Check),
     Lines,
@@ -124,6 +127,38 @@ pub struct Report {
 }
 
 #[derive(Debug, PartialEq)]
+pub struct Picture {
+    pub take: Take,
+    pub song: Option<Song>,
+    pub from: PathBuf,
+    pub to: PathBuf,
+    pub page: Page,
+    pub png: bool,
+    pub force: bool,
+}
+
+/// What of a take is drawn, and how wide.
+#[derive(Clone, Copy, Debug, PartialEq)]
+pub struct Page {
+    /// In seconds.
+    pub from: f64,
+    /// None: to the end of the take.
+    pub to: Option<f64>,
+    /// In pixels.
+    pub width: u32,
+}
+
+impl Default for Page {
+    fn default() -> Page {
+        Page {
+            from: 0.0,
+            to: None,
+            width: 1280,
+        }
+    }
+}
+
+#[derive(Debug, PartialEq)]
 pub struct Mend {
     pub file: PathBuf,
     pub dry: bool,
@@ -143,7 +178,8 @@ impl Request {
         let song = match self {
             Request::Tune(Tune { song, .. })
             | Request::Report(Report { song, .. })
-            | Request::Check(Check { song, .. }) => song,
+            | Request::Check(Check { song, .. })
+            | Request::Picture(Picture { song, .. }) => song,
             _ => &None,
         };
         let song = song.iter().map(|song| &song.file);
@@ -153,6 +189,7 @@ impl Request {
             // one that is not there has its own line in the report
             Request::Report(report) if report.from.len() > 1 => Vec::new(),
             Request::Report(report) => report.from.iter().collect(),
+            Request::Picture(picture) => vec![&picture.from],
             Request::Mend(mend) => vec![&mend.file],
             Request::Check(check) => vec![&check.from, &check.tuned],
             Request::Lines => Vec::new(),
@@ -168,6 +205,7 @@ pub fn of(command: &Command, given: Given) -> Result<Request, String> {
         "tune" => tune(&given).map(Request::Tune),
         "notes" => notes(&given).map(Request::Notes),
         "report" => report(&given).map(Request::Report),
+        "picture" => picture(&given).map(Request::Picture),
         "mend" => mend(&given).map(Request::Mend),
         "check" => check(&given).map(Request::Check),
         "lines" => given.files([]).map(|[]| Request::Lines),
@@ -424,6 +462,59 @@ fn report(given: &Given) -> Result<Report, String> {
     })
 }
 
+fn picture(given: &Given) -> Result<Picture, String> {
+    let take = take(given)?;
+    let song = song(given)?;
+    let page = page(given)?;
+    let [from, to] = files(given, ["IN.wav", "OUT.svg"])?;
+    if to.extension().is_some_and(|ending| ending == "png") {
+        let name = shown(to.as_os_str());
+        return Err(format!(
+            "{name}: OUT is an SVG; give OUT.svg and --png, which writes OUT.png beside it"
+        ));
+    }
+    Ok(Picture {
+        take,
+        song,
+        from,
+        to,
+        page,
+        png: given.has("png"),
+        force: given.has("force"),
+    })
+}
+
+fn page(given: &Given) -> Result<Page, String> {
+    let from = time(given, "from")?.unwrap_or(0.0);
+    let to = time(given, "to")?;
+    if to.is_some_and(|to| to <= from) {
+        return Err("--to is not behind --from".to_string());
+    }
+    let width = given.number("width", Page::default().width)?;
+    if !WIDTHS.contains(&width) {
+        let (least, most) = (WIDTHS.start(), WIDTHS.end());
+        return Err(format!("--width is {least} to {most} pixels, not {width}"));
+    }
+    Ok(Page { from, to, width })
+}
+
+/// A time in seconds, or with minutes before a colon.
+fn time(given: &Given, name: &str) -> Result<Option<f64>, String> {
+    let Some(text) = given.value(name) else {
+        return Ok(None);
+    };
+    let (minutes, seconds) = match text.split_once(':') {
+        Some((minutes, seconds)) => (whole(minutes), seconds),
+        None => (Some(0), text),
+    };
+    let plain = |byte: u8| byte.is_ascii_digit() || byte == b'.';
+    let seconds: Option<f64> = seconds.parse().ok().filter(|_| seconds.bytes().all(plain));
+    let time = minutes.zip(seconds);
+    let wrong = || format!("--{name} is a time like 12.5 or 1:05, not '{text}'");
+    let time = time.map(|(minutes, seconds)| 60.0 * f64::from(minutes) + seconds);
+    time.map(Some).ok_or_else(wrong)
+}
+
 fn mend(given: &Given) -> Result<Mend, String> {
     let [file] = files(given, ["FILE.wav"])?;
     let dry = given.has("dry-run");
@@ -655,9 +746,47 @@ mod tests {
     }
 
     #[test]
+    fn a_page_of_a_picture() {
+        let page = |words: &[&str]| match request(&[&["picture", "a", "b"], words].concat()) {
+            Ok(Request::Picture(picture)) => Ok(picture.page),
+            other => other.map(|request| panic!("{request:?}")),
+        };
+        assert_eq!(page(&[]), Ok(Page::default()));
+        let right = Page {
+            from: 65.5,
+            to: Some(90.0),
+            width: 700,
+        };
+        let words = ["--from", "1:05.5", "--to", "90", "--width", "700"];
+        assert_eq!(page(&words), Ok(right));
+        for (words, why) in [
+            (
+                ["--from", "x"],
+                "--from is a time like 12.5 or 1:05, not 'x'",
+            ),
+            (["--to", "-1"], "--to is a time like 12.5 or 1:05, not '-1'"),
+            (
+                ["--from", "1:2:3"],
+                "--from is a time like 12.5 or 1:05, not '1:2:3'",
+            ),
+            (["--to", "0"], "--to is not behind --from"),
+            (["--width", "699"], "--width is 700 to 6000 pixels, not 699"),
+            (
+                ["--width", "6001"],
+                "--width is 700 to 6000 pixels, not 6001",
+            ),
+        ] {
+            assert_eq!(page(&words), Err(why.to_string()));
+        }
+        let why = "b.png: OUT is an SVG; give OUT.svg and --png, which writes OUT.png beside it";
+        assert_eq!(wrong(&["picture", "a", "b.png"]), why);
+    }
+
+    #[test]
     fn files_that_have_to_be_there() {
         for (words, files) in [
             (&["tune", "a", "b"][..], &["a"][..]),
+            (&["picture", "a", "b", "--midi", "m"], &["m", "a"]),
             (&["tune", "-", "b"], &[]),
             (&["tune", "a", "b", "--midi", "m"], &["m", "a"]),
             (&["check", "a", "b"], &["a", "b"]),

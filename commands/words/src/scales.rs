@@ -20,7 +20,8 @@ const SCALES: &[(&[&str], &[u32])] = &[
     (&["whole-tone"], &[0, 2, 4, 6, 8, 10]),
 ];
 
-const NAMES: [&str; 12] = [
+/// The twelve notes. Sharps, no flats.
+pub const NAMES: [&str; 12] = [
     "C", "C#", "D", "D#", "E", "F", "F#", "G", "G#", "A", "A#", "B",
 ];
 
@@ -88,6 +89,40 @@ fn note(name: &str) -> Option<u32> {
 pub fn name(note: u32) -> String {
     let octave = i64::from(note / 12) - 1;
     format!("{}{octave}", NAMES[(note % 12) as usize])
+}
+
+/// A set of notes that is a scale above some tonic.
+#[derive(Debug, PartialEq)]
+pub struct Set {
+    pub mask: u32,
+    /// Where it has several names the first two, as C-major / A-minor.
+    pub name: String,
+    /// The first name's, C 0 to B 11.
+    pub tonic: u32,
+    /// The place of its kind in the list of scales: what is more common comes first.
+    pub kind: usize,
+}
+
+/// Every set of notes that is a scale, once.
+pub fn sets() -> Vec<Set> {
+    let mut sets: Vec<Set> = Vec::new();
+    for (kind, (names, _)) in SCALES.iter().enumerate() {
+        for (tonic, note) in (0..).zip(NAMES) {
+            let mask = steps_above(tonic, names[0]).unwrap_or_default();
+            let name = format!("{note}-{}", names[0]);
+            match sets.iter_mut().find(|set| set.mask == mask) {
+                Some(set) if !set.name.contains('/') => set.name += &format!(" / {name}"),
+                Some(_) => {}
+                None => sets.push(Set {
+                    mask,
+                    name,
+                    tonic,
+                    kind,
+                }),
+            }
+        }
+    }
+    sets
 }
 
 /// What `--scale list` prints: each scale above C, its notes and its mask.
@@ -225,6 +260,28 @@ mod tests {
             assert_eq!(mask(&format!("{name}-minor")), minor);
             assert_eq!(mask(&format!("{name}m")), minor);
             assert_eq!(mask(name), Some(1 << at));
+        }
+    }
+
+    /// A name of a set is one of its notes; the modes of a major scale are one set, and no set is there twice.
+    #[test]
+    fn sets_of_notes() {
+        let sets = sets();
+        let name = "C-major / A-minor".to_string();
+        let first = Set {
+            mask: 2741,
+            name,
+            tonic: 0,
+            kind: 0,
+        };
+        assert_eq!(sets[0], first);
+        let sevens = sets.iter().filter(|set| set.mask.count_ones() == 7);
+        assert_eq!(sevens.count(), 36);
+        for (at, set) in sets.iter().enumerate() {
+            assert!(sets[..at].iter().all(|other| other.mask != set.mask));
+            for name in set.name.split(" / ") {
+                assert_eq!(mask(name), Some(set.mask), "{name}");
+            }
         }
     }
 

@@ -230,6 +230,25 @@ const NOTES: &[Opt] = &[
     ),
 ];
 
+const PICTURE: &[Opt] = &[
+    flag('f', "force", "write over OUT.svg and OUT.png if they exist"),
+    valued(
+        "from",
+        "TIME",
+        "draw from TIME on, in seconds or as 1:05 (0)",
+    ),
+    valued("to", "TIME", "draw up to TIME (the take's end)"),
+    valued(
+        "width",
+        "PIXELS",
+        "the width of the page, 700 to 6000 (1280)",
+    ),
+    switch(
+        "png",
+        "also write OUT.png beside OUT.svg, by rsvg-convert or ImageMagick, whichever is installed",
+    ),
+];
+
 const MEND: &[Opt] = &[flag(
     'n',
     "dry-run",
@@ -330,6 +349,35 @@ pub const COMMANDS: &[Command] = &[
                 "a file cannot be read, a MIDI file is refused, or the report cannot be written",
             ),
             UNBUILT,
+        ],
+        offer: Offer::Waves,
+    },
+    Command {
+        name: "picture",
+        short: "draw what was sung, what was wanted and what was given",
+        forms: &["[OPTION..] IN.wav OUT.svg"],
+        options: &[TAKE, VOICE, MIDI, PICTURE, COMMON],
+        about: &[
+            "Tunes the take in IN.wav as daxfolin tune would, and draws it as a page, OUT.svg: in rows of some 15 seconds the sung pitch, the wanted notes and the pitch given out; below them the cents from the wanted note, the level, and the cycles repeated and dropped. At the head are the settings, figures of the take, and whether the scale fits what was sung.",
+            A_TAKE,
+        ],
+        more: &[
+            "The pitch is what the meter shows after each 256 samples. Notes are the rows of daxfolin notes, samples with a pitch and cycles are those of daxfolin report, and the latency is that of daxfolin tune. A pointer on a note shows its name, place, length and cents.",
+            "A note that was sung counts for the nearest of all twelve. Where more than a fifth was sung outside of the scale, a banner says so and names scales that hold at least 95 %.",
+            "With --from and --to the page has a part of the take. The figures at its head are those of the whole take.",
+            A_LINE,
+            "A page is one file, however long the take is, and the same bytes on every run. It appears when it is whole, and not before. rsvg-convert makes no PNG higher than 32,767 pixels, which a take of over a quarter of an hour may reach: give --from and --to then.",
+        ],
+        statuses: &[
+            (0, "the picture is written"),
+            WRONG,
+            REFUSED,
+            (
+                3,
+                "a file cannot be read or written, a MIDI file is refused, or a PNG cannot be made",
+            ),
+            UNBUILT,
+            (5, "OUT.svg or OUT.png exists; -f writes over it"),
         ],
         offer: Offer::Waves,
     },
