@@ -8,6 +8,7 @@ pub mod delivery;
 pub mod lines;
 pub mod mend;
 pub mod midi;
+pub mod night;
 pub mod notes;
 pub mod octave;
 pub mod place;
@@ -41,6 +42,7 @@ pub fn run(given: Vec<OsString>) -> ExitCode {
         Ok(Some(Request::Report(request))) => (report::PROGRAM.to_string(), report::run(&request)),
         Ok(Some(Request::Mend(request))) => (mend::PROGRAM.to_string(), mend::run(&request)),
         Ok(Some(Request::Check(request))) => (check::PROGRAM.to_string(), check::run(&request)),
+        Ok(Some(Request::Night(request))) => (night::PROGRAM.to_string(), night::run(&request)),
         Ok(Some(Request::Lines)) => ("daxfolin lines".to_string(), Err(lines_are_apart())),
     };
     finish(&program, ended)
