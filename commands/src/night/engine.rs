@@ -83,6 +83,14 @@ pub struct Engine<'a> {
     log: Option<File>,
 }
 
+/// What the words of a job are, as a shell takes them: its takes, folders and MIDI file.
+struct Places {
+    takes: &'static str,
+    from: Vec<u8>,
+    to: Vec<u8>,
+    song: Vec<u8>,
+}
+
 /// What comes from the engine: a line of a job, or what it says itself.
 enum Heard {
     Line(String),
@@ -171,30 +179,36 @@ impl<'a> Engine<'a> {
     }
 
     /// A job as a command line, of which parallel replaces the takes.
-    fn command_line(
-        &self,
-        takes: &str,
-        [from, to]: [&Path; 2],
-        words: &[&str],
-    ) -> Result<Vec<u8>, End> {
+    fn command_line(&self, places: &Places, words: &[&str]) -> Result<Vec<u8>, End> {
         let mut text = b"exec ".to_vec();
-        let mut add = |word: &OsStr| {
-            text.extend(quoted(word));
+        let mut add = |word: &[u8]| {
+            text.extend(word);
             text.push(b' ');
         };
-        add(self.program()?.as_os_str());
-        add(OsStr::new("night"));
-        let words = words.iter().map(|word| word.to_string());
-        let song = song_words(self.request).into_iter();
-        for word in self.request.words.iter().cloned().chain(song).chain(words) {
-            add(OsStr::new(&word));
+        add(&quoted(self.program()?.as_os_str()));
+        add(b"night");
+        let given = self.request.words.iter().cloned();
+        for word in given.chain(song_words(self.request)) {
+            add(&quoted(OsStr::new(&word)));
         }
-        text.extend(format!("--takes={takes} -- ").bytes());
-        for folder in [from, to] {
-            text.extend(quoted(folder.as_os_str()));
-            text.push(b' ');
+        words.iter().for_each(|word| add(word.as_bytes()));
+        if self.request.song.is_some() {
+            add(&[b"--midi=", &places.song[..]].concat());
         }
+        add(format!("--takes={} --", places.takes).as_bytes());
+        add(&places.from);
+        add(&places.to);
         Ok(text)
+    }
+
+    /// On this machine, and on those that have the same folders.
+    fn places(&self) -> Places {
+        Places {
+            takes: "{}",
+            from: quoted(self.room.from.as_os_str()),
+            to: quoted(self.room.to.as_os_str()),
+            song: quoted(self.room.kept("song.mid").as_os_str()),
+        }
     }
 
     /// parallel over a list, but for the command line, which comes last.
@@ -220,9 +234,8 @@ impl<'a> Engine<'a> {
         let mend: &[&str] = if self.request.mend { &["--mend"] } else { &[] };
         let (command, transfer) = match self.request.transfer {
             false => {
-                let folders = [self.room.from.as_path(), self.room.to.as_path()];
                 let mut command = self.started(&self.room.kept("list"));
-                let line = self.command_line("{}", folders, mend)?;
+                let line = self.command_line(&self.places(), mend)?;
                 command.arg(OsStr::from_bytes(&line));
                 (command, None)
             }
@@ -254,29 +267,18 @@ impl<'a> Engine<'a> {
 
     /// Each take is sent to a folder of its own on its machine, and what was made of it is fetched from there.
     fn transferring(&self, jobs: &[Job], mend: &[&str]) -> Result<(Command, Transfer), End> {
-        let transfer = Transfer::of(self.room, jobs, self.request.song.as_ref())?;
+        let transfer = Transfer::of(self.room, jobs, self.request.song.is_some())?;
         // on this machine nothing is sent: the folders are where they are
         let mut line = b"[ -d .night/send/{1} ] || cd ".to_vec();
         line.extend(quoted(self.room.to.as_os_str()));
         line.extend(b"; ");
-        let folders = [Path::new(".night/send"), Path::new(".night/back")];
-        let text = self.command_line("{2}", folders, mend)?;
-        let mut text = String::from_utf8_lossy(&text).into_owned();
-        for folder in ["send", "back"] {
-            text = text.replace(
-                &format!("'.night/{folder}'"),
-                &format!(".night/{folder}/{{1}}"),
-            );
-        }
-        if let Some(song) = &self.request.song {
-            let here = String::from_utf8_lossy(&quoted(OsStr::new(&format!(
-                "--midi={}",
-                song.file.display()
-            ))))
-            .into_owned();
-            text = text.replace(&here, "--midi=.night/send/{1}/.song.mid");
-        }
-        line.extend(text.bytes());
+        let places = Places {
+            takes: "{2}",
+            from: b".night/send/{1}".to_vec(),
+            to: b".night/back/{1}".to_vec(),
+            song: b".night/send/{1}/.song.mid".to_vec(),
+        };
+        line.extend(self.command_line(&places, mend)?);
         let mut command = self.started(&self.room.kept("sent"));
         command.args(["--colsep", "\t"]);
         if self.machines.iter().any(|machine| machine != ":") {
@@ -344,12 +346,11 @@ impl<'a> Engine<'a> {
         let list = self.room.kept("checking");
         let lines: String = jobs.iter().map(|job| job.line() + "\n").collect();
         super::room::write(&list, &lines)?;
-        let folders = [self.room.from.as_path(), self.room.to.as_path()];
         if self.request.transfer {
             self.machines.clear();
         }
         let mut command = self.started(&list);
-        let line = self.command_line("{}", folders, &["--check"])?;
+        let line = self.command_line(&self.places(), &["--check"])?;
         command.arg(OsStr::from_bytes(&line));
         let mut progress = Progress::of(jobs, 0);
         progress.what = "checking";

@@ -74,13 +74,12 @@ fn child(program: &Path) -> Command {
     command
 }
 
-/// The words of the line that is played.
+/// The words of the line that is played, but for its file.
 fn song_words(request: &Night) -> Vec<String> {
     let Some(song) = &request.song else {
         return Vec::new();
     };
     let mut words = vec![
-        format!("--midi={}", song.file.display()),
         format!("--transpose={}", song.transpose),
         format!("--offset={}", song.offset),
         format!("--octave={}", song.octave),
@@ -105,21 +104,18 @@ fn night(request: &Night) -> Result<(), End> {
     let begun = Instant::now();
     let all = found(&room)?;
     if request.dry {
-        let waiting = waiting(&room, &all);
+        let waiting = waiting(request, &room, &all);
         let lines = waiting
             .iter()
             .map(|take| shown(take.name.as_os_str()) + "\n");
         return print(&lines.collect::<String>());
-    }
-    if !request.list {
-        engine::is_there()?;
     }
     let lock = room::lock(&room)?;
     if request.again {
         begin_anew(&room)?;
     }
     room::settle(&room, request, &version())?;
-    let waiting = waiting(&room, &all);
+    let waiting = waiting(request, &room, &all);
     let jobs = jobs(&waiting, request.transfer);
     takes::write(&room, &jobs)?;
     if request.list {
@@ -127,8 +123,11 @@ fn night(request: &Night) -> Result<(), End> {
     }
     let mut engine = Engine::new(request, &room, &lock);
     let mut whole = true;
-    if !jobs.is_empty() {
+    if !jobs.is_empty() || request.check {
+        engine::is_there()?;
         engine.machines()?;
+    }
+    if !jobs.is_empty() {
         let passed = all.takes.len() - waiting.len();
         whole = engine.tune(&jobs, passed)?;
     }
@@ -202,22 +201,15 @@ fn found(room: &Room) -> Result<Listed, End> {
 }
 
 /// The takes that are not done.
-fn waiting(room: &Room, all: &Listed) -> Vec<takes::Take> {
-    let version = version();
+fn waiting(request: &Night, room: &Room, all: &Listed) -> Vec<takes::Take> {
     let done = |take: &takes::Take| {
         let said = Record::read(&room.said(&take.name));
-        said.is_some_and(|said| {
-            let file = fs::metadata(room.from.join(&take.name));
-            said.version == version
-                && file.is_ok_and(|file| said.is_of(&file))
-                && said.is_made(&room.outs(&take.name))
-        })
+        let file = fs::metadata(room.from.join(&take.name));
+        said.zip(file.ok())
+            .is_some_and(|(said, file)| said.is_done(&file, &room.outs(&take.name), request.mend))
     };
-    all.takes
-        .iter()
-        .filter(|take| !done(take))
-        .cloned()
-        .collect()
+    let takes = all.takes.iter().filter(|take| !done(take));
+    takes.cloned().collect()
 }
 
 /// Removes what a night made, and then its settings: where that is broken off, the old settings still stand.

@@ -1,6 +1,6 @@
 //! What was said of a take: a line for each figure, `name value`.
 
-use super::room;
+use super::{room, version};
 use std::fs::{self, Metadata};
 use std::os::unix::fs::MetadataExt;
 use std::path::Path;
@@ -151,6 +151,12 @@ impl Record {
     /// Whether it is of the take as it is now.
     pub fn is_of(&self, take: &Metadata) -> bool {
         (self.length, &self.changed) == (take.len(), &changed(take))
+    }
+
+    /// Whether the take is done: by this version, as the take is now, and what was made is there. What was taken for empty may want mending.
+    pub fn is_done(&self, take: &Metadata, outs: &[impl AsRef<Path>], mend: bool) -> bool {
+        let unmended = mend && self.samples == 0 && self.mended.is_empty();
+        self.version == version() && self.is_of(take) && self.is_made(outs) && !unmended
     }
 
     /// Whether what was made is there: a header of 44 bytes, and two for each sample.

@@ -13,6 +13,10 @@ use words::request::{Night, Song, Speed};
 /// What is kept beside the files of a night.
 pub const KEPT: &str = ".night";
 
+/// Why a file is not written over.
+pub const NOT_ITS_OWN: &str =
+    "it exists, and this night did not make it: move it away, or delete it";
+
 pub struct Room {
     pub from: PathBuf,
     pub to: PathBuf,

@@ -3,14 +3,13 @@
 //! name: so no name is ever a word of a shell.
 
 use super::record::{changed, Record, State};
-use super::room::{made, outs, write, Room, KEPT};
+use super::room::{made, outs, write, Room, KEPT, NOT_ITS_OWN};
 use super::takes::Job;
 use std::fs::{self, File};
 use std::os::unix::fs::symlink;
 use std::path::{Path, PathBuf};
 use words::coded::coded;
-use words::end::{failed, no, shown, End};
-use words::request::Song;
+use words::end::{failed, shown, End};
 
 /// A take that is sent, as it was then.
 struct Sent {
@@ -28,7 +27,7 @@ pub struct Transfer {
 
 impl Transfer {
     /// Links to the takes, each in its folder, and the list of them: number and name. A take whose OUT the night did not make is not sent.
-    pub fn of(room: &Room, jobs: &[Job], song: Option<&Song>) -> Result<Transfer, End> {
+    pub fn of(room: &Room, jobs: &[Job], song: bool) -> Result<Transfer, End> {
         clear(room);
         let (mut sent, mut lines) = (Vec::new(), String::new());
         for take in jobs.iter().flat_map(|job| &job.takes) {
@@ -38,10 +37,7 @@ impl Transfer {
             };
             if !may_be_written(room, &take.name) {
                 let out = room.out(&take.name);
-                let why = "it exists, and this night did not make it: move it away, or delete it";
-                let End::File(why) = no(&out, why) else {
-                    continue;
-                };
+                let why = format!("{}: {NOT_ITS_OWN}", shown(out.as_os_str()));
                 refuse(room, &take.name, why)?;
                 continue;
             }
@@ -49,9 +45,9 @@ impl Transfer {
             let link = folder.join(&take.name);
             made(link.parent().unwrap_or(&folder))?;
             symlink(&from, &link).map_err(|error| failed(&link, &error))?;
-            if let Some(song) = song {
+            if song {
                 let link = folder.join(".song.mid");
-                symlink(&song.file, &link).map_err(|error| failed(&link, &error))?;
+                symlink(room.kept("song.mid"), &link).map_err(|error| failed(&link, &error))?;
             }
             lines += &format!("{}\t{}\n", sent.len(), coded(&take.name));
             sent.push(Sent {

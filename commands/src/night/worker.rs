@@ -2,20 +2,20 @@
 //! and counted by `daxfolin report`, which are started as they would be by hand.
 
 use super::record::{changed, Record, State};
-use super::room::{machine, made, Room};
+use super::room::{machine, made, outs, Room, NOT_ITS_OWN};
 use super::{child, own_program, version, PROGRAM};
 use crate::rows::rows;
 use crate::settings;
 use crate::source::Source;
 use daxfolin::wave::Take;
 use std::collections::HashMap;
-use std::fs;
+use std::fs::{self, File};
+use std::io::{self, BufRead, BufReader};
 use std::os::unix::process::ExitStatusExt;
 use std::path::{Path, PathBuf};
-use std::process::Stdio;
 use std::time::Instant;
 use words::coded::coded;
-use words::end::{failed, no, shown, End, EXISTS, FILE, REFUSED};
+use words::end::{failed, no, shown, End, FILE, REFUSED};
 use words::request::{Night, Take as Settings};
 use words::signals::{ended, note_all};
 use words::standard::print;
@@ -75,10 +75,11 @@ fn one(request: &Night, room: &Room, take: &Path) -> Result<Record, End> {
     let file = fs::metadata(&from).map_err(|error| failed(&from, &error))?;
     let (out, outs) = (room.out(take), room.outs(take));
     let was = Record::read(&room.said(take));
-    if let Some(was) = &was {
-        if was.version == version() && was.is_of(&file) && was.is_made(&outs) {
-            return Ok(was.clone());
-        }
+    if let Some(done) = was
+        .as_ref()
+        .filter(|was| was.is_done(&file, &outs, request.mend))
+    {
+        return Ok(done.clone());
     }
     let there = outs.iter().any(|out| fs::symlink_metadata(out).is_ok());
     let mut record = Record {
@@ -95,7 +96,7 @@ fn one(request: &Night, room: &Room, take: &Path) -> Result<Record, End> {
     record.write(&room.said(take))?;
     let begun = Instant::now();
     let mut tuned = match (there, record.own) {
-        (true, false) => passed_over(request, &from, &out)?,
+        (true, false) => passed_over(request, room, take)?,
         (true, true) => tune(request, &from, &out, &["-f"])?,
         (false, _) => tune(request, &from, &out, &[])?,
     };
@@ -160,13 +161,8 @@ impl Said {
     }
 }
 
-/// Runs a command of this program that prints columns, on standard output or, where that has the take, on standard error.
-fn run_command(
-    words: &[&str],
-    options: &[String],
-    files: &[&Path],
-    to_output: bool,
-) -> Result<Said, End> {
+/// Runs a command of this program that prints columns.
+fn run_command(words: &[&str], options: &[String], files: &[&Path]) -> Result<Said, End> {
     let program = own_program()?;
     let mut command = child(&program);
     command
@@ -175,23 +171,11 @@ fn run_command(
         .args(options)
         .arg("--")
         .args(files);
-    if to_output {
-        command.stdout(Stdio::null());
-    }
     let done = command.output().map_err(|error| failed(&program, &error))?;
     ended()?;
     let [printed, said] =
         [&done.stdout, &done.stderr].map(|text| String::from_utf8_lossy(text).into_owned());
-    let mut said = lines(&said);
-    let mut rows = lines(&printed);
-    if to_output {
-        rows = said
-            .iter()
-            .filter(|line| line.contains('\t'))
-            .cloned()
-            .collect();
-        said.retain(|line| !line.contains('\t'));
-    }
+    let (rows, said) = (lines(&printed), lines(&said));
     let prefix = format!("daxfolin {}: ", words[0]);
     let mut said: Vec<String> = said
         .iter()
@@ -231,36 +215,63 @@ fn columns(rows: &[String]) -> HashMap<String, String> {
 fn options(request: &Night, voices: bool) -> Vec<String> {
     let words = request.words.iter();
     let words = words.filter(|word| voices || !word.starts_with("--voice="));
-    words.cloned().chain(super::song_words(request)).collect()
+    let file = request
+        .song
+        .iter()
+        .map(|song| format!("--midi={}", song.file.display()));
+    let song = file.chain(super::song_words(request));
+    words.cloned().chain(song).collect()
 }
 
 fn tune(request: &Night, from: &Path, out: &Path, flags: &[&str]) -> Result<Said, End> {
     let words: Vec<&str> = ["tune"].iter().chain(flags).copied().collect();
-    run_command(&words, &options(request, true), &[from, out], false)
+    run_command(&words, &options(request, true), &[from, out])
 }
 
-/// A file that the night did not make is OUT if it could be: whole, of this take and not older. Then the take is tuned to nowhere, for its
-/// figures. Any other is never written over.
-fn passed_over(request: &Night, from: &Path, out: &Path) -> Result<Said, End> {
-    let tried = tune(request, from, out, &["-k", "-n"])?;
-    if tried.status == EXISTS {
-        let why = "it exists, and this night did not make it: move it away, or delete it";
-        return Err(no(out, why));
+/// A file that the night did not make is OUT if it is what the night would make, byte for byte. Any other is never written over.
+fn passed_over(request: &Night, room: &Room, take: &Path) -> Result<Said, End> {
+    let scratch = room.kept("tried");
+    let tried = outs(&scratch, take, room.voices);
+    made(tried[0].parent().unwrap_or(&scratch))?;
+    let mut said = tune(request, &room.from.join(take), &tried[0], &["-f"])?;
+    let are = room.outs(take);
+    let mut pairs = tried.iter().zip(&are);
+    let equal = said.status == 0 && pairs.all(|(one, other)| equal(one, other).unwrap_or(false));
+    tried.iter().for_each(|file| {
+        let _ = fs::remove_file(file);
+    });
+    match (said.status, equal) {
+        (0, false) => return Err(no(&are[0], NOT_ITS_OWN)),
+        (0, true) => {
+            let out = shown(are[0].as_os_str());
+            said.said
+                .push(format!("{out}: it was there already, and is as it was"));
+        }
+        _ => {}
     }
-    if tried.status != 0 {
-        return Ok(tried);
-    }
-    let options = options(request, false);
-    let mut said = run_command(&["tune"], &options, &[from, Path::new("-")], true)?;
-    let out = shown(out.as_os_str());
-    said.said
-        .push(format!("{out}: it was there already, and is as it was"));
     Ok(said)
+}
+
+fn equal(one: &Path, other: &Path) -> io::Result<bool> {
+    let open = |name| File::open(name).map(BufReader::new);
+    let (mut one, mut other) = (open(one)?, open(other)?);
+    loop {
+        let (here, there) = (one.fill_buf()?, other.fill_buf()?);
+        let count = here.len().min(there.len());
+        if here[..count] != there[..count] || here.is_empty() != there.is_empty() {
+            return Ok(false);
+        }
+        if count == 0 {
+            return Ok(true);
+        }
+        one.consume(count);
+        other.consume(count);
+    }
 }
 
 /// The figures of a report. Those of one take are a proved call's; a night only adds them up.
 fn figures(request: &Night, read: &Path, record: &mut Record) -> Result<(), End> {
-    let counted = run_command(&["report"], &options(request, false), &[read], false)?;
+    let counted = run_command(&["report"], &options(request, false), &[read])?;
     if counted.status != 0 {
         return Err(End::File(counted.said.join("; ")));
     }

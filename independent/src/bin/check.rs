@@ -4,7 +4,8 @@
 use independent::check::{Difference, Player};
 use independent::settings::Settings;
 use independent::wave::take;
-use independent::words::{words, wrong};
+use independent::words::{names, wrong};
+use std::ffi::{OsStr, OsString};
 use std::fs::{self, File};
 use std::io::{self, BufReader, IsTerminal, Read, Seek, SeekFrom};
 use std::path::{Path, PathBuf};
@@ -21,7 +22,7 @@ const UNREAD: i32 = 3;
 const DIFFERS: i32 = 6;
 
 fn main() {
-    let words = words(USAGE);
+    let words = names(USAGE);
     let [from, out, options @ ..] = &words[..] else {
         wrong(USAGE)
     };
@@ -31,7 +32,7 @@ fn main() {
     let mut player = Player::start(hertz, settings, &intervals)
         .unwrap_or_else(|number| refused("the settings", number));
     let names: Vec<PathBuf> = (0..=intervals.len())
-        .map(|voice| named(out, voice))
+        .map(|voice| named(Path::new(out), voice))
         .collect();
     let mut files: Vec<Wave> = names.iter().map(|name| Wave::open(name)).collect();
     for file in &files {
@@ -66,9 +67,9 @@ fn main() {
 
 /// The settings and the intervals of voices that words say, the default where
 /// one says nothing.
-fn settings(words: &[String]) -> (Settings, Vec<i32>) {
+fn settings(words: &[OsString]) -> (Settings, Vec<i32>) {
     let (mut settings, mut intervals) = (Settings::DEFAULT, Vec::new());
-    for word in words {
+    for word in words.iter().map(|word| word.to_string_lossy()) {
         let (name, value) = word.split_once('=').unwrap_or_else(|| wrong(USAGE));
         let number: i64 = value.parse().unwrap_or_else(|_| wrong(USAGE));
         let whole = || u32::try_from(number).unwrap_or(u32::MAX);
@@ -85,17 +86,18 @@ fn settings(words: &[String]) -> (Settings, Vec<i32>) {
 }
 
 /// OUT.wav, and its voices OUT-1.wav, OUT-2.wav and OUT-3.wav.
-fn named(out: &str, voice: usize) -> PathBuf {
-    let path = Path::new(out);
+fn named(out: &Path, voice: usize) -> PathBuf {
     if voice == 0 {
-        return path.to_path_buf();
+        return out.to_path_buf();
     }
-    let stem = path.file_stem().unwrap_or_default().to_string_lossy();
-    let name = match path.extension() {
-        Some(ending) => format!("{stem}-{voice}.{}", ending.to_string_lossy()),
-        None => format!("{stem}-{voice}"),
-    };
-    path.with_file_name(name)
+    let stem = out.file_stem().unwrap_or(OsStr::new(""));
+    let mut name = stem.to_os_string();
+    name.push(format!("-{voice}"));
+    if let Some(ending) = out.extension() {
+        name.push(".");
+        name.push(ending);
+    }
+    out.with_file_name(name)
 }
 
 fn line(name: &Path, found: Difference, hertz: u32) -> String {
