@@ -322,18 +322,23 @@ impl<'a> Engine<'a> {
                 let sound = seconds(record.samples, record.hertz.max(1) as u32);
                 format!("{name}: {sound} s of sound, {}", speed(record))
             }
-            // the file is named in what was said of it
-            _ => format!("{state}: {}", record.said.join("; ")),
+            _ => name,
         };
         let (machine, version) = (&record.machine, &record.version);
+        let said = record.words_of_it();
         let line = format!(
-            "{}\t{state}\t{name}\t{what}\t{machine}\t{version}\n",
+            "{}\t{state}\t{what}\t{machine}\t{version}\t{said}\n",
             date()
         );
         self.note(&line);
         if !self.request.quiet && !at_a_terminal() {
             let (done, all) = (progress.done(), progress.all);
-            say(PROGRAM, &format!("{done} of {all}: {what}"));
+            let line = match record.state {
+                State::Done => what,
+                // the file is named in what was said of it
+                _ => format!("{state}: {said}"),
+            };
+            say(PROGRAM, &format!("{done} of {all}: {line}"));
         }
     }
 
@@ -396,6 +401,7 @@ impl<'a> Engine<'a> {
                 Ok(Heard::Line(line)) => hear(self, Some(line)),
                 // a machine that is gone is named once, and not for each of its jobs
                 Ok(Heard::Words(words)) => {
+                    let words = words.replacen(&format!("{PROGRAM}: "), "", 1);
                     if said.insert(words.clone()) && asked.is_none() {
                         self.say(&words);
                     }
@@ -479,6 +485,9 @@ fn pass_on(from: impl Read, to: &Sender<Heard>, heard: fn(String) -> Heard) {
 
 // ---- progress
 
+/// The bytes of a second of sound, about: of a take at 44,100.
+const SECOND: u64 = 88_200;
+
 /// How far a night is, on a terminal.
 struct Progress {
     what: &'static str,
@@ -493,7 +502,7 @@ impl Progress {
     fn of(jobs: &[Job], passed: usize) -> Progress {
         let takes = jobs.iter().flat_map(|job| &job.takes);
         let takes: HashMap<_, _> = takes
-            .map(|take| (coded(&take.name), (take.seconds(), State::Begun)))
+            .map(|take| (coded(&take.name), (take.length, State::Begun)))
             .collect();
         Progress {
             what: "night",
@@ -541,8 +550,8 @@ impl Progress {
             self.what,
             self.done(),
             self.all,
-            clock(sound),
-            clock(all)
+            clock(sound / SECOND),
+            clock(all / SECOND)
         )
     }
 
@@ -585,7 +594,7 @@ mod tests {
             length,
         };
         let jobs = [Job {
-            takes: vec![take("a", 88_200 * 300), take("b", 88_200 * 100)],
+            takes: vec![take("a", 300 * SECOND), take("b", 100 * SECOND)],
         }];
         let mut progress = Progress::of(&jobs, 3);
         let minute = Duration::from_secs(60);

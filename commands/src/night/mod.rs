@@ -132,8 +132,8 @@ fn night(request: &Night) -> Result<(), End> {
         whole = engine.tune(&jobs, passed)?;
     }
     let report = summary::Report::of(&room, &all, begun.elapsed());
-    room::write(&room.kept("report.txt"), &report.text())?;
-    room::write(&room.kept("report.tsv"), &report.tsv())?;
+    let stored = room::write(&room.kept("report.txt"), &report.text())
+        .and_then(|()| room::write(&room.kept("report.tsv"), &report.tsv()));
     if !request.quiet {
         let text = if request.tsv {
             report.tsv()
@@ -142,6 +142,8 @@ fn night(request: &Night) -> Result<(), End> {
         };
         print(&text)?;
     }
+    // it is printed all the same where the disk is full
+    stored?;
     let checked = match request.check {
         true => check(request, &room, &mut engine, &all)?,
         false => 0,

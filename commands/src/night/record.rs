@@ -63,6 +63,8 @@ pub struct Record {
     pub clipped: u64,
     /// What was mended in the copy that was tuned.
     pub mended: String,
+    /// What an earlier try said that failed.
+    pub before: String,
     /// Lines for people.
     pub said: Vec<String>,
 }
@@ -131,13 +133,24 @@ impl Record {
         ]
     }
 
-    fn words(&mut self) -> [(&'static str, &mut String); 4] {
+    fn words(&mut self) -> [(&'static str, &mut String); 5] {
         [
             ("version", &mut self.version),
             ("machine", &mut self.machine),
             ("changed", &mut self.changed),
             ("mended", &mut self.mended),
+            ("before", &mut self.before),
         ]
+    }
+
+    /// All that was said, in a line.
+    pub fn words_of_it(&self) -> String {
+        let before = match self.before.is_empty() {
+            true => Vec::new(),
+            false => vec![format!("before: {}", self.before)],
+        };
+        let said: Vec<String> = self.said.iter().cloned().chain(before).collect();
+        said.join("; ").replace('\t', " ")
     }
 
     pub fn read(name: &Path) -> Option<Record> {

@@ -198,11 +198,7 @@ fn row(name: &str, record: &Record) -> String {
         state => state.name(),
     };
     let begin = format!("{name}\t{state}\t{}", record.number);
-    let remarks = format!(
-        "{}\t{}",
-        look_at(record),
-        record.said.join("; ").replace('\t', " ")
-    );
+    let remarks = format!("{}\t{}", look_at(record), record.words_of_it());
     if record.state != State::Done {
         let empty = "\t".repeat(15);
         return format!(

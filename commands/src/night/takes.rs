@@ -21,13 +21,6 @@ pub struct Take {
     pub length: u64,
 }
 
-impl Take {
-    /// About so many seconds, if it is 16-bit mono at 44,100.
-    pub fn seconds(&self) -> u64 {
-        self.length / 88_200
-    }
-}
-
 /// The takes, the longest first, and what was passed over.
 pub struct Listed {
     pub takes: Vec<Take>,

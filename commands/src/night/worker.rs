@@ -83,7 +83,8 @@ fn one(request: &Night, room: &Room, take: &Path) -> Result<Record, End> {
     }
     let there = outs.iter().any(|out| fs::symlink_metadata(out).is_ok());
     let mut record = Record {
-        own: !there || was.is_some_and(|was| was.own),
+        own: !there || was.as_ref().is_some_and(|was| was.own),
+        before: was.map_or(String::new(), |was| before(&was)),
         version: version(),
         machine: machine(),
         length: file.len(),
@@ -124,6 +125,15 @@ fn one(request: &Night, room: &Room, take: &Path) -> Result<Record, End> {
     match fs::metadata(&from) {
         Ok(is) if record.is_of(&is) => Ok(record),
         _ => Err(no(&from, "it was changed while it was read; run it again")),
+    }
+}
+
+/// What is kept of a try that came to nothing.
+fn before(was: &Record) -> String {
+    match was.state {
+        State::Begun => "it was broken off".to_string(),
+        State::Failed => was.said.join("; "),
+        State::Done | State::Refused => String::new(),
     }
 }
 
