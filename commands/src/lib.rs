@@ -9,6 +9,7 @@ pub mod delivery;
 pub mod lines;
 pub mod mend;
 pub mod midi;
+pub mod night;
 pub mod notes;
 pub mod octave;
 pub mod picture;
@@ -48,6 +49,7 @@ pub fn run(given: Vec<OsString>) -> ExitCode {
         }
         Ok(Some(Request::Mend(request))) => (mend::PROGRAM.to_string(), mend::run(&request)),
         Ok(Some(Request::Check(request))) => (check::PROGRAM.to_string(), check::run(&request)),
+        Ok(Some(Request::Night(request))) => (night::PROGRAM.to_string(), night::run(&request)),
         Ok(Some(Request::Lines)) => (LINES.to_string(), apart::ANSWERS.run(LINES)),
     };
     finish(&program, ended)

@@ -391,6 +391,11 @@ fn lock(file: &File, how: c_int) -> bool {
     unsafe { flock(file.as_raw_fd(), how) == 0 }
 }
 
+/// Whether no other process has this file, which is then locked as long as it is open.
+pub fn lock_alone(file: &File) -> bool {
+    lock(file, ALONE | AT_ONCE)
+}
+
 /// Parts that no living process has are removed.
 fn remove_dead(folder: &Path) {
     let Ok(entries) = fs::read_dir(folder) else {
@@ -404,8 +409,7 @@ fn remove_dead(folder: &Path) {
         let Ok(file) = File::open(&path) else {
             continue;
         };
-        if lock(&file, ALONE | AT_ONCE) && file.metadata().is_ok_and(|of| is(&path, identity(&of)))
-        {
+        if lock_alone(&file) && file.metadata().is_ok_and(|of| is(&path, identity(&of))) {
             let _ = fs::remove_file(path);
         }
     }

@@ -342,6 +342,11 @@ impl Tuner {
     }
 }
 
+/// Whether a start takes these settings and voices.
+pub fn starts(hertz: u32, settings: Settings, intervals: &[i32]) -> Result<(), End> {
+    Tuner::start(hertz, settings, intervals).map(|_| ())
+}
+
 /// The output is read so many samples behind the read position.
 const READ_BEHIND: u64 = 4;
 /// The units of a position in a sample.

@@ -157,6 +157,7 @@ fn zsh_case(command: &Command) -> String {
     let options: String = command.options().map(zsh_option).collect();
     let files = match command.offer {
         Offer::Waves => " \\\n        '*:file:_files -g \"*.(#i)wav\"'",
+        Offer::Folders => " \\\n        '*:folder:_files -/'",
         _ => "",
     };
     format!(
@@ -238,6 +239,9 @@ fn fish_command(command: &Command) -> String {
     let mut text = String::new();
     if command.offer == Offer::Waves {
         text += &format!("{seen} -a '(__daxfolin_files wav)'\n");
+    }
+    if command.offer == Offer::Folders {
+        text += &format!("{seen} -a '(__fish_complete_directories)'\n");
     }
     for option in command.options() {
         let short = option.short.map(|short| format!(" -s {short}"));

@@ -6,6 +6,7 @@
 //! errors and missing files are answered before anything is proved
 //! (`src/look.rs`).
 
+pub mod coded;
 pub mod completion;
 pub mod end;
 pub mod help;

@@ -225,6 +225,15 @@ impl Given {
         given.map(|(_, value)| value.as_str()).collect()
     }
 
+    /// The options of these names as words, in their order.
+    pub fn words(&self, names: &[&str]) -> Vec<String> {
+        let given = self.options.iter();
+        let given = given.filter(|(option, _)| names.contains(&option.long));
+        given
+            .map(|(option, value)| format!("--{}={value}", option.long))
+            .collect()
+    }
+
     /// The value of an option as a whole number. One past the largest that a call takes is refused as that is.
     pub fn number(&self, name: &str, unless: u32) -> Result<u32, String> {
         let Some(text) = self.value(name) else {

@@ -1,12 +1,13 @@
 //! What a command is asked to do, once its words are right.
 
+use crate::coded;
 use crate::end::shown;
 use crate::parse::{whole, Given};
 use crate::scales;
 use crate::table::{Command, OCTAVES, OF_MIDI};
 use std::collections::HashMap;
 use std::ffi::{OsStr, OsString};
-use std::path::{Path, PathBuf};
+use std::path::{Component, Path, PathBuf};
 
 /// Standard input, or standard output.
 pub const DASH: &str = "-";
@@ -29,6 +30,7 @@ pub enum Request {
     Picture(Picture),
     Mend(Mend),
     Check(Check),
+    Night(Night),
     Lines,
 }
 
@@ -172,6 +174,32 @@ pub struct Check {
     pub tuned: PathBuf,
 }
 
+#[derive(Debug, PartialEq)]
+pub struct Night {
+    pub take: Take,
+    pub song: Option<Song>,
+    /// The settings as they were given, for a command that has them too.
+    pub words: Vec<String>,
+    pub from: PathBuf,
+    pub to: PathBuf,
+    /// Takes at a time; none: as many as processors.
+    pub jobs: Option<u32>,
+    /// None: this one.
+    pub machines: Vec<String>,
+    pub program: Option<PathBuf>,
+    pub transfer: bool,
+    pub retries: u32,
+    pub mend: bool,
+    pub again: bool,
+    pub check: bool,
+    pub list: bool,
+    /// A job: these takes alone.
+    pub takes: Option<Vec<PathBuf>>,
+    pub dry: bool,
+    pub quiet: bool,
+    pub tsv: bool,
+}
+
 impl Request {
     /// The files that have to be there.
     pub fn inputs(&self) -> Vec<&Path> {
@@ -179,7 +207,8 @@ impl Request {
             Request::Tune(Tune { song, .. })
             | Request::Report(Report { song, .. })
             | Request::Check(Check { song, .. })
-            | Request::Picture(Picture { song, .. }) => song,
+            | Request::Picture(Picture { song, .. })
+            | Request::Night(Night { song, .. }) => song,
             _ => &None,
         };
         let song = song.iter().map(|song| &song.file);
@@ -192,6 +221,7 @@ impl Request {
             Request::Picture(picture) => vec![&picture.from],
             Request::Mend(mend) => vec![&mend.file],
             Request::Check(check) => vec![&check.from, &check.tuned],
+            Request::Night(night) => vec![&night.from],
             Request::Lines => Vec::new(),
         };
         let inputs = song.chain(inputs);
@@ -208,6 +238,7 @@ pub fn of(command: &Command, given: Given) -> Result<Request, String> {
         "picture" => picture(&given).map(Request::Picture),
         "mend" => mend(&given).map(Request::Mend),
         "check" => check(&given).map(Request::Check),
+        "night" => night(&given).map(Request::Night),
         "lines" => given.files([]).map(|[]| Request::Lines),
         name => unreachable!("{name} is in the table"),
     }
@@ -533,6 +564,59 @@ fn check(given: &Given) -> Result<Check, String> {
     })
 }
 
+fn night(given: &Given) -> Result<Night, String> {
+    let take = take(given)?;
+    let song = song(given)?;
+    let [from, to] = files(given, ["IN_DIR", "OUT_DIR"])?;
+    if given.has("check") && song.is_some() {
+        return Err("--check tunes by scale: it has no --midi".to_string());
+    }
+    let machines = given.value("machines").map_or(Vec::new(), |text| {
+        text.split(',').map(str::to_string).collect()
+    });
+    if machines.iter().any(String::is_empty) {
+        return Err("--machines is names like mix1,mix2 or :,4/mix1, and one is empty".to_string());
+    }
+    for name in ["transfer", "program"] {
+        if given.has(name) && machines.is_empty() {
+            return Err(format!(
+                "--{name} is about machines: it needs -S MACHINE,.."
+            ));
+        }
+    }
+    let takes = given.value("takes").map(|text| {
+        coded::list(text)
+            .filter(|takes| takes.iter().all(|take| is_below(take)))
+            .ok_or_else(|| format!("--takes is a line of OUT_DIR/.night/list, not '{text}'"))
+    });
+    Ok(Night {
+        take,
+        song,
+        words: given.words(&["scale", "eps", "decay", "speed", "floor", "voice"]),
+        from,
+        to,
+        jobs: counted(given, "jobs", 100_000)?,
+        machines,
+        program: given.value("program").map(PathBuf::from),
+        transfer: given.has("transfer"),
+        retries: counted(given, "retries", 100)?.unwrap_or(3),
+        mend: given.has("mend"),
+        again: given.has("again"),
+        check: given.has("check"),
+        list: given.has("list"),
+        takes: takes.transpose()?,
+        dry: given.has("dry-run"),
+        quiet: given.has("quiet"),
+        tsv: given.has("tsv"),
+    })
+}
+
+/// A name that leads nowhere but down.
+fn is_below(name: &Path) -> bool {
+    let down = |part| matches!(part, Component::Normal(_));
+    !name.as_os_str().is_empty() && name.components().all(down)
+}
+
 #[cfg(test)]
 mod tests {
     use super::*;
@@ -783,6 +867,50 @@ mod tests {
     }
 
     #[test]
+    fn a_night() {
+        let night = |words: &[&str]| match request(&[&["night"], words].concat()) {
+            Ok(Request::Night(night)) => night,
+            other => panic!("{other:?}"),
+        };
+        let plain = night(&["in", "out"]);
+        assert_eq!((plain.retries, plain.jobs, plain.takes), (3, None, None));
+        let words = "--scale Am in -j 2 --voice +4 out -S :,4/a --voice -3 --takes b%20c,d/e";
+        let words: Vec<&str> = words.split(' ').collect();
+        let night = night(&words);
+        assert_eq!(night.words, ["--scale=Am", "--voice=+4", "--voice=-3"]);
+        assert_eq!(night.machines, [":", "4/a"]);
+        assert_eq!(night.jobs, Some(2));
+        let takes = ["b c", "d/e"].map(PathBuf::from).to_vec();
+        assert_eq!(night.takes, Some(takes));
+        for (words, why) in [
+            (&["in"][..], "OUT_DIR is missing"),
+            (&["in", "out", "-j", "0"], "--jobs is 1 to 100000, not '0'"),
+            (
+                &["in", "out", "--transfer"],
+                "--transfer is about machines: it needs -S MACHINE,..",
+            ),
+            (
+                &["in", "out", "-S", "a,,b"],
+                "--machines is names like mix1,mix2 or :,4/mix1, and one is empty",
+            ),
+            (
+                &["in", "out", "--check", "--midi", "m"],
+                "--check tunes by scale: it has no --midi",
+            ),
+            (
+                &["in", "out", "--takes", "../x"],
+                "--takes is a line of OUT_DIR/.night/list, not '../x'",
+            ),
+            (
+                &["in", "out", "--takes", "a b"],
+                "--takes is a line of OUT_DIR/.night/list, not 'a b'",
+            ),
+        ] {
+            assert_eq!(wrong(&[&["night"], words].concat()), why);
+        }
+    }
+
+    #[test]
     fn files_that_have_to_be_there() {
         for (words, files) in [
             (&["tune", "a", "b"][..], &["a"][..]),
@@ -796,6 +924,7 @@ mod tests {
             (&["report", "a"], &["a"]),
             (&["report", "a", "b"], &[]),
             (&["report", "a", "b", "--midi", "m"], &["m"]),
+            (&["night", "a", "b"], &["a"]),
         ] {
             let request = request(words).expect("right words");
             let files: Vec<&Path> = files.iter().map(Path::new).collect();

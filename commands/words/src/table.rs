@@ -255,6 +255,67 @@ const MEND: &[Opt] = &[flag(
     "print what would be changed, and write nothing",
 )];
 
+/// A night's own.
+const NIGHT: &[Opt] = &[
+    Opt {
+        short: Some('j'),
+        ..valued(
+            "jobs",
+            "N",
+            "takes at a time on each machine (as many as it has processors)",
+        )
+    },
+    Opt {
+        short: Some('S'),
+        ..valued(
+            "machines",
+            "MACHINE,..",
+            "tune on these machines, by ssh; : is this one, and 4/NAME has four takes at a time (:)",
+        )
+    },
+    valued(
+        "program",
+        "PATH",
+        "where daxfolin stands on the machines (where it stands here)",
+    ),
+    switch(
+        "transfer",
+        "send each take to its machine and fetch what was made of it: the machines have neither IN_DIR nor OUT_DIR",
+    ),
+    valued("retries", "N", "how often a take is tried that fails (3)"),
+    switch(
+        "mend",
+        "tune a mended copy of a take that a recorder left when it lost power; the take itself stays as it is",
+    ),
+    switch(
+        "again",
+        "begin anew: what this night made so far is removed, and every take is tuned",
+    ),
+    switch(
+        "check",
+        "when all is tuned, check every take as daxfolin check does",
+    ),
+    switch(
+        "list",
+        "write OUT_DIR/.night/list, a line for each job, and print how many there are: for another engine",
+    ),
+    valued(
+        "takes",
+        "LINE",
+        "tune the takes of one line of that list, here and now: a job of that engine",
+    ),
+    flag(
+        'n',
+        "dry-run",
+        "print the takes that would be tuned, the longest first, and write nothing",
+    ),
+    flag(
+        'q',
+        "quiet",
+        "print neither a line for each take nor the report",
+    ),
+];
+
 // ---- commands
 
 const WRONG: (u8, &str) = (1, "usage error");
@@ -427,6 +488,35 @@ pub const COMMANDS: &[Command] = &[
             (6, "not equal"),
         ],
         offer: Offer::Waves,
+    },
+    Command {
+        name: "night",
+        short: "tune a folder of takes, on one machine or several",
+        forms: &["[OPTION..] IN_DIR OUT_DIR"],
+        options: &[TAKE, VOICE, MIDI, NIGHT, TSV, COMMON],
+        about: &[
+            "Tunes every take below IN_DIR to the same name below OUT_DIR, several at a time, the longest first, and prints a report. It runs daxfolin tune by GNU parallel, which has to be installed.",
+            "A take is a file whose name ends in .wav. Names that begin with a dot, and folders that are links, are passed over.",
+        ],
+        more: &[
+            "A take is done when its OUT is there. So a night that was stopped in any way goes on where it was when it is started again, and a take that is new, or newer than its OUT, is tuned by the next run. OUT_DIR keeps its settings: other ones are refused, unless with --again. A file that the night did not make is never written over.",
+            "With voices the files of a take stand in a folder of its name: OUT_DIR/x.wav/x.wav, and beside it x-1.wav and so on. No two takes can meet there.",
+            "OUT_DIR/.night has report.txt and report.tsv over all takes, the log, the settings, said/ with what was said of each take, and mended/ with mended copies.",
+            "A refused take does not stop the others; the report names it with its number and what to do. Takes to look at first stand at the top: more than 20 % sung on notes outside of the scale, clipped input, nothing pitched.",
+            "Machines need ssh without a password, and daxfolin of this version: others are left out, and said. They have IN_DIR and OUT_DIR at the same places, or get their takes with --transfer, which needs rsync here and there. A machine that dies gives its takes to the others.",
+        ],
+        statuses: &[
+            (0, "every take is tuned"),
+            (1, "usage error, or OUT_DIR was begun with other settings"),
+            (2, "takes are refused, and all others are tuned"),
+            (
+                3,
+                "takes failed, another night is at work there, or GNU parallel is missing",
+            ),
+            UNBUILT,
+            (6, "--check found a difference"),
+        ],
+        offer: Offer::Folders,
     },
     Command {
         name: "lines",
