@@ -326,10 +326,13 @@ impl Meter {
     }
 }
 
-/// Where a tuner of words has how far its read position lies behind the input; in the upper half of a word how many voices are chosen; and
-/// the first of the voices, each a word with the interval in its lower half.
+/// Where a tuner of words has how far its read position lies behind the input; in the upper half of a word how many voices are chosen; in one
+/// the rows of the list and those left out, and in the lower half of the next the place of the last run's row; and the first of the
+/// voices, each a word with the interval in its lower half.
 const BEHIND: usize = 27;
 const CHOSEN: usize = 30;
+const ROWS: usize = 31;
+const PLACE: usize = 32;
 const VOICES: usize = 33;
 
 impl Tuner {
@@ -535,6 +538,21 @@ impl Tuner {
         voices
             .map(|&voice| (voice as i32).wrapping_sub(OCTAVE))
             .collect()
+    }
+
+    /// The rows of the list so far, and those left out, as the last block's answer has them; after a start and a reset none.
+    pub fn rows(&self) -> (u32, u32) {
+        (self.words[ROWS] as u32, (self.words[ROWS] >> 32) as u32)
+    }
+
+    /// For a host that moves whole rows out of its store, so that it is never full, and lays the last one, which may go on, in the first
+    /// place: the list goes on there, as one of a single row, which is a list like any other to the calls. Without a row nothing is done.
+    pub fn keep_last_row(&mut self) {
+        let (rows, left) = self.rows();
+        if rows > 0 {
+            self.words[ROWS] = u64::from(left) << 32 | 1;
+            self.words[PLACE] &= !u64::from(u32::MAX);
+        }
     }
 
     /// The number of the tuner's layout: where it is not [`LAYOUT`], a version with another layout left the tuner (or it is damaged), and
