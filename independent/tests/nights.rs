@@ -293,7 +293,7 @@ fn one_by_one(bytes: &[u8], call: &Call) -> Option<Left> {
 /// Over records of every sort a night leaves what the single calls leave, and the cases go through all that can happen to one.
 #[test]
 fn nights_over_records_are_the_single_calls() {
-    let met = met_by_nights(20_261_115, 45_000, |record| record.chosen == 0);
+    let met = met_by_nights(20_261_115, 25_000, |record| record.chosen == 0);
     assert_eq!(met.len(), 16, "{met:?}");
     assert!(met.values().all(|&times| times > 5), "{met:?}");
 }
@@ -301,7 +301,7 @@ fn nights_over_records_are_the_single_calls() {
 /// So does one over records with voices.
 #[test]
 fn nights_with_voices_are_the_single_calls() {
-    let met = met_by_nights(20_261_116, 45_000, |record| record.chosen > 0);
+    let met = met_by_nights(20_261_116, 25_000, |record| record.chosen > 0);
     assert_eq!(met.len(), 16, "{met:?}");
 }
 

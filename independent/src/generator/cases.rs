@@ -1,7 +1,7 @@
 //! Calls over records, good, damaged and of any bytes, with blocks, numbers,
 //! lengths and buffers of every sort; the records at the edges come first, and
-//! then one with every byte damaged in turn. Of the others one in five has
-//! voices, and two in five have a list.
+//! of those behind them each third is one with the next byte damaged, until all
+//! were. Of the others one in five has voices, and two in five have a list.
 
 use super::edges::{calls_over, choices, edges, fresh_of_version_2, BEGINNING_OF_OLD};
 use super::ensembles::{
@@ -24,8 +24,11 @@ use crate::tuner::TAKE_LIMIT;
 pub const MOST: usize = 1_024;
 
 pub struct Cases {
-    /// The calls over the records at the edges that are still to come.
+    /// The calls over the records at the edges that are still to come, and those over a record with every byte damaged in turn.
     first: Box<dyn Iterator<Item = (Vec<u8>, Call)>>,
+    turned: Box<dyn Iterator<Item = (Vec<u8>, Call)>>,
+    /// How many came behind the first.
+    behind: usize,
     random: Random,
     /// Records with voices and a list that calls from a start left. Their leads are those that the same calls without them leave.
     reached: Vec<Record>,
@@ -40,6 +43,8 @@ impl Cases {
         }
         Cases {
             first: Box::new(first()),
+            turned: Box::new(turned_bits()),
+            behind: 0,
             random,
             reached,
         }
@@ -49,6 +54,12 @@ impl Cases {
     pub fn case(&mut self) -> (Vec<u8>, Call) {
         if let Some(case) = self.first.next() {
             return case;
+        }
+        self.behind += 1;
+        if self.behind.is_multiple_of(3) {
+            if let Some(case) = self.turned.next() {
+                return case;
+            }
         }
         let random = &mut self.random;
         let mut some = || self.reached[random.whole(0, self.reached.len() - 1)].clone();
@@ -74,7 +85,7 @@ fn first() -> impl Iterator<Item = (Vec<u8>, Call)> {
     let of_version_2 = of_version_2.map(|call| (fresh_of_version_2().to_vec(), call));
     let at_the_edges = edges.chain(choices);
     let at_the_edges = at_the_edges.map(|(record, call)| (record.bytes(), call));
-    at_the_edges.chain(of_version_2).chain(turned_bits())
+    at_the_edges.chain(of_version_2)
 }
 
 /// The record with its voices, with a list alone, or with neither, and some of its numbers altered.
