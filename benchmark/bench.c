@@ -3,9 +3,8 @@
      bench run WHO SOUND BLOCK WARM COUNT   takes WARM samples of a sound in blocks of 512, then COUNT samples in blocks of BLOCK; prints a sum
                                             over all outputs, the cycles repeated and dropped, and the user time of the COUNT samples in
                                             microseconds. WHO: library, plain; night: the library, the WARM samples by one call and the
-                                            COUNT samples by another; list, listnight: the same with a list of the notes sung; choir0,
-                                            choir1, choir3, choirnight: the calls with voices, of which there are none, one or three, a
-                                            night with three
+                                            COUNT samples by another; list, listnight: the same with a list of the notes sung; voice1,
+                                            voice3, voicenight: with one voice or three, a night with three
      bench same WHO OTHER SOUND BLOCK WARM COUNT
                                             takes the same by one program and then by another, and holds the cycles and every sample of the
                                             outputs that both have to each other: the lead's, and those of voices
@@ -33,7 +32,7 @@ int getrusage(int, void *);
 enum { MINUTE = 60 * 44100, OUTPUTS = 1 + DAXFOLIN_MOST_VOICES, ALL = OUTPUTS * MINUTE };
 static int16_t in[MINUTE], out[ALL];
 
-static daxfolin_record tuner;
+static daxfolin_tuner tuner;
 static plain_tuner plain;
 static uint16_t number;
 static uint64_t repeated, dropped, failures, checked;
@@ -68,71 +67,68 @@ static void add_night(daxfolin_night_answer a, size_t samples)
     number += (uint16_t)a.taken;
 }
 
-static uint32_t library_start(uint32_t hertz) { return daxfolin_start(&tuner, hertz, at_once()); }
+/* A store as long as can be, and the intervals of the voices. */
+static uint32_t rows[3 * DAXFOLIN_MOST_ROWS];
+enum { ROWS = sizeof rows / sizeof rows[0] };
+static const int32_t intervals[DAXFOLIN_MOST_VOICES] = {4, -3, 7};
+
+static uint32_t begin(uint32_t hertz, uint32_t listed, size_t voices) { return daxfolin_start(&tuner, hertz, at_once(), listed, intervals, voices, rows, ROWS); }
+static uint32_t library_start(uint32_t hertz) { return begin(hertz, 0, 0); }
+static uint32_t list_start(uint32_t hertz) { return begin(hertz, 1, 0); }
+static uint32_t voice1_start(uint32_t hertz) { return begin(hertz, 0, 1); }
+static uint32_t voice3_start(uint32_t hertz) { return begin(hertz, 0, 3); }
+
+/* What is lent to voices, as the calls take it: nothing, or outputs a minute behind the lead's. */
+#define NO_VOICES 0, 0, 0, 0, 0, 0
+#define VOICES_AT(to, room) (to) + MINUTE, (room), (to) + 2 * MINUTE, (room), (to) + 3 * MINUTE, (room)
 
 static answer library_block(uint16_t number, const int16_t *samples, size_t n, int16_t *to, size_t room)
 {
-    return answer_of(daxfolin_block(&tuner, number, samples, n, to, room));
+    return answer_of(daxfolin_plain_block(&tuner, number, samples, n, to, room));
+}
+
+static answer list_block(uint16_t number, const int16_t *samples, size_t n, int16_t *to, size_t room)
+{
+    return answer_of(daxfolin_block(&tuner, number, samples, n, to, room, NO_VOICES, rows, ROWS));
+}
+
+static answer voice_block(uint16_t number, const int16_t *samples, size_t n, int16_t *to, size_t room)
+{
+    return answer_of(daxfolin_block(&tuner, number, samples, n, to, room, VOICES_AT(to, room), rows, 0));
 }
 
 static void library_night(size_t from, size_t to, size_t block)
 {
-    add_night(daxfolin_night(&tuner, number, block, in + from, to - from, out + from, to - from), to - from);
-}
-
-/* A night of one block. */
-static answer library_night_block(uint16_t number, const int16_t *samples, size_t n, int16_t *to, size_t room)
-{
-    return answer_of_night(daxfolin_night(&tuner, number, n, samples, n, to, room));
-}
-
-/* With a list of the notes sung, in a store as long as can be. */
-static daxfolin_listing listing;
-static uint32_t rows[3 * DAXFOLIN_MOST_ROWS];
-enum { ROWS = sizeof rows / sizeof rows[0] };
-
-static uint32_t list_start(uint32_t hertz) { return daxfolin_list_start(&tuner, &listing, hertz, at_once(), rows, ROWS).answer.number; }
-
-static answer list_block(uint16_t number, const int16_t *samples, size_t n, int16_t *to, size_t room)
-{
-    return answer_of(daxfolin_list_block(&tuner, &listing, number, samples, n, to, room, rows, ROWS).answer);
+    size_t n = to - from;
+    add_night(daxfolin_night(&tuner, number, block, in + from, n, out + from, n, NO_VOICES, rows, 0), n);
 }
 
 static void list_night(size_t from, size_t to, size_t block)
 {
-    add_night(daxfolin_list_night(&tuner, &listing, number, block, in + from, to - from, out + from, to - from, rows, ROWS).night, to - from);
+    size_t n = to - from;
+    add_night(daxfolin_night(&tuner, number, block, in + from, n, out + from, n, NO_VOICES, rows, ROWS), n);
+}
+
+static void voice_night(size_t from, size_t to, size_t block)
+{
+    size_t n = to - from;
+    add_night(daxfolin_night(&tuner, number, block, in + from, n, out + from, n, VOICES_AT(out + from, n), rows, 0), n);
+}
+
+/* Nights of one block. */
+static answer library_night_block(uint16_t number, const int16_t *samples, size_t n, int16_t *to, size_t room)
+{
+    return answer_of_night(daxfolin_night(&tuner, number, n, samples, n, to, room, NO_VOICES, rows, 0));
 }
 
 static answer list_night_block(uint16_t number, const int16_t *samples, size_t n, int16_t *to, size_t room)
 {
-    return answer_of_night(daxfolin_list_night(&tuner, &listing, number, n, samples, n, to, room, rows, ROWS).night);
+    return answer_of_night(daxfolin_night(&tuner, number, n, samples, n, to, room, NO_VOICES, rows, ROWS));
 }
 
-/* With voices, and without a store. */
-static daxfolin_choir choir;
-static const int32_t intervals[DAXFOLIN_MOST_VOICES] = {4, -3, 7};
-
-static uint32_t choir_start(uint32_t hertz, size_t voices) { return daxfolin_choir_start(&choir, hertz, at_once(), intervals, voices, rows, 0).answer.number; }
-static uint32_t choir0_start(uint32_t hertz) { return choir_start(hertz, 0); }
-static uint32_t choir1_start(uint32_t hertz) { return choir_start(hertz, 1); }
-static uint32_t choir3_start(uint32_t hertz) { return choir_start(hertz, 3); }
-
-/* The lead's output and the voices', as the calls take them. */
-#define OUTPUTS_AT(to, room) (to), (room), (to) + MINUTE, (room), (to) + 2 * MINUTE, (room), (to) + 3 * MINUTE, (room)
-
-static answer choir_block(uint16_t number, const int16_t *samples, size_t n, int16_t *to, size_t room)
+static answer voice_night_block(uint16_t number, const int16_t *samples, size_t n, int16_t *to, size_t room)
 {
-    return answer_of(daxfolin_choir_block(&choir, number, samples, n, OUTPUTS_AT(to, room), rows, 0).answer);
-}
-
-static void choir_night(size_t from, size_t to, size_t block)
-{
-    add_night(daxfolin_choir_night(&choir, number, block, in + from, to - from, OUTPUTS_AT(out + from, to - from), rows, 0).night, to - from);
-}
-
-static answer choir_night_block(uint16_t number, const int16_t *samples, size_t n, int16_t *to, size_t room)
-{
-    return answer_of_night(daxfolin_choir_night(&choir, number, n, samples, n, OUTPUTS_AT(to, room), rows, 0).night);
+    return answer_of_night(daxfolin_night(&tuner, number, n, samples, n, to, room, VOICES_AT(to, room), rows, 0));
 }
 
 static uint32_t plain_begin(uint32_t hertz) { return plain_start(&plain, hertz); }
@@ -143,15 +139,14 @@ static answer plain_take(uint16_t number, const int16_t *samples, size_t n, int1
 }
 
 static const program programs[] = {
-    {"library", sizeof(daxfolin_record), 0, library_start, library_block, 0},
+    {"library", sizeof(daxfolin_tuner), 0, library_start, library_block, 0},
     {"plain", sizeof(plain_tuner), 0, plain_begin, plain_take, 0},
-    {"night", sizeof(daxfolin_record), 0, library_start, library_night_block, library_night},
-    {"list", sizeof(daxfolin_record) + sizeof(daxfolin_listing), 0, list_start, list_block, 0},
-    {"listnight", sizeof(daxfolin_record) + sizeof(daxfolin_listing), 0, list_start, list_night_block, list_night},
-    {"choir0", sizeof(daxfolin_choir), 0, choir0_start, choir_block, 0},
-    {"choir1", sizeof(daxfolin_choir), 1, choir1_start, choir_block, 0},
-    {"choir3", sizeof(daxfolin_choir), 3, choir3_start, choir_block, 0},
-    {"choirnight", sizeof(daxfolin_choir), 3, choir3_start, choir_night_block, choir_night},
+    {"night", sizeof(daxfolin_tuner), 0, library_start, library_night_block, library_night},
+    {"list", sizeof(daxfolin_tuner), 0, list_start, list_block, 0},
+    {"listnight", sizeof(daxfolin_tuner), 0, list_start, list_night_block, list_night},
+    {"voice1", sizeof(daxfolin_tuner), 1, voice1_start, voice_block, 0},
+    {"voice3", sizeof(daxfolin_tuner), 3, voice3_start, voice_block, 0},
+    {"voicenight", sizeof(daxfolin_tuner), 3, voice3_start, voice_night_block, voice_night},
 };
 enum { PROGRAMS = sizeof programs / sizeof programs[0] };
 
@@ -318,9 +313,10 @@ static int sung(char which)
     sound(which, in, MINUTE);
     take_all(named("listnight"), 512, 0, MINUTE);
     uint64_t samples = 0;
-    for (uint32_t row = 0; row < listing.rows; row++) samples += rows[3 * row + 2];
+    const daxfolin_listing *list = &tuner.numbers.list;
+    for (uint32_t row = 0; row < list->rows; row++) samples += rows[3 * row + 2];
     printf("%lu\n", samples);
-    return failures != 0 || listing.left != 0;
+    return failures != 0 || list->left != 0;
 }
 
 static size_t whole(const char *word) { return (size_t)strtol(word, 0, 10); }

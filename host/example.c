@@ -105,11 +105,11 @@ static int write_all(const char *file, const int16_t *samples, size_t count) {
 int main(int argc, char **argv) {
     if (argc == 2 && !strcmp(argv[1], "--help")) return fputs(usage, stdout) < 0 || fflush(stdout) ? 1 : 0;
     if (argc < 3 || argc > 4) return wrong();
-    if (daxfolin_version() != DAXFOLIN_VERSION) return fail("libhost.a", "another version than daxfolin.h");
+    if (daxfolin_version() != DAXFOLIN_VERSION) return fail("the archive", "another version than daxfolin.h");
 
-    static daxfolin_record tuner;
+    static daxfolin_tuner tuner;
     daxfolin_settings settings = DAXFOLIN_DEFAULTS;
-    uint32_t started = daxfolin_start(&tuner, argc == 4 ? rate_of(argv[3]) : DAXFOLIN_CD, settings);
+    uint32_t started = daxfolin_start(&tuner, argc == 4 ? rate_of(argv[3]) : DAXFOLIN_CD, settings, 0, NULL, 0, NULL, 0);
     if (started == DAXFOLIN_RATE_UNKNOWN) return wrong();
     if (started != DAXFOLIN_TAKEN) return fail(argv[1], daxfolin_words(started));
 
@@ -121,7 +121,7 @@ int main(int argc, char **argv) {
     daxfolin_stretch part;
     for (size_t k = 0; (part = daxfolin_cut(count, k)).count > 0; k++) {
         int16_t tuned[DAXFOLIN_LONGEST_BLOCK];
-        daxfolin_answer answer = daxfolin_block(&tuner, (uint16_t)k, take + part.from, part.count, tuned, part.count);
+        daxfolin_answer answer = daxfolin_plain_block(&tuner, (uint16_t)k, take + part.from, part.count, tuned, part.count);
         if (answer.number != DAXFOLIN_TAKEN) return fail(argv[1], daxfolin_words(answer.number));
         memcpy(take + part.from, tuned, part.count * sizeof *tuned);
         repeated += answer.repeated;

@@ -25,58 +25,29 @@ typedef struct {
         return answer; \
     }
 
-typedef daxfolin_record *record;
-typedef daxfolin_listing *listing;
-typedef daxfolin_choir *choir;
+typedef daxfolin_tuner *tuner;
 typedef const daxfolin_settings *by_address;
 typedef const slice *lent;
 
 /* the tuner */
-PASSED(uint32_t, version, (void), (void), ())
-PASSED(uint32_t, start, (record r, uint32_t hertz, daxfolin_settings s), (record, uint32_t, by_address), (r, hertz, &s))
-PASSED(uint32_t, start_default, (record r), (record), (r))
-PASSED(uint32_t, change, (record r, daxfolin_settings s), (record, by_address), (r, &s))
-PASSED(uint32_t, midi, (record r, const uint8_t *bytes, size_t n), (record, lent), (r, LENT(bytes, n)))
-PASSED(uint32_t, reset, (record r), (record), (r))
-ANSWERED(daxfolin_shown, meter, (const daxfolin_record *r), (daxfolin_shown *, const daxfolin_record *), r)
-ANSWERED(daxfolin_stretch, cut, (size_t length, size_t k), (daxfolin_stretch *, size_t, size_t), length, k)
-ANSWERED(daxfolin_answer, block, (record r, uint16_t number, const int16_t *in, size_t n, int16_t *out, size_t m),
-    (daxfolin_answer *, record, uint16_t, lent, lent), r, number, LENT(in, n), LENT(out, m))
-ANSWERED(daxfolin_night_answer, night, (record r, uint16_t number, size_t size, const int16_t *in, size_t n, int16_t *out, size_t m),
-    (daxfolin_night_answer *, record, uint16_t, size_t, lent, lent), r, number, size, LENT(in, n), LENT(out, m))
-
-/* with a list of the notes sung */
-ANSWERED(daxfolin_list_answer, list_start,
-    (record r, listing l, uint32_t hertz, daxfolin_settings s, const uint32_t *store, size_t room),
-    (daxfolin_list_answer *, record, listing, uint32_t, by_address, lent), r, l, hertz, &s, LENT(store, room))
-ANSWERED(daxfolin_list_answer, list_reset, (record r, listing l, const uint32_t *store, size_t room),
-    (daxfolin_list_answer *, record, listing, lent), r, l, LENT(store, room))
-ANSWERED(daxfolin_list_answer, list_block,
-    (record r, listing l, uint16_t number, const int16_t *in, size_t n, int16_t *out, size_t m, uint32_t *store, size_t room),
-    (daxfolin_list_answer *, record, listing, uint16_t, lent, lent, lent), r, l, number, LENT(in, n), LENT(out, m), LENT(store, room))
-ANSWERED(daxfolin_list_night_answer, list_night,
-    (record r, listing l, uint16_t number, size_t size, const int16_t *in, size_t n, int16_t *out, size_t m, uint32_t *store, size_t room),
-    (daxfolin_list_night_answer *, record, listing, uint16_t, size_t, lent, lent, lent), r, l, number, size, LENT(in, n), LENT(out, m),
-    LENT(store, room))
-
-/* with backing voices */
-ANSWERED(daxfolin_list_answer, choir_start,
-    (choir c, uint32_t hertz, daxfolin_settings s, const int32_t *intervals, size_t voices, const uint32_t *store, size_t room),
-    (daxfolin_list_answer *, choir, uint32_t, by_address, lent, lent), c, hertz, &s, LENT(intervals, voices), LENT(store, room))
-ANSWERED(daxfolin_list_answer, choir_reset, (choir c, const uint32_t *store, size_t room), (daxfolin_list_answer *, choir, lent), c,
-    LENT(store, room))
-PASSED(uint32_t, choir_change, (choir c, daxfolin_settings s), (choir, by_address), (c, &s))
-PASSED(uint32_t, choir_midi, (choir c, const uint8_t *bytes, size_t n), (choir, lent), (c, LENT(bytes, n)))
-ANSWERED(daxfolin_shown, choir_meter, (const daxfolin_choir *c), (daxfolin_shown *, const daxfolin_choir *), c)
 #define OUTPUTS int16_t *out, size_t m, int16_t *first, size_t m1, int16_t *second, size_t m2, int16_t *third, size_t m3
 #define LENT_OUTPUTS LENT(out, m), LENT(first, m1), LENT(second, m2), LENT(third, m3)
-ANSWERED(daxfolin_list_answer, choir_block,
-    (choir c, uint16_t number, const int16_t *in, size_t n, OUTPUTS, uint32_t *store, size_t room),
-    (daxfolin_list_answer *, choir, uint16_t, lent, lent, lent, lent, lent, lent), c, number, LENT(in, n), LENT_OUTPUTS, LENT(store, room))
-ANSWERED(daxfolin_list_night_answer, choir_night,
-    (choir c, uint16_t number, size_t size, const int16_t *in, size_t n, OUTPUTS, uint32_t *store, size_t room),
-    (daxfolin_list_night_answer *, choir, uint16_t, size_t, lent, lent, lent, lent, lent, lent), c, number, size, LENT(in, n),
-    LENT_OUTPUTS, LENT(store, room))
+PASSED(uint32_t, version, (void), (void), ())
+PASSED(uint32_t, start,
+    (tuner t, uint32_t hertz, daxfolin_settings s, uint32_t listed, const int32_t *intervals, size_t voices, const uint32_t *store, size_t room),
+    (tuner, uint32_t, by_address, uint32_t, lent, lent), (t, hertz, &s, listed, LENT(intervals, voices), LENT(store, room)))
+PASSED(uint32_t, start_default, (tuner t), (tuner), (t))
+PASSED(uint32_t, change, (tuner t, daxfolin_settings s), (tuner, by_address), (t, &s))
+PASSED(uint32_t, midi, (tuner t, const uint8_t *bytes, size_t n), (tuner, lent), (t, LENT(bytes, n)))
+PASSED(uint32_t, reset, (tuner t, const uint32_t *store, size_t room), (tuner, lent), (t, LENT(store, room)))
+ANSWERED(daxfolin_answer, block, (tuner t, uint16_t number, const int16_t *in, size_t n, OUTPUTS, uint32_t *store, size_t room),
+    (daxfolin_answer *, tuner, uint16_t, lent, lent, lent, lent, lent, lent), t, number, LENT(in, n), LENT_OUTPUTS, LENT(store, room))
+ANSWERED(daxfolin_night_answer, night,
+    (tuner t, uint16_t number, size_t size, const int16_t *in, size_t n, OUTPUTS, uint32_t *store, size_t room),
+    (daxfolin_night_answer *, tuner, uint16_t, size_t, lent, lent, lent, lent, lent, lent), t, number, size, LENT(in, n), LENT_OUTPUTS,
+    LENT(store, room))
+ANSWERED(daxfolin_shown, meter, (const daxfolin_tuner *t), (daxfolin_shown *, const daxfolin_tuner *), t)
+ANSWERED(daxfolin_stretch, cut, (size_t length, size_t k), (daxfolin_stretch *, size_t, size_t), length, k)
 
 /* WAVE files */
 ANSWERED(daxfolin_wave_was_read, wave_read, (const uint8_t *bytes, size_t n, int16_t *out, size_t room),

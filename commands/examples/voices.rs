@@ -3,8 +3,7 @@
 //! answers look like, and `./compare` holds it to that program.
 
 use commands::lines::{asked, each, intervals, Asked};
-use daxfolin::choir::{Choir, MOST_VOICES};
-use daxfolin::{Settings, LONGEST_BLOCK, TAKEN};
+use daxfolin::{Settings, Tuner, LONGEST_BLOCK, MOST_VOICES, TAKEN};
 use std::io::{self, Write};
 
 /// The answer to a line that cannot be read.
@@ -13,7 +12,7 @@ const UNREADABLE: u32 = 10;
 /// The program opens with the default settings, and without voices.
 #[derive(Default)]
 struct Program {
-    choir: Choir,
+    tuner: Tuner,
     settings: Settings,
     /// The voices of the next start.
     next: Vec<i32>,
@@ -30,8 +29,8 @@ impl Program {
             None => UNREADABLE,
             Some(Asked::Start(settings, hertz)) => self.start(settings, hertz),
             Some(Asked::Change(settings)) => self.change(settings),
-            Some(Asked::Midi(bytes)) => self.choir.midi(&bytes),
-            Some(Asked::Reset) => self.choir.reset(&[]).answer.number,
+            Some(Asked::Midi(bytes)) => self.tuner.midi(&bytes),
+            Some(Asked::Reset) => self.tuner.reset(&[]),
             Some(Asked::Block(number, samples)) => return self.block(number, &samples),
         };
         format!("{number}\n")
@@ -40,16 +39,15 @@ impl Program {
     /// A start that is refused leaves the old tuner, as the line program does.
     fn start(&mut self, settings: Settings, hertz: u32) -> u32 {
         let next = std::mem::take(&mut self.next);
-        let mut choir = Choir::default();
-        let number = choir.start(hertz, settings, &next, &[]).answer.number;
+        let (number, tuner) = Tuner::start(hertz, settings, false, &next, &[]);
         if number == TAKEN {
-            (self.choir, self.settings) = (choir, settings);
+            (self.tuner, self.settings) = (tuner, settings);
         }
         number
     }
 
     fn change(&mut self, settings: Settings) -> u32 {
-        let number = self.choir.change(settings);
+        let number = self.tuner.change(settings);
         if number == TAKEN {
             self.settings = settings;
         }
@@ -61,8 +59,9 @@ impl Program {
         let mut lead = [0; LONGEST_BLOCK];
         let mut voices = [[0; LONGEST_BLOCK]; MOST_VOICES];
         let lent = voices.each_mut().map(|voice| &mut voice[..]);
-        let answer = self.choir.block(number, samples, &mut lead, lent, &mut []);
-        let answer = answer.answer;
+        let answer = self
+            .tuner
+            .block_with(number, samples, &mut lead, lent, &mut []);
         let written = |out: &[i16; LONGEST_BLOCK]| -> String {
             let out = out[..answer.written.into()].iter();
             out.map(|sample| format!("\t{sample}")).collect()
@@ -75,7 +74,7 @@ impl Program {
             answer.dropped,
             written(&lead)
         );
-        for voice in &voices[..self.choir.intervals().len()] {
+        for voice in &voices[..self.tuner.intervals().len()] {
             text += &format!("voice{}\n", written(voice));
         }
         text

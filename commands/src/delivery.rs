@@ -9,7 +9,7 @@ use crate::midi::Key;
 pub enum Part<'a> {
     /// Bytes for its keyboard.
     Keys(&'a [u8]),
-    /// A block of the take, with its number.
+    /// A block of the take, with its number; or, where more samples were given at once, so many of them.
     Block(u16, &'a [i16]),
 }
 
@@ -33,7 +33,7 @@ impl<'a> Delivery<'a> {
         }
     }
 
-    /// Gives the next samples of the take, at most so many as a block has, and each key before its sample. Stops at the first error.
+    /// Gives the next samples of the take and each key before its sample. Stops at the first error.
     pub fn give<E>(
         &mut self,
         sung: &[i16],

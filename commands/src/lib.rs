@@ -26,8 +26,7 @@ pub mod tune;
 pub use source::Source;
 pub use words::end::{no, End};
 
-use daxfolin::choir::{INTERVAL_OUT_OF_RANGE, TOO_MANY_VOICES};
-use daxfolin::{Settings, TAKEN};
+use daxfolin::{Settings, INTERVAL_OUT_OF_RANGE, TAKEN, TOO_MANY_VOICES};
 use std::ffi::OsString;
 use std::process::ExitCode;
 use words::end::finish;

@@ -1,7 +1,7 @@
 //! The line program's input, for the list of the notes sung and for backing voices: lines are read here, by the rules of documents 01 and
 //! 02, and what they ask for are proved calls. Lines that cannot be read and calls that are refused change nothing.
 
-use daxfolin::{Listing, Record, Settings, CD, LONGEST_BLOCK, MOST_ROWS, ROW, TAKEN};
+use daxfolin::{no_voices, Settings, Tuner, CD, LONGEST_BLOCK, MOST_ROWS, ROW, TAKEN};
 use std::io::{self, BufRead};
 
 /// The most bytes of a line before its end.
@@ -136,20 +136,21 @@ fn sample(field: &[u8]) -> Option<i16> {
 
 /// A tuner that takes lines, and the list of its take.
 pub struct Takes {
-    tuner: Record,
+    tuner: Tuner,
     settings: Settings,
-    listing: Listing,
     store: Vec<u32>,
 }
 
 /// The program opens with the default settings.
 impl Default for Takes {
     fn default() -> Takes {
+        let (settings, store) = (Settings::default(), vec![0; ROW * MOST_ROWS]);
+        let (number, tuner) = Tuner::start(CD, settings, true, &[], &store);
+        assert_eq!(number, TAKEN, "the default start is taken");
         Takes {
-            tuner: Record::default(),
-            settings: Settings::default(),
-            listing: Listing::default(),
-            store: vec![0; ROW * MOST_ROWS],
+            tuner,
+            settings,
+            store,
         }
     }
 }
@@ -161,13 +162,13 @@ impl Takes {
             Asked::Start(settings, hertz) => self.start(settings, hertz),
             Asked::Reset => {
                 let rows = self.rows();
-                let answer = self.tuner.list_reset(&mut self.listing, &self.store);
-                (answer.answer.number == TAKEN).then_some(rows)
+                let number = self.tuner.reset(&self.store);
+                (number == TAKEN).then_some(rows)
             }
             Asked::Block(number, samples) => {
                 let (out, store) = (&mut [0; LONGEST_BLOCK], &mut self.store);
                 self.tuner
-                    .list_block(&mut self.listing, number, &samples, out, store);
+                    .block_with(number, &samples, out, no_voices(), store);
                 None
             }
             Asked::Midi(bytes) => {
@@ -185,19 +186,18 @@ impl Takes {
 
     /// A start that is refused leaves the old tuner, as the line program does.
     fn start(&mut self, settings: Settings, hertz: u32) -> Option<String> {
-        let (mut tuner, mut listing) = (Record::default(), Listing::default());
-        let answer = tuner.list_start(&mut listing, hertz, settings, &self.store);
-        if answer.answer.number != TAKEN {
+        let (number, tuner) = Tuner::start(hertz, settings, true, &[], &self.store);
+        if number != TAKEN {
             return None;
         }
         let rows = self.rows();
-        (self.tuner, self.settings, self.listing) = (tuner, settings, listing);
+        (self.tuner, self.settings) = (tuner, settings);
         Some(rows)
     }
 
     /// The rows of the take so far, a line each, and a line that counts them.
     pub fn rows(&self) -> String {
-        let Listing { rows, left, .. } = self.listing;
+        let (rows, left) = self.tuner.rows();
         let mut text = String::new();
         for row in self.store.chunks_exact(ROW).take(rows as usize) {
             text += &format!("{}\t{}\t{}\n", row[0], row[1], row[2]);

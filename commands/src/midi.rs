@@ -66,7 +66,7 @@ pub struct Key {
 }
 
 impl Key {
-    /// Its message, for `Record::midi` and `Choir::midi`.
+    /// Its message, for `Tuner::midi`.
     pub fn bytes(&self) -> [u8; 3] {
         match self.down {
             true => [NOTE_ON | CHANNEL, self.key, 100],

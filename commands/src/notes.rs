@@ -9,7 +9,7 @@ use crate::score::score;
 use crate::source::Source;
 use crate::{seconds, settings, started};
 use daxfolin::wave::Take;
-use daxfolin::{Listing, Meter, Record, Settings, LONGEST_BLOCK, MOST_ROWS, ROW, TAKEN};
+use daxfolin::{no_voices, Meter, Settings, Tuner, LONGEST_BLOCK, MOST_ROWS, ROW, TAKEN};
 use std::io::BufReader;
 use std::path::Path;
 use words::end::{say, End};
@@ -52,8 +52,8 @@ fn notes(file: &Path, request: &Notes) -> Result<(), End> {
     let rows = list.rows().filter(|row| f64::from(row.length) >= least);
     let lines: String = rows.map(|row| row.line(&take, &request.form)).collect();
     print(&format!("{heading}{lines}"))?;
-    if list.listing.left > 0 {
-        let left = list.listing.left;
+    let (_, left) = list.tuner.rows();
+    if left > 0 {
         let most = format!("{left} rows more are left out: a list has {MOST_ROWS} at most");
         say(PROGRAM, &most);
     }
@@ -118,8 +118,7 @@ impl Row {
 
 /// A tuner that keeps a list.
 struct List {
-    tuner: Record,
-    listing: Listing,
+    tuner: Tuner,
     store: Vec<u32>,
     /// Of each row, the sum over its samples of how far above the note they were.
     cents: Vec<f64>,
@@ -130,12 +129,10 @@ struct List {
 impl List {
     fn start(hertz: u32, settings: Settings) -> Result<List, End> {
         let store = vec![0; ROW * MOST_ROWS];
-        let (mut tuner, mut listing) = (Record::default(), Listing::default());
-        let answer = tuner.list_start(&mut listing, hertz, settings, &store);
-        started(answer.answer.number)?;
+        let (number, tuner) = Tuner::start(hertz, settings, true, &[], &store);
+        started(number)?;
         Ok(List {
             tuner,
-            listing,
             store,
             cents: vec![0.0; MOST_ROWS],
             number: 0,
@@ -144,14 +141,14 @@ impl List {
     }
 
     fn block(&mut self, sung: &[i16]) -> Result<(), u32> {
-        let tuned = &mut [0; LONGEST_BLOCK];
-        let answer =
-            self.tuner
-                .list_block(&mut self.listing, self.number, sung, tuned, &mut self.store);
+        let (tuned, store) = (&mut [0; LONGEST_BLOCK], &mut self.store);
+        let answer = self
+            .tuner
+            .block_with(self.number, sung, tuned, no_voices(), store);
         // numbers of blocks begin again after 65535
         self.number = self.number.wrapping_add(1);
         self.samples += sung.len() as u64;
-        match answer.answer.number {
+        match answer.number {
             TAKEN => Ok(()),
             number => Err(number),
         }
@@ -159,24 +156,29 @@ impl List {
 
     /// In blocks within which period and note stay, so that each sample's own are known.
     fn by_steps(&mut self, sung: &[i16]) -> Result<(), u32> {
-        crate::report::steps(self.samples, sung).try_for_each(|block| {
+        steps(self.samples, sung).try_for_each(|block| {
             self.block(block)?;
-            if let (Meter::Pitched { period, wanted, .. }, Some(sum)) = (
-                self.tuner.meter(),
-                self.cents.get_mut(self.listing.place as usize),
-            ) {
+            if let (Meter::Pitched { period, wanted, .. }, Some(row)) =
+                (self.tuner.meter(), self.last_row())
+            {
                 let cents = 1200.0 * (f64::from(wanted) / f64::from(period)).log2();
-                *sum += cents * block.len() as f64;
+                self.cents[row] += cents * block.len() as f64;
             }
             Ok(())
         })
     }
 
+    /// The row of the run that began last; none where it was left out.
+    fn last_row(&self) -> Option<usize> {
+        match self.tuner.rows() {
+            (rows, 0) => (rows as usize).checked_sub(1),
+            _ => None,
+        }
+    }
+
     fn rows(&self) -> impl Iterator<Item = Row> + '_ {
-        let rows = self
-            .store
-            .chunks_exact(ROW)
-            .take(self.listing.rows as usize);
+        let (rows, _) = self.tuner.rows();
+        let rows = self.store.chunks_exact(ROW).take(rows as usize);
         rows.zip(&self.cents).map(|(row, cents)| Row {
             note: row[0],
             first: row[1],
@@ -184,6 +186,21 @@ impl List {
             cents: cents / f64::from(row[2]),
         })
     }
+}
+
+/// Cuts samples behind so many others into blocks within which period, wanted note and rate stay as they are at the block's end.
+///
+/// The library tells them where a block ends, and not at each sample. They change at tracking steps alone, the one at which tracking is
+/// lost among them, and these come where the count of samples is a multiple of 5: a lag that is found leaves the rate level and no period
+/// until the first step. So no such count lies within a block, but for its first sample's. How a take is cut alters nothing else.
+fn steps(mut before: u64, mut sung: &[i16]) -> impl Iterator<Item = &[i16]> {
+    std::iter::from_fn(move || {
+        let until = 5 - (before + 1) % 5;
+        let (block, rest) = sung.split_at(sung.len().min(until as usize));
+        before += block.len() as u64;
+        sung = rest;
+        (!block.is_empty()).then_some(block)
+    })
 }
 
 /// The rows of each take of the line program's input, as soon as it has ended.
@@ -197,4 +214,23 @@ fn lines() -> Result<(), End> {
         |line| takes.line(line).map_or(Ok(()), |rows| print(&rows)),
     )?;
     print(&takes.rows())
+}
+
+#[cfg(test)]
+mod tests {
+    use super::*;
+
+    #[test]
+    fn blocks_end_before_each_fifth_sample() {
+        let sung = [0; 13];
+        for (before, lengths) in [
+            (0, &[4, 5, 4][..]),
+            (4, &[5, 5, 3]),
+            (3, &[1, 5, 5, 2]),
+            (7, &[2, 5, 5, 1]),
+        ] {
+            let blocks: Vec<usize> = steps(before, &sung).map(<[i16]>::len).collect();
+            assert_eq!(blocks, lengths, "{before}");
+        }
+    }
 }

@@ -6,7 +6,7 @@ use crate::midi::by_keys;
 use crate::song::Song;
 use crate::source::Source;
 use crate::{apart, settings, started};
-use daxfolin::{Meter, Record, LONGEST_BLOCK, TAKEN};
+use daxfolin::{Tuner, LONGEST_BLOCK, TAKEN};
 use std::fmt;
 use std::path::{Path, PathBuf};
 use words::end::{shown, End, FILE, REFUSED};
@@ -18,8 +18,8 @@ pub const PROGRAM: &str = "daxfolin report";
 /// The most takes of a report, and what more are answered.
 const MOST_TAKES: usize = 1000;
 const TOO_MANY_TAKES: u32 = 28;
-/// The rate of what is not altered.
-const LEVEL: u64 = 65_536;
+/// So many samples are taken by one call, in blocks of 512.
+const STRETCH: usize = 64 * LONGEST_BLOCK;
 const HEADING: &str = "file\tsamples\tpitched\trepeated\tdropped\tsum\tmean\tremainder\trefusal\n";
 
 pub fn run(request: &Report) -> Result<(), End> {
@@ -32,7 +32,7 @@ pub fn run(request: &Report) -> Result<(), End> {
         return Err(End::Refused(TOO_MANY_TAKES, why));
     }
     // settings that no take could have are refused before the first is read
-    started(Record::start(daxfolin::CD, settings(&request.take, daxfolin::CD)).0)?;
+    started(Tuner::start_plain(daxfolin::CD, settings(&request.take, daxfolin::CD)).0)?;
     let song = request.song.as_ref().map(Song::of).transpose()?;
     let mut takes = Vec::new();
     for file in &request.from {
@@ -138,7 +138,7 @@ fn figures(name: &Path, how: &Take, song: Option<&Song>) -> Result<Figures, End>
         Some(_) => by_keys(settings),
         None => settings,
     };
-    let (number, tuner) = Record::start(take.hertz, wanted);
+    let (number, tuner) = Tuner::start_plain(take.hertz, wanted);
     started(number)?;
     let played = song.map(|song| song.played(PROGRAM, &source, &take, settings));
     let played = played.transpose()?;
@@ -147,8 +147,9 @@ fn figures(name: &Path, how: &Take, song: Option<&Song>) -> Result<Figures, End>
         tuner,
         number: 0,
         figures: Figures::default(),
+        out: vec![0; STRETCH],
     };
-    source.blocks(PROGRAM, &take, |_, sung| {
+    source.stretches(PROGRAM, &take, STRETCH, |sung| {
         let counted = delivery.give(sung, |part| counting.part(part));
         counted.map_err(|number| source.refused(number))
     })?;
@@ -159,27 +160,14 @@ fn figures(name: &Path, how: &Take, song: Option<&Song>) -> Result<Figures, End>
     Ok(counting.figures)
 }
 
-/// Cuts samples behind so many others into blocks within which period, wanted note and rate stay as they are at the block's end.
-///
-/// The library tells them where a block ends, and not at each sample. They change at tracking steps alone, the one at which tracking is
-/// lost among them, and these come where the count of samples is a multiple of 5: a lag that is found leaves the rate level and no period
-/// until the first step. So no such count lies within a block, but for its first sample's. How a take is cut alters nothing else.
-pub fn steps(mut before: u64, mut sung: &[i16]) -> impl Iterator<Item = &[i16]> {
-    std::iter::from_fn(move || {
-        let until = 5 - (before + 1) % 5;
-        let (block, rest) = sung.split_at(sung.len().min(until as usize));
-        before += block.len() as u64;
-        sung = rest;
-        (!block.is_empty()).then_some(block)
-    })
-}
-
-/// A take of which figures are counted.
+/// A take whose figures are added up: each is counted by the proved calls.
 struct Counting {
-    tuner: Record,
+    tuner: Tuner,
     /// The next block's number.
     number: u16,
     figures: Figures,
+    /// What the tuner writes, which a report has no need of.
+    out: Vec<i16>,
 }
 
 impl Counting {
@@ -189,35 +177,24 @@ impl Counting {
                 TAKEN => Ok(()),
                 number => Err(number),
             },
-            Part::Block(_, sung) => {
-                let mut blocks = steps(self.figures.samples, sung);
-                blocks.try_for_each(|block| self.block(block))
-            }
+            Part::Block(_, sung) => self.night(sung),
         }
     }
 
-    fn block(&mut self, sung: &[i16]) -> Result<(), u32> {
-        let answer = self.tuner.block(self.number, sung, &mut [0; LONGEST_BLOCK]);
+    fn night(&mut self, sung: &[i16]) -> Result<(), u32> {
+        let tuner = &mut self.tuner;
+        let answer = tuner.night(self.number, LONGEST_BLOCK, sung, &mut self.out);
         if answer.number != TAKEN {
             return Err(answer.number);
         }
         // numbers of blocks begin again after 65535
-        self.number = self.number.wrapping_add(1);
-        let samples = sung.len() as u64;
-        let (pitched, distance) = match self.tuner.meter() {
-            // the meter's rate is a whole number of 65536ths, of at most 18 bits, which it shows without rounding
-            Meter::Pitched { rate, .. } => {
-                let rate = (65_536.0 * f64::from(rate)) as u64;
-                (samples, rate.abs_diff(LEVEL))
-            }
-            _ => (0, 0),
-        };
+        self.number = self.number.wrapping_add(answer.taken as u16);
         self.figures = self.figures.and(&Figures {
-            samples,
-            pitched,
-            repeated: u64::from(answer.repeated),
-            dropped: u64::from(answer.dropped),
-            sum: samples * distance,
+            samples: answer.written,
+            pitched: answer.pitched,
+            repeated: answer.repeated,
+            dropped: answer.dropped,
+            sum: answer.strayed,
         });
         Ok(())
     }
@@ -287,7 +264,7 @@ mod tests {
         let takes: Vec<Result<Figures, End>> = (0..1000)
             .map(|k| {
                 let samples = 1_000_000_000 - k;
-                let sum = samples * LEVEL - 11 * k * k;
+                let sum = samples * 65_536 - 11 * k * k;
                 Ok(figures([samples, samples - 6 * k, 3 * k, 5 * k, sum]))
             })
             .collect();
@@ -296,19 +273,5 @@ mod tests {
         let total =
             "999999500500\t999996503500\t1498500\t2497500\t65535963603599500\t65535\t996338332000";
         assert_eq!(report.lines().last(), Some(total));
-    }
-
-    #[test]
-    fn blocks_end_before_each_fifth_sample() {
-        let sung = [0; 13];
-        for (before, lengths) in [
-            (0, &[4, 5, 4][..]),
-            (4, &[5, 5, 3]),
-            (3, &[1, 5, 5, 2]),
-            (7, &[2, 5, 5, 1]),
-        ] {
-            let blocks: Vec<usize> = steps(before, &sung).map(<[i16]>::len).collect();
-            assert_eq!(blocks, lengths, "{before}");
-        }
     }
 }

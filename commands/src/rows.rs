@@ -5,7 +5,7 @@
 use crate::source::Source;
 use crate::started;
 use daxfolin::wave::Take;
-use daxfolin::{Answer, Listing, Meter, Record, Settings, LONGEST_BLOCK, MOST_ROWS, ROW, TAKEN};
+use daxfolin::{no_voices, Answer, Meter, Settings, Tuner, LONGEST_BLOCK, MOST_ROWS, ROW, TAKEN};
 use words::end::End;
 use words::signals::ended;
 
@@ -36,8 +36,7 @@ impl Row {
 
 /// A tuner that keeps the list of its take.
 pub struct Listed {
-    tuner: Record,
-    listing: Listing,
+    tuner: Tuner,
     store: Vec<u32>,
     rows: Vec<Row>,
 }
@@ -45,63 +44,56 @@ pub struct Listed {
 impl Listed {
     /// A fresh one; or the number that the start refuses by.
     pub fn start(hertz: u32, settings: Settings) -> Result<Listed, u32> {
-        let (mut tuner, mut listing) = (Record::default(), Listing::default());
         let store = vec![0; ROW * MOST_ROWS];
-        match tuner.list_start(&mut listing, hertz, settings, &store) {
-            answer if answer.answer.number == TAKEN => Ok(Listed {
+        match Tuner::start(hertz, settings, true, &[], &store) {
+            (TAKEN, tuner) => Ok(Listed {
                 tuner,
-                listing,
                 store,
                 rows: Vec::new(),
             }),
-            answer => Err(answer.answer.number),
+            (number, _) => Err(number),
         }
     }
 
-    /// `Record::midi`.
+    /// `Tuner::midi`.
     pub fn midi(&mut self, bytes: &[u8]) -> u32 {
         self.tuner.midi(bytes)
     }
 
-    /// `Record::list_block`, with room for every row.
+    /// A block, with room for every row.
     pub fn block(&mut self, number: u16, sung: &[i16], out: &mut [i16]) -> Answer {
         let store = &mut self.store;
-        let answer = self
-            .tuner
-            .list_block(&mut self.listing, number, sung, out, store);
-        self.move_out();
-        answer.answer
+        let answer = self.tuner.block_with(number, sung, out, no_voices(), store);
+        self.move_out(answer.rows as usize);
+        answer
     }
 
-    /// `Record::meter`.
+    /// `Tuner::meter`.
     pub fn meter(&self) -> Meter {
         self.tuner.meter()
     }
 
-    /// `Record::behind`.
+    /// `Tuner::behind`.
     pub fn behind(&self) -> u64 {
         self.tuner.behind()
     }
 
-    /// All rows but the last are whole. The last one may go on: it stays, as the first row of a listing that is otherwise empty, which is
-    /// a listing like any other to the calls.
-    fn move_out(&mut self) {
-        let last = match self.listing.rows as usize {
+    /// Of so many rows all but the last are whole. The last one may go on, and stays.
+    fn move_out(&mut self, rows: usize) {
+        let last = match rows {
             0 | 1 => return,
             rows => ROW * (rows - 1),
         };
         let whole = self.store[..last].chunks_exact(ROW).map(Row::of);
         self.rows.extend(whole);
         self.store.copy_within(last..last + ROW, 0);
-        (self.listing.rows, self.listing.place) = (1, 0);
+        self.tuner.keep_last_row();
     }
 
     /// The rows of the take.
     pub fn rows(mut self) -> Vec<Row> {
-        let left = self
-            .store
-            .chunks_exact(ROW)
-            .take(self.listing.rows as usize);
+        let (rows, _) = self.tuner.rows();
+        let left = self.store.chunks_exact(ROW).take(rows as usize);
         self.rows.extend(left.map(Row::of));
         self.rows
     }

@@ -146,21 +146,36 @@ impl Source {
         take: &Take,
         mut call: impl FnMut(u16, &[i16]) -> Result<(), End>,
     ) -> Result<(), End> {
+        let mut number = 0u16;
+        self.stretches(program, take, LONGEST_BLOCK, |sung| {
+            call(number, sung)?;
+            // numbers of blocks begin again after 65535
+            number = number.wrapping_add(1);
+            Ok(())
+        })
+    }
+
+    /// Gives all samples of the take to a call, so many at once.
+    pub fn stretches(
+        &self,
+        program: &str,
+        take: &Take,
+        most: usize,
+        mut call: impl FnMut(&[i16]) -> Result<(), End>,
+    ) -> Result<(), End> {
         let mut from = BufReader::with_capacity(WINDOW, &self.file);
         io::Seek::seek(&mut from, io::SeekFrom::Start(take.at))
             .map_err(|error| self.unread(&error))?;
         let mut progress = Progress::of(format!("{program}: {}", self.shown()), take.count);
-        let (mut sung, mut bytes) = ([0; LONGEST_BLOCK], [0; 2 * LONGEST_BLOCK]);
-        let (mut number, mut left) = (0u16, take.count);
+        let (mut sung, mut bytes) = (vec![0; most], vec![0; 2 * most]);
+        let mut left = take.count;
         while left > 0 {
-            let count = left.min(LONGEST_BLOCK as u64) as usize;
+            let count = left.min(most as u64) as usize;
             let bytes = &mut bytes[..2 * count];
             from.read_exact(bytes)
                 .map_err(|error| self.unread(&error))?;
             wave::samples(bytes, &mut sung);
-            call(number, &sung[..count])?;
-            // numbers of blocks begin again after 65535
-            number = number.wrapping_add(1);
+            call(&sung[..count])?;
             left -= count as u64;
             progress.show(take.count - left);
         }

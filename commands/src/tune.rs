@@ -7,9 +7,8 @@ use crate::place::{named, places, put, unnamed, Output, Place};
 use crate::song::Song;
 use crate::source::{Source, WINDOW};
 use crate::{chunks, grouped, seconds, settings, started};
-use daxfolin::choir::{Choir, MOST_VOICES};
 use daxfolin::wave::{self, Take};
-use daxfolin::{Answer, Meter, Record, Settings, LONGEST_BLOCK, TAKEN};
+use daxfolin::{Answer, Meter, Settings, Tuner, LONGEST_BLOCK, MOST_VOICES, TAKEN};
 use std::fs;
 use std::io::{stdout, BufWriter, IsTerminal, Write};
 use std::path::Path;
@@ -102,7 +101,8 @@ fn job(request: &Tune, song: Option<&Song>, job: &Job) -> Result<String, End> {
     } else {
         settings
     };
-    let tuner = Tuner::start(take.hertz, wanted, voices)?;
+    let (number, tuner) = Tuner::start(take.hertz, wanted, false, voices, &[]);
+    started(number)?;
     let read: Vec<&Source> = song
         .iter()
         .map(|song| &song.source)
@@ -293,58 +293,9 @@ impl Outputs {
 /// A block of the lead and of each voice.
 type Blocks = [[i16; LONGEST_BLOCK]; 1 + MOST_VOICES];
 
-/// A tuner with voices, or where none is wanted the plain one, which is faster.
-enum Tuner {
-    Alone(Record),
-    WithVoices(Choir),
-}
-
-impl Tuner {
-    fn start(hertz: u32, settings: Settings, intervals: &[i32]) -> Result<Tuner, End> {
-        if intervals.is_empty() {
-            let (number, record) = Record::start(hertz, settings);
-            return started(number).map(|()| Tuner::Alone(record));
-        }
-        let mut choir = Choir::default();
-        let answer = choir.start(hertz, settings, intervals, &[]);
-        started(answer.answer.number).map(|()| Tuner::WithVoices(choir))
-    }
-
-    fn block(&mut self, number: u16, sung: &[i16], [lead, voices @ ..]: &mut Blocks) -> Answer {
-        match self {
-            Tuner::Alone(record) => record.block(number, sung, lead),
-            Tuner::WithVoices(choir) => {
-                let voices = voices.each_mut().map(|voice| &mut voice[..]);
-                choir.block(number, sung, lead, voices, &mut []).answer
-            }
-        }
-    }
-
-    fn midi(&mut self, bytes: &[u8]) -> u32 {
-        match self {
-            Tuner::Alone(record) => record.midi(bytes),
-            Tuner::WithVoices(choir) => choir.midi(bytes),
-        }
-    }
-
-    fn meter(&self) -> Meter {
-        match self {
-            Tuner::Alone(record) => record.meter(),
-            Tuner::WithVoices(choir) => choir.meter(),
-        }
-    }
-
-    fn behind(&self) -> u64 {
-        match self {
-            Tuner::Alone(record) => record.behind(),
-            Tuner::WithVoices(choir) => choir.behind(),
-        }
-    }
-}
-
 /// Whether a start takes these settings and voices.
 pub fn starts(hertz: u32, settings: Settings, intervals: &[i32]) -> Result<(), End> {
-    Tuner::start(hertz, settings, intervals).map(|_| ())
+    started(Tuner::start(hertz, settings, false, intervals, &[]).0)
 }
 
 /// The output is read so many samples behind the read position.
@@ -461,7 +412,9 @@ fn tune(
         delivery.give(sung, |part| match part {
             Part::Keys(bytes) => taken(source, tuner.midi(bytes)),
             Part::Block(number, sung) => {
-                let answer = tuner.block(number, sung, &mut tuned);
+                let [lead, voices @ ..] = &mut tuned;
+                let voices = voices.each_mut().map(|voice| &mut voice[..]);
+                let answer = tuner.block_with(number, sung, lead, voices, &mut []);
                 taken(source, answer.number)?;
                 sums.add(answer);
                 outputs.write(&tuned, sung.len())

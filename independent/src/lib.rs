@@ -5,8 +5,8 @@
 //! over it, when it is needed. Nothing is carried along from sample to sample
 //! that document 01 lets one reckon afresh.
 
+pub mod calls;
 pub mod check;
-pub mod choir;
 pub mod comparison;
 pub mod generator;
 pub mod history;

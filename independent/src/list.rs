@@ -1,7 +1,6 @@
 //! The list of the notes sung, as document 02 asks for it (K10): worked out
 //! afresh from the wanted notes of all samples of a take; and, for hosts that
-//! lend another store at each call, what a call makes of the listing that they
-//! keep.
+//! lend another store at each call, what a call makes of the listing in a record.
 
 use std::fmt;
 
@@ -87,7 +86,7 @@ impl fmt::Display for List {
     }
 }
 
-/// What a host keeps of a list beside its record.
+/// What a record has of a list.
 #[derive(Clone, Copy, Debug, PartialEq, Eq)]
 pub struct Listing {
     /// Rows so far, and rows left out.

@@ -61,9 +61,7 @@ impl Tuner {
             match answer {
                 Answer::Taken => {
                     night.taken += 1;
-                    night.counts.written += counts.written;
-                    night.counts.repeated += counts.repeated;
-                    night.counts.dropped += counts.dropped;
+                    night.counts = night.counts.plus(counts);
                 }
                 Answer::GivenAgain => night.again = Some(counts),
                 _ => {

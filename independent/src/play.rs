@@ -104,6 +104,7 @@ fn said(answer: Answer, counts: Counts) -> String {
         written,
         repeated,
         dropped,
+        ..
     } = counts;
     format!("{} {written} {repeated} {dropped} ", answer.number())
 }
@@ -114,6 +115,7 @@ fn told(night: Night) -> String {
         written,
         repeated,
         dropped,
+        ..
     } = night.counts;
     let again = match night.again {
         Some(counts) => said(Answer::GivenAgain, counts),

@@ -1,30 +1,53 @@
-//! The record that hosts lend, as bytes, and what every call does to it.
+//! The record that hosts lend, as bytes: a tuner with its list and its voices.
 //!
-//! A record holds a tuner if it is of this layout and good by document 01; then
-//! this program's own tuner is made of it, makes the call, and is turned into a
-//! record again. Every sum is reckoned directly.
+//! A record holds a tuner if it is of this layout and good by document 01, read
+//! with document 02; then this program's own tuner is made of it, and turned into
+//! a record again. Every sum is taken directly.
 
-use crate::choir;
 use crate::history::History;
 use crate::keyboard::Keyboard;
-use crate::list::{room, Listing};
-use crate::night::Night;
+use crate::list::Listing;
 use crate::rules::*;
 use crate::settings::Settings;
 use crate::statistics::Statistics;
 use crate::table::{is_rate, CD};
 use crate::tuner::*;
-use crate::voices::MOST_VOICES;
+use crate::voices::{MOST_VOICES, OCTAVE};
 
 pub const STORED: usize = 1_764;
 pub const EIGHTHS: usize = 224;
 pub const LAGS: usize = 109;
+/// The lead's output and those of the voices.
+pub const OUTPUTS: usize = 1 + MOST_VOICES;
 /// The bytes of a record.
-pub const SIZE: usize = 6_976;
+pub const SIZE: usize = 10_104;
 /// The number that stands first in a record of this layout.
-pub const LAYOUT: u64 = 20_006;
+pub const LAYOUT: u64 = 40_000;
 /// Where a key, a note or a data byte would stand: there is none.
 pub const NONE: u8 = 128;
+
+/// A voice beside the lead.
+#[derive(Clone, Copy, Debug, PartialEq, Eq)]
+pub struct Voice {
+    /// In semitones, from an octave below the wanted note on.
+    pub interval: u32,
+    /// How far its read position lies behind the input.
+    pub behind: u32,
+}
+
+impl Voice {
+    /// Level with the input.
+    pub fn level(interval: u32) -> Voice {
+        Voice {
+            interval,
+            behind: 0,
+        }
+    }
+
+    fn is_good(&self) -> bool {
+        self.interval <= 2 * OCTAVE as u32 && i64::from(self.behind) <= FARTHEST_BEHIND
+    }
+}
 
 /// Every number of a record, in the order of its bytes.
 #[derive(Clone, Debug, PartialEq, Eq)]
@@ -37,12 +60,8 @@ pub struct Record {
     pub key: u32,
     pub status: u16,
     pub half: u16,
-    // What was heard.
+    /// Samples of the take.
     pub count: u64,
-    pub energies: [u64; LAGS],
-    pub correlations: [i64; LAGS],
-    pub store: [i16; STORED],
-    pub eighths: [i16; EIGHTHS],
     // The pitch: the eight lags, the tone, and which of the two modes.
     pub low: u32,
     pub last: u32,
@@ -53,147 +72,28 @@ pub struct Record {
     pub rate: u32,
     pub kept: u32,
     pub tracking: u64,
-    // The read head.
+    /// How far the lead's read position lies behind the input.
     pub behind: u64,
-    // The last block.
+    // The last block, and what its answer counts.
     pub number: u16,
     pub length: u16,
     pub repeated: u16,
     pub dropped: u16,
-    pub out: [i16; LONGEST_BLOCK],
-}
-
-/// A call, with what is lent beside the record.
-#[derive(Clone, Debug, PartialEq)]
-pub enum Call {
-    /// A sample rate and settings.
-    Start(u32, Settings),
-    StartDefault,
-    Change(Settings),
-    Midi(Vec<u8>),
-    Block {
-        number: u16,
-        samples: Vec<i16>,
-        out: Vec<i16>,
-    },
-    Night {
-        first: u16,
-        size: u64,
-        samples: Vec<i16>,
-        out: Vec<i16>,
-    },
-    Reset,
-    Meter,
-    /// The length of a recording, and which stretch of it.
-    Cut(u64, u64),
-    /// A start, a reset, a block or a night that lends a listing and a store
-    /// for the list of the notes sung.
-    Listed {
-        listing: Listing,
-        store: Vec<u32>,
-        call: Box<Call>,
-    },
-    /// A call over the record of a tuner with voices: to a start the intervals,
-    /// to a block or a night the outputs of the voices, and where a list begins
-    /// or goes on a store.
-    Voiced {
-        intervals: Vec<i32>,
-        voices: [Vec<i16>; MOST_VOICES],
-        store: Vec<u32>,
-        call: Box<Call>,
-    },
-}
-
-impl Call {
-    /// It without its list and its voices.
-    pub fn plain(&self) -> &Call {
-        match self {
-            Call::Listed { call, .. } | Call::Voiced { call, .. } => call,
-            _ => self,
-        }
-    }
-}
-
-/// What a call answers and leaves. What it has no word on is 0 and empty.
-#[derive(Clone, Debug, Default, PartialEq)]
-pub struct Left {
-    pub number: u32,
-    /// Samples written, cycles repeated, cycles dropped in a block.
-    pub counts: [u16; 3],
-    /// Of a night the number of the block that was refused; the blocks taken and
-    /// their three counts, added up; and the answer and counts of a first block
-    /// that was given again.
-    pub refused: u16,
-    pub sums: [u64; 4],
-    pub again: (u32, [u16; 3]),
-    /// The meter's state and its lag, period, wanted period and rate.
-    pub state: u32,
-    pub figures: [f32; 4],
-    /// The first sample of a stretch, and how many it has.
-    pub stretch: [u64; 2],
-    pub record: Vec<u8>,
-    pub out: Vec<i16>,
-    /// Of a call over a record with voices, their outputs.
-    pub voices: [Vec<i16>; MOST_VOICES],
-    /// Of a call with a list, the rows and those left out that it answers, the
-    /// listing's four numbers, which a record with voices has in itself, and the
-    /// store.
-    pub list: [u32; 2],
-    pub listing: [u32; 4],
-    pub store: Vec<u32>,
-}
-
-impl Left {
-    /// Refused with this answer before anything was done.
-    pub(crate) fn refused(record: Vec<u8>, answer: Answer, call: &Call) -> Left {
-        let mut left = Left {
-            record,
-            ..Left::default()
-        };
-        match call {
-            Call::Meter => left.state = answer.number() as u32,
-            _ => left.number = answer.number() as u32,
-        }
-        if let Call::Block { out, .. } | Call::Night { out, .. } = call {
-            left.out.clone_from(out);
-        }
-        left
-    }
-
-    /// With this listing, its counts answered, and this store.
-    fn listed(self, listing: Listing, store: &[u32]) -> Left {
-        Left {
-            list: [listing.rows, listing.left],
-            listing: listing.words(),
-            store: store.to_vec(),
-            ..self
-        }
-    }
-
-    fn start(&mut self, hertz: u32, settings: Settings) {
-        let (answer, tuner) = Tuner::start(hertz, settings);
-        self.number = answer.number() as u32;
-        self.record = Record::fresh(tuner.hertz, tuner.settings).bytes();
-    }
-
-    fn night(&mut self, night: &Night) {
-        let Counts {
-            written,
-            repeated,
-            dropped,
-        } = night.counts;
-        self.number = night.answer.number() as u32;
-        self.refused = night.refused.unwrap_or(0);
-        self.sums = [night.taken, written, repeated, dropped].map(|n| n as u64);
-        if let Some(counts) = night.again {
-            self.again = (Answer::GivenAgain.number() as u32, words_of(counts));
-        }
-    }
-}
-
-/// The counts as an answer has them.
-fn words_of(counts: Counts) -> [u16; 3] {
-    [counts.written, counts.repeated, counts.dropped].map(|n| n as u16)
+    pub pitched: u32,
+    pub strayed: u32,
+    /// Whether a list is kept, 0 or 1.
+    pub listed: u32,
+    /// How many voices are chosen, the first of those below; the others are any numbers.
+    pub chosen: u32,
+    pub list: Listing,
+    pub voices: [Voice; MOST_VOICES],
+    // What was heard.
+    pub energies: [u64; LAGS],
+    pub correlations: [i64; LAGS],
+    pub heard: [i16; STORED],
+    pub eighths: [i16; EIGHTHS],
+    /// What lead and voices wrote of the last block.
+    pub outs: [[i16; LONGEST_BLOCK]; OUTPUTS],
 }
 
 macro_rules! in_order {
@@ -210,10 +110,6 @@ macro_rules! in_order {
         $number!($record.status);
         $number!($record.half);
         $number!($record.count);
-        $number!(each $record.energies);
-        $number!(each $record.correlations);
-        $number!(each $record.store);
-        $number!(each $record.eighths);
         $number!($record.low);
         $number!($record.last);
         $number!(each $record.e);
@@ -228,13 +124,30 @@ macro_rules! in_order {
         $number!($record.length);
         $number!($record.repeated);
         $number!($record.dropped);
-        $number!(each $record.out);
+        $number!($record.pitched);
+        $number!($record.strayed);
+        $number!($record.listed);
+        $number!($record.chosen);
+        $number!($record.list.rows);
+        $number!($record.list.left);
+        $number!($record.list.place);
+        $number!($record.list.first);
+        for place in 0..MOST_VOICES {
+            $number!($record.voices[place].interval);
+            $number!($record.voices[place].behind);
+        }
+        $number!(each $record.energies);
+        $number!(each $record.correlations);
+        $number!(each $record.heard);
+        $number!(each $record.eighths);
+        for place in 0..OUTPUTS {
+            $number!(each $record.outs[place]);
+        }
     };
 }
 
 impl Record {
-    /// The record with these bytes, low byte first; any are one. A record with
-    /// voices begins with all the numbers of one without.
+    /// The record with these bytes, low byte first; any are one.
     pub fn of_bytes(bytes: &[u8]) -> Record {
         let mut record = Record::default_start();
         let mut at = 0;
@@ -251,7 +164,7 @@ impl Record {
             }};
         }
         in_order!(record, read);
-        assert_eq!(at, SIZE);
+        assert_eq!((at, bytes.len()), (SIZE, SIZE));
         record
     }
 
@@ -275,6 +188,7 @@ impl Record {
         Record::fresh(CD, Settings::DEFAULT)
     }
 
+    /// Without a list and without voices; the voices that are not chosen are in unison.
     pub fn fresh(hertz: u32, settings: Settings) -> Record {
         Record {
             layout: LAYOUT,
@@ -284,10 +198,6 @@ impl Record {
             status: 0,
             half: u16::from(NONE),
             count: 0,
-            energies: [0; LAGS],
-            correlations: [0; LAGS],
-            store: [0; STORED],
-            eighths: [0; EIGHTHS],
             low: 0,
             last: 0,
             e: [0; TRACKED],
@@ -302,18 +212,54 @@ impl Record {
             length: 0,
             repeated: 0,
             dropped: 0,
-            out: [0; LONGEST_BLOCK],
+            pitched: 0,
+            strayed: 0,
+            listed: 0,
+            chosen: 0,
+            list: Listing::FRESH,
+            voices: [Voice::level(OCTAVE as u32); MOST_VOICES],
+            energies: [0; LAGS],
+            correlations: [0; LAGS],
+            heard: [0; STORED],
+            eighths: [0; EIGHTHS],
+            outs: [[0; LONGEST_BLOCK]; OUTPUTS],
         }
     }
 
-    /// This layout, and a tuner behind it.
-    pub fn is_good(&self) -> bool {
-        self.layout == LAYOUT && self.holds_a_tuner()
+    /// With a list.
+    pub fn with_list(self) -> Record {
+        Record { listed: 1, ..self }
     }
 
-    /// Document 01's condition in its order, read with document 02; whatever the layout.
-    pub(crate) fn holds_a_tuner(&self) -> bool {
-        let kept = History::of(&self.store);
+    /// With a voice for each of these intervals.
+    pub fn with_voices(mut self, intervals: &[i32]) -> Record {
+        self.chosen = intervals.len() as u32;
+        for (voice, interval) in self.voices.iter_mut().zip(intervals) {
+            *voice = Voice::level((OCTAVE + interval) as u32);
+        }
+        self
+    }
+
+    /// How many of the three voices are chosen.
+    pub fn chosen(&self) -> usize {
+        self.chosen.min(MOST_VOICES as u32) as usize
+    }
+
+    /// This layout, a tuner behind it with its list, and at most three voices,
+    /// each in its ranges.
+    pub fn is_good(&self) -> bool {
+        self.layout == LAYOUT
+            && self.listed <= 1
+            && self.list.is_good(self.count)
+            && self.chosen <= MOST_VOICES as u32
+            && self.voices[..self.chosen()].iter().all(Voice::is_good)
+            && self.holds_a_lead()
+    }
+
+    /// Document 01's condition in its order, read with document 02. What is kept
+    /// for a repeat is not tested.
+    fn holds_a_lead(&self) -> bool {
+        let kept = History::of(&self.heard);
         let eighths = History::of(&self.eighths);
         let before = |stored: &[i16], count: u64| {
             let silent = (stored.len() as u64).saturating_sub(count) as usize;
@@ -345,7 +291,7 @@ impl Record {
             && self.keyboard().is_some_and(|keyboard| keyboard.is_good())
             && self.count <= TAKE_LIMIT as u64
             && u64::from(self.length) <= self.count.min(LONGEST_BLOCK as u64)
-            && before(&self.store, self.count)
+            && before(&self.heard, self.count)
             && before(&self.eighths, self.count / 8)
             && self.behind <= FARTHEST_BEHIND as u64
             && i64::from(self.kept) <= MOST_KEPT
@@ -357,7 +303,7 @@ impl Record {
     /// The newest samples, as many as the last block has: in a good record they are its own.
     pub fn last_samples(&self) -> &[i16] {
         let length = usize::from(self.length).min(LONGEST_BLOCK);
-        &self.store[STORED - length..]
+        &self.heard[STORED - length..]
     }
 
     /// The number that the next block must have; the first of a take is 0.
@@ -386,7 +332,7 @@ impl Record {
         })
     }
 
-    fn with_keyboard(mut self, keyboard: &Keyboard) -> Record {
+    pub(crate) fn with_keyboard(mut self, keyboard: &Keyboard) -> Record {
         self.key = u32::from(keyboard.key.unwrap_or(NONE));
         self.status = u16::from(keyboard.status.unwrap_or(0));
         self.half = u16::from(keyboard.half.unwrap_or(NONE));
@@ -395,7 +341,7 @@ impl Record {
 
     /// Every kept sum taken anew.
     pub fn with_right_sums(mut self) -> Record {
-        let (kept, eighths) = (History::of(&self.store), History::of(&self.eighths));
+        let (kept, eighths) = (History::of(&self.heard), History::of(&self.eighths));
         for place in 0..LAGS {
             self.energies[place] = energy(&eighths, 2 + place) as u64;
             self.correlations[place] = correlation(&eighths, 2 + place);
@@ -419,7 +365,7 @@ impl Record {
     }
 
     /// This program's own tuner, of a good record.
-    fn tuner(&self) -> Tuner {
+    pub(crate) fn tuner(&self) -> Tuner {
         let count = self.short_count();
         let history = |stored: &[i16], count: usize| {
             let kept = count.min(stored.len());
@@ -437,7 +383,7 @@ impl Record {
             settings: self.settings,
             keyboard: self.keyboard().expect("a good record has a keyboard"),
             limit: count + TAKE_LIMIT - self.count as usize,
-            take: history(&self.store, count),
+            take: history(&self.heard, count),
             // Those of the samples that the call takes.
             notes: Vec::new(),
             sounded: Vec::new(),
@@ -456,21 +402,31 @@ impl Record {
             position: input_position(count) - self.behind as i64,
             last: (length > 0).then(|| LastBlock {
                 number: self.number,
-                samples: self.store[STORED - length..].to_vec(),
-                output: self.out[..length].to_vec(),
+                samples: self.heard[STORED - length..].to_vec(),
+                output: self.outs[0][..length].to_vec(),
                 counts: Counts {
                     written: length,
                     repeated: usize::from(self.repeated),
                     dropped: usize::from(self.dropped),
+                    pitched: self.pitched as usize,
+                    strayed: u64::from(self.strayed),
                 },
             }),
         }
     }
 
-    /// The record after the tuner made of it took a block or more.
-    fn after(&self, tuner: &Tuner, seen: &Statistics) -> Record {
-        let mut record = Record::fresh(tuner.hertz, tuner.settings).with_keyboard(&tuner.keyboard);
-        let last = tuner.last.as_ref().expect("a block was taken");
+    /// The record after the tuner made of it took a block or more; its list and
+    /// its voices are as they were.
+    pub(crate) fn after(&self, tuner: &Tuner, seen: &Statistics) -> Record {
+        let fresh = Record::fresh(tuner.hertz, tuner.settings).with_keyboard(&tuner.keyboard);
+        let mut record = Record {
+            listed: self.listed,
+            chosen: self.chosen,
+            list: self.list,
+            voices: self.voices,
+            outs: self.outs,
+            ..fresh
+        };
         record.count = self.count + (tuner.take.count() - self.short_count()) as u64;
         record.behind = (input_position(tuner.take.count()) - tuner.position) as u64;
         record.rate = tuner.rate as u32;
@@ -492,14 +448,28 @@ impl Record {
                     .map_or(u32::from(NONE), |note| note as u32);
             }
         }
-        record.number = last.number;
-        record.length = last.samples.len() as u16;
-        record.repeated = last.counts.repeated as u16;
-        record.dropped = last.counts.dropped as u16;
-        record.out[..last.output.len()].copy_from_slice(&last.output);
-        keep(&tuner.take, &mut record.store);
+        let last = tuner.last.as_ref().expect("a block was taken");
+        record.keep_last(last);
+        keep(&tuner.take, &mut record.heard);
         keep(&tuner.eighths, &mut record.eighths);
         record.with_right_sums()
+    }
+
+    /// The last block, for a repeat.
+    fn keep_last(&mut self, last: &LastBlock) {
+        self.number = last.number;
+        self.length = last.samples.len() as u16;
+        self.repeated = last.counts.repeated as u16;
+        self.dropped = last.counts.dropped as u16;
+        self.pitched = last.counts.pitched as u32;
+        self.strayed = last.counts.strayed as u32;
+        self.keep_output(0, &last.output);
+    }
+
+    /// What the lead, 0, or a voice, 1 to 3, wrote of the last block.
+    pub(crate) fn keep_output(&mut self, place: usize, wrote: &[i16]) {
+        self.outs[place] = [0; LONGEST_BLOCK];
+        self.outs[place][..wrote.len()].copy_from_slice(wrote);
     }
 }
 
@@ -510,154 +480,4 @@ fn keep(history: &History, to: &mut [i16]) {
     for (place, kept) in to.iter_mut().enumerate() {
         *kept = history.at(oldest + place as i64);
     }
-}
-
-/// What a call over these bytes answers and leaves.
-pub fn made(bytes: &[u8], call: &Call) -> Left {
-    match call {
-        Call::Listed {
-            listing,
-            store,
-            call,
-        } => made_listed(&Record::of_bytes(bytes), *listing, store, call).0,
-        Call::Voiced {
-            intervals,
-            voices,
-            store,
-            call,
-        } => choir::made(bytes, intervals, voices, store, call),
-        _ => made_plain(&Record::of_bytes(bytes), call).0,
-    }
-}
-
-/// Whether the record that the call is made over is good.
-pub fn over_a_good_record(bytes: &[u8], call: &Call) -> bool {
-    match call {
-        Call::Voiced { .. } => choir::Choir::of_bytes(bytes).is_good(),
-        _ => Record::of_bytes(bytes).is_good(),
-    }
-}
-
-/// The plain call, and what it makes of the list: 9 also where the listing is
-/// out of its ranges, and 17 where a list would begin in a store without room
-/// for a row. Beside it the tuner after a block or a night.
-pub(crate) fn made_listed(
-    record: &Record,
-    listing: Listing,
-    store: &[u32],
-    call: &Call,
-) -> (Left, Option<Tuner>) {
-    let has_room = room(store.len()) > 0;
-    let refused = |answer| Left::refused(record.bytes(), answer, call).listed(listing, store);
-    let (left, tuner) = made_plain(record, call);
-    if let Call::Start(..) = call {
-        let left = match left.number == 0 && !has_room {
-            // Of the list that did not begin there are no rows.
-            true => Left {
-                list: [0, 0],
-                ..refused(Answer::StoreWithoutRoom)
-            },
-            false => left.listed(Listing::FRESH, store),
-        };
-        return (left, None);
-    }
-    if !(record.is_good() && listing.is_good(record.count)) {
-        return (refused(Answer::RecordOutOfRange), None);
-    }
-    if let Call::Reset = call {
-        let left = match has_room {
-            true => left.listed(Listing::FRESH, store),
-            false => refused(Answer::StoreWithoutRoom),
-        };
-        return (left, None);
-    }
-    let (mut listing, mut store) = (listing, store.to_vec());
-    let notes = tuner.as_ref().map_or(&[][..], |tuner| &tuner.notes);
-    listing.go_on(record.tuner().note(), record.count, notes, &mut store);
-    (left.listed(listing, &store), tuner)
-}
-
-/// A call without a list; and after a block or a night the tuner, with notes
-/// and periods of the samples that it took.
-pub(crate) fn made_plain(record: &Record, call: &Call) -> (Left, Option<Tuner>) {
-    let mut left = Left {
-        record: record.bytes(),
-        ..Left::default()
-    };
-    match call {
-        Call::Start(hertz, settings) => left.start(*hertz, *settings),
-        Call::StartDefault => left.record = Record::default_start().bytes(),
-        Call::Cut(length, k) => {
-            // Past the end in whole numbers, whatever k is.
-            let from = (u128::from(*k) * LONGEST_BLOCK as u128).min(u128::from(*length)) as u64;
-            left.stretch = [from, (length - from).min(LONGEST_BLOCK as u64)];
-        }
-        Call::Listed { .. } | Call::Voiced { .. } => unreachable!("a list has plain calls"),
-        _ if !record.is_good() => {
-            return (
-                Left::refused(left.record, Answer::RecordOutOfRange, call),
-                None,
-            )
-        }
-        Call::Change(settings) => {
-            let mut tuner = record.tuner();
-            left.number = tuner.change(*settings).number() as u32;
-            let settings = tuner.settings;
-            let record = Record {
-                settings,
-                ..record.clone()
-            };
-            left.record = record.with_keyboard(&tuner.keyboard).bytes();
-        }
-        Call::Midi(bytes) => {
-            let mut tuner = record.tuner();
-            left.number = tuner.midi(bytes, &mut Statistics::default()).number() as u32;
-            left.record = record.clone().with_keyboard(&tuner.keyboard).bytes();
-        }
-        Call::Reset => {
-            let mut tuner = record.tuner();
-            left.number = tuner.reset().number() as u32;
-            left.record = Record::fresh(tuner.hertz, tuner.settings).bytes();
-        }
-        Call::Block {
-            number,
-            samples,
-            out,
-        } => {
-            let (mut tuner, mut seen) = (record.tuner(), Statistics::default());
-            left.out.clone_from(out);
-            let (answer, counts) = tuner.block(*number, samples, &mut left.out, &mut seen);
-            left.number = answer.number() as u32;
-            left.counts = words_of(counts);
-            if answer == Answer::Taken {
-                left.record = record.after(&tuner, &seen).bytes();
-            }
-            return (left, Some(tuner));
-        }
-        Call::Night {
-            first,
-            size,
-            samples,
-            out,
-        } => {
-            let (mut tuner, mut seen) = (record.tuner(), Statistics::default());
-            left.out.clone_from(out);
-            let night = tuner.night(*first, *size as usize, samples, &mut left.out, &mut seen);
-            left.night(&night);
-            if night.taken > 0 {
-                left.record = record.after(&tuner, &seen).bytes();
-            }
-            return (left, Some(tuner));
-        }
-        Call::Meter => match record.tuner().meter() {
-            Meter::Searching => {}
-            Meter::Locking(lag) => (left.state, left.figures[0]) = (1, lag),
-            Meter::Pitched(figures) => {
-                left.state = 2;
-                left.figures = [0.0, figures.period, figures.wanted_period, figures.rate];
-            }
-            Meter::Refused => unreachable!("a good record's meter is read"),
-        },
-    }
-    (left, None)
 }

@@ -3,7 +3,7 @@
 use crate::history::History;
 use crate::keyboard::{Keyboard, HIGHEST_KEY};
 use crate::list::Note;
-use crate::report::Sounded;
+use crate::report::{self, Sounded};
 use crate::rules::*;
 use crate::settings::{Settings, KEYBOARD};
 use crate::statistics::Statistics;
@@ -45,12 +45,40 @@ impl Answer {
     }
 }
 
-/// Samples written, cycles repeated, cycles dropped in a block.
+/// Samples written, cycles repeated and cycles dropped in a block; and what a
+/// report adds up beside them: samples with a period, and how far the rates of
+/// all samples lie from 65536.
 #[derive(Clone, Copy, Debug, Default, PartialEq, Eq)]
 pub struct Counts {
     pub written: usize,
     pub repeated: usize,
     pub dropped: usize,
+    pub pitched: usize,
+    pub strayed: u64,
+}
+
+impl Counts {
+    /// Those of these samples.
+    fn of(samples: &[Sounded]) -> Counts {
+        let figures = report::Figures::of(samples);
+        Counts {
+            written: samples.len(),
+            repeated: figures.repeated as usize,
+            dropped: figures.dropped as usize,
+            pitched: figures.pitched as usize,
+            strayed: figures.sum,
+        }
+    }
+
+    pub fn plus(self, more: Counts) -> Counts {
+        Counts {
+            written: self.written + more.written,
+            repeated: self.repeated + more.repeated,
+            dropped: self.dropped + more.dropped,
+            pitched: self.pitched + more.pitched,
+            strayed: self.strayed + more.strayed,
+        }
+    }
 }
 
 /// What is tracked.
@@ -292,14 +320,11 @@ impl Tuner {
         seen: &mut Statistics,
     ) -> Counts {
         seen.block(samples.len(), self.take.count(), self.mode);
-        let mut counts = Counts::default();
+        let before = self.sounded.len();
         for (&sample, out) in samples.iter().zip(output.iter_mut()) {
-            let (read, cycle) = self.sample(sample, seen);
-            *out = read;
-            counts.written += 1;
-            counts.repeated += usize::from(cycle == Cycle::Repeated);
-            counts.dropped += usize::from(cycle == Cycle::Dropped);
+            *out = self.sample(sample, seen);
         }
+        let counts = Counts::of(&self.sounded[before..]);
         self.last = Some(LastBlock {
             number,
             samples: samples.to_vec(),
@@ -319,7 +344,7 @@ impl Tuner {
     }
 
     /// One sample: stored, searched or tracked with, and one read.
-    fn sample(&mut self, sample: i16, seen: &mut Statistics) -> (i16, Cycle) {
+    fn sample(&mut self, sample: i16, seen: &mut Statistics) -> i16 {
         self.take.store(sample);
         let n = self.take.count();
         let eighth_made = n.is_multiple_of(8);
@@ -346,7 +371,7 @@ impl Tuner {
         seen.reading(cycle, position, input, period);
         let value = read(&self.take, position);
         seen.value(value);
-        (held(value), cycle)
+        held(value)
     }
 
     fn search(&mut self, seen: &mut Statistics) {

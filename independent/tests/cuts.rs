@@ -1,11 +1,12 @@
 //! The cutting of a take does not matter: its cuttings give the same and leave
 //! the same tuner, and what holds them to one another finds where they do not.
 
+use independent::calls::{made, Call};
 use independent::generator::cuts::CUTTINGS;
 use independent::generator::kinds::kind_named;
 use independent::generator::script::script;
 use independent::lines::{answers_to, Program, Record};
-use independent::record::{self, made, Call};
+use independent::record;
 use independent::rules::LONGEST_BLOCK;
 use independent::settings::Settings;
 use independent::statistics::Statistics;
@@ -201,7 +202,7 @@ fn cuttings_leave_the_same_tuner() {
 /// The call that a line makes, by the settings in force.
 fn call(line: Record, now: Settings) -> Call {
     match line {
-        Record::Start(hertz, settings) => Call::Start(hertz.unwrap_or(CD), settings),
+        Record::Start(hertz, settings) => Call::start(hertz.unwrap_or(CD), settings),
         Record::Change(to) => Call::Change(Settings {
             mode: now.mode,
             channel: now.channel,
@@ -210,12 +211,8 @@ fn call(line: Record, now: Settings) -> Call {
         Record::Mode(mode) => Call::Change(Settings { mode, ..now }),
         Record::Channel(channel) => Call::Change(Settings { channel, ..now }),
         Record::Midi(bytes) => Call::Midi(bytes),
-        Record::Block(number, samples) => Call::Block {
-            number,
-            samples,
-            out: vec![0; LONGEST_BLOCK],
-        },
-        Record::Reset => Call::Reset,
+        Record::Block(number, samples) => Call::block(number, &samples, vec![0; LONGEST_BLOCK]),
+        Record::Reset => Call::Reset(vec![]),
     }
 }
 
@@ -224,7 +221,7 @@ fn record_after(cutting: &[Answered]) -> record::Record {
     let mut left = record::Record::default_start();
     for record in cutting.iter().filter_map(|(line, _)| Record::on(line)) {
         let made = made(&left.bytes(), &call(record, left.settings));
-        if made.number == 0 {
+        if made.answer.number == 0 {
             left = record::Record::of_bytes(&made.record);
         }
     }
@@ -244,7 +241,9 @@ fn cuttings_leave_the_same_record() {
                     length: left[0].length,
                     repeated: left[0].repeated,
                     dropped: left[0].dropped,
-                    out: left[0].out,
+                    pitched: left[0].pitched,
+                    strayed: left[0].strayed,
+                    outs: left[0].outs,
                     ..record.clone()
                 };
                 assert!(with_last_block_of_first == left[0]);
@@ -356,7 +355,9 @@ fn taken(cutting: &[Answered]) -> impl Iterator<Item = Record> + '_ {
 /// Makes the call of a line that is no block.
 fn make(tuner: &mut Tuner, record: Record) {
     match call(record, tuner.standing().settings) {
-        Call::Start(hertz, settings) => *tuner = Tuner::start(hertz, settings).1,
+        Call::Start {
+            hertz, settings, ..
+        } => *tuner = Tuner::start(hertz, settings).1,
         Call::Change(settings) => drop(tuner.change(settings)),
         Call::Midi(bytes) => drop(tuner.midi(&bytes, &mut Statistics::default())),
         _ => unreachable!("there are no other lines"),

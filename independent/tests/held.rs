@@ -1,8 +1,9 @@
 //! Held notes over a record's bytes: the rate comes to its goal and stays, and
 //! what rounding cut off outlives what it should, and nothing else.
 
+use independent::calls::{made, Call};
 use independent::generator::edges::{calls_over, edges};
-use independent::record::{made, Call, Record};
+use independent::record::Record;
 use independent::rules::{raw_rate_in_bounds, smoothed_rate, wanted_period};
 use independent::settings::{Settings, KEYBOARD};
 use independent::table::CD;
@@ -39,7 +40,7 @@ impl Take {
 
     fn make(&mut self, call: &Call) {
         let left = made(&self.record.bytes(), call);
-        assert_eq!(left.number, 0, "{call:?}");
+        assert_eq!(left.answer.number, 0, "{call:?}");
         self.record = Record::of_bytes(&left.record);
         assert!(self.record.is_good());
     }
@@ -49,11 +50,7 @@ impl Take {
             0 => 0,
             _ => self.record.number.wrapping_add(1),
         };
-        self.make(&Call::Block {
-            number,
-            samples: samples.to_vec(),
-            out: vec![0; samples.len()],
-        });
+        self.make(&Call::block(number, samples, vec![0; samples.len()]));
     }
 
     /// The next five samples of the note; while it is pitched, the rate moves by
@@ -188,9 +185,9 @@ fn a_loss_a_reset_and_a_start_clear_it() {
     }
     assert_eq!(take.rate(), (65_536, 0));
     let mut take = pitched();
-    take.make(&Call::Reset);
+    take.make(&Call::Reset(vec![]));
     assert!(take.record == Record::fresh(CD, settings(255)));
-    for call in [Call::Start(CD, settings(200)), Call::StartDefault] {
+    for call in [Call::start(CD, settings(200)), Call::StartDefault] {
         let mut take = pitched();
         take.make(&call);
         assert_eq!(take.rate(), (65_536, 0));
@@ -207,7 +204,7 @@ fn what_is_kept_in_any_record() {
             continue;
         }
         let left = made(&record.bytes(), &calls_over(&record)[0]);
-        if left.number != 0 {
+        if left.answer.number != 0 {
             continue;
         }
         let after = Record::of_bytes(&left.record);

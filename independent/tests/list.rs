@@ -1,14 +1,15 @@
 //! The list of the notes sung: runs of notes, however a take is cut, whatever
 //! store is lent, and what `notes` prints of an input.
 
+use independent::calls::{made, Call};
 use independent::generator::cases::{sung, Cases};
 use independent::generator::cuts::CUTTINGS;
 use independent::generator::kinds::{kind_named, KINDS};
-use independent::generator::lists::{list_choices, listed, BAD, GOOD};
+use independent::generator::lists::{list_choices, BAD, GOOD};
 use independent::generator::script::script;
 use independent::lines::{lists_of, Program};
 use independent::list::{room, runs, List, Listing, Note, Row, MOST_ROWS, NO_PLACE, ROW};
-use independent::record::{made, Call, Record};
+use independent::record::Record;
 use independent::settings::Settings;
 use independent::statistics::Statistics;
 use independent::table::CD;
@@ -280,69 +281,82 @@ fn a_take_over_a_record() {
     tuner.night(0, 512, &take, &mut out, &mut Statistics::default());
     for numbers in [3, 8, 90] {
         let list = List::of(tuner.notes(), room(numbers));
-        let mut bytes = Record::default_start().bytes();
-        let (mut listing, mut store) = (Listing::FRESH, vec![7; numbers]);
+        let mut plain = Record::default_start().bytes();
+        let mut bytes = Record::default_start().with_list().bytes();
+        let mut store = vec![7; numbers];
         for (number, samples) in (0..).zip(take.chunks(300)) {
-            let block = Call::Block {
-                number,
-                samples: samples.to_vec(),
-                out: vec![9; samples.len()],
+            let block = Call::block(number, samples, vec![9; samples.len()]);
+            let without = made(&plain, &block);
+            let left = made(&bytes, &block.with_store(store));
+            assert_eq!((left.answer.number, without.answer.list), (0, [0, 0]));
+            assert_eq!(left.answer.counts, without.answer.counts);
+            assert_eq!(left.lent.outs, without.lent.outs);
+            let record = Record::of_bytes(&left.record);
+            assert_eq!(left.answer.list, [record.list.rows, record.list.left]);
+            let lead = Record {
+                listed: 0,
+                list: Listing::FRESH,
+                ..record
             };
-            let plain = made(&bytes, &block);
-            let call = Call::Listed {
-                listing,
-                store,
-                call: Box::new(block),
-            };
-            let left = made(&bytes, &call);
-            assert_eq!((left.number, &left.record), (0, &plain.record));
-            assert_eq!(left.out, plain.out);
-            assert_eq!(left.list, left.listing[..2]);
-            (listing, store) = (Listing::of(left.listing), left.store);
-            bytes = left.record;
+            assert!(lead.bytes() == without.record);
+            (plain, bytes, store) = (without.record, left.record, left.lent.store);
         }
         let mut right = list.numbers();
         right.resize(numbers, 7);
         assert_eq!(store, right);
+        let listing = Record::of_bytes(&bytes).list;
         let counts = (listing.rows as usize, listing.left as usize);
         assert_eq!(counts, (list.rows.len(), list.left));
     }
 }
 
-/// What each refusal leaves: 17 after a start's own, and after 9.
+/// What each refusal leaves: 17 after a start's own, and after 9; a tuner that
+/// keeps no list is never answered it.
 #[test]
 fn refusals_with_a_list() {
-    let good = Record::default_start().bytes();
-    let mut bad = good.clone();
-    bad[0] ^= 1;
-    let other = Listing::of([1, 0, 0, 0]);
-    let start = |bytes: &[u8], hertz, scale, numbers| {
-        let settings = Settings::of([scale, 100, 0, 100]);
-        made(bytes, &listed(other, numbers, Call::Start(hertz, settings)))
+    let bad = vec![7; independent::record::SIZE];
+    let start = |hertz, scale, keep, numbers| {
+        let call = Call::Start {
+            hertz,
+            settings: Settings::of([scale, 100, 0, 100]),
+            listed: keep,
+            intervals: vec![],
+            store: vec![7; numbers],
+        };
+        let left = made(&bad, &call);
+        (left.answer.number, Record::of_bytes(&left.record))
     };
-    for (hertz, scale, number) in [(CD + 1, 0, 16), (CD, 0, 8)] {
-        for numbers in [2, 3] {
-            let left = start(&bad, hertz, scale, numbers);
-            assert_eq!((left.number, left.list), (number, [0, 0]));
-            assert_eq!(left.record, Record::default_start().bytes());
-            assert_eq!(left.listing, Listing::FRESH.words());
+    let settings = Settings::of([1, 100, 0, 100]);
+    for keep in [1, 2, u32::MAX] {
+        for (hertz, scale, numbers, number) in [
+            (CD + 1, 0, 2, 16),
+            (CD, 0, 2, 8),
+            (CD, 0, 3, 8),
+            (CD, 1, 0, 17),
+            (CD, 1, 2, 17),
+        ] {
+            let refused = (number, Record::default_start());
+            assert!(start(hertz, scale, keep, numbers) == refused);
         }
+        let begun = (0, Record::fresh(CD, settings).with_list());
+        assert!(start(CD, 1, keep, 3) == begun);
     }
-    let left = start(&bad, CD, 1, 2);
-    assert_eq!((left.number, left.list), (17, [0, 0]));
-    assert_eq!((&left.record[..], left.listing), (&bad[..], other.words()));
-    let left = start(&bad, CD, 1, 3);
-    assert_eq!((left.number, left.listing), (0, Listing::FRESH.words()));
-    let reset = |bytes: &[u8], listing, numbers| {
-        let left = made(bytes, &listed(listing, numbers, Call::Reset));
-        let same = left.record == bytes && left.listing == listing.words();
-        assert!(left.number == 0 || same);
-        left.number
+    assert!(start(CD, 1, 0, 0) == (0, Record::fresh(CD, settings)));
+    let reset = |record: &Record, numbers| {
+        let left = made(&record.bytes(), &Call::Reset(vec![7; numbers]));
+        let number = left.answer.number;
+        assert!(number == 0 || left.record == record.bytes());
+        number
     };
-    assert_eq!(reset(&bad, Listing::FRESH, 0), 9);
-    assert_eq!(reset(&good, other, 0), 9);
-    assert_eq!(reset(&good, Listing::FRESH, 2), 17);
-    assert_eq!(reset(&good, Listing::FRESH, 3), 0);
+    let good = Record::default_start().with_list();
+    let other = Record {
+        list: Listing::of([1, 0, 0, 0]),
+        ..good.clone()
+    };
+    assert_eq!(reset(&other, 0), 9);
+    assert_eq!(reset(&good, 2), 17);
+    assert_eq!(reset(&good, 3), 0);
+    assert_eq!(reset(&Record::default_start(), 0), 0);
 }
 
 /// Calls over records meet all that a listing and a store can do.
@@ -354,42 +368,43 @@ fn calls_over_records_meet_lists() {
     let others = (0..20_000).map(|_| source.case());
     let mut met: BTreeMap<&str, usize> = BTreeMap::new();
     for (bytes, call) in chosen.chain(others) {
-        let Call::Listed {
-            listing,
-            store,
-            call: plain,
-        } = &call
-        else {
+        let record = Record::of_bytes(&bytes);
+        let keeps_a_list = match call {
+            Call::Start { listed, .. } => listed > 0,
+            _ => record.listed == 1,
+        };
+        if !keeps_a_list {
             continue;
+        }
+        let (left, lent) = (made(&bytes, &call), call.lent());
+        let (list, after) = (record.list, Record::of_bytes(&left.record).list);
+        let runs = |list: Listing| u64::from(list.rows) + u64::from(list.left);
+        let begun = runs(after).saturating_sub(runs(list));
+        let out_of_store = after.place as usize >= room(lent.store.len());
+        let what = match (&call, left.answer.number) {
+            (Call::Start { .. }, 0) => "list begun by a start",
+            (Call::Start { .. }, 17) => "start without room",
+            (Call::Start { .. }, _) => "start refused",
+            (Call::Reset(_), 0) => "list begun by a reset",
+            (Call::Reset(_), 17) => "reset without room",
+            (Call::Block { .. } | Call::Night { .. }, number) => match number {
+                9 if !list.is_good(record.count) => "listing refused",
+                9 => "record refused",
+                0 if begun > 1 => "runs begun",
+                0 if after.left > list.left && after.rows as usize == MOST_ROWS => "list is full",
+                0 if after.left > list.left => "run left out",
+                0 if after.rows > list.rows => "run begun",
+                0 if left.lent.store != lent.store => "row goes on",
+                0 if after.place != NO_PLACE && out_of_store => "row out of store",
+                0 => "nothing to list",
+                1 => "block given again",
+                _ => "block or night refused",
+            },
+            _ => continue,
         };
-        let left = made(&bytes, &call);
-        let [rows, missing, place, _] = left.listing;
-        let runs = |rows: u32, left: u32| u64::from(rows) + u64::from(left);
-        let begun = runs(rows, missing).saturating_sub(runs(listing.rows, listing.left));
-        let what = match (&**plain, left.number) {
-            (Call::Start(..), 0) => "list begun by a start",
-            (Call::Start(..), 17) => "start without room",
-            (Call::Start(..), _) => "start refused",
-            (Call::Reset, 0) => "list begun by a reset",
-            (Call::Reset, 17) => "reset without room",
-            (_, 9) if Record::of_bytes(&bytes).is_good() => "listing refused",
-            (_, 9) => "record refused",
-            (_, 0) if begun > 1 => "runs begun",
-            (_, 0) if missing > listing.left && rows as usize == MOST_ROWS => "list is full",
-            (_, 0) if missing > listing.left => "run left out",
-            (_, 0) if rows > listing.rows => "run begun",
-            (_, 0) if left.store != *store => "row goes on",
-            (_, 0) if place != NO_PLACE && place as usize >= room(store.len()) => {
-                "row out of store"
-            }
-            (_, 0) => "nothing to list",
-            (_, 1) => "block given again",
-            _ => "block or night refused",
-        };
-        let same = left.listing == listing.words() && left.store == *store;
-        assert!(
-            same || left.number == 0 || matches!(**plain, Call::Night { .. } | Call::Start(..))
-        );
+        let same = after == list && left.lent.store == lent.store;
+        let may_move = matches!(call, Call::Start { .. } | Call::Night { .. });
+        assert!(same || left.answer.number == 0 || may_move);
         *met.entry(what).or_default() += 1;
     }
     assert_eq!(met.len(), 16, "{met:?}");

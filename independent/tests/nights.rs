@@ -1,10 +1,10 @@
 //! A night's blocks in one call are the single calls one by one; what refuses it,
 //! and what it then leaves.
 
-use independent::choir::Choir;
+use independent::calls::{made, Answered, Call, Left, Lent};
 use independent::generator::cases::{sung, Cases};
 use independent::night::Night;
-use independent::record::{made, over_a_good_record, Call, Left};
+use independent::record::Record;
 use independent::settings::Settings;
 use independent::statistics::Statistics;
 use independent::table::CD;
@@ -34,18 +34,12 @@ fn block(tuner: &mut Tuner, number: u16, samples: &[i16]) -> (Answer, Counts, Ve
     (answer, counts, output)
 }
 
-fn plus(sum: Counts, more: Counts) -> Counts {
-    Counts {
-        written: sum.written + more.written,
-        repeated: sum.repeated + more.repeated,
-        dropped: sum.dropped + more.dropped,
-    }
-}
-
 const NOTHING: Counts = Counts {
     written: 0,
     repeated: 0,
     dropped: 0,
+    pitched: 0,
+    strayed: 0,
 };
 
 /// The answer to a night in which all was taken, or given again.
@@ -75,7 +69,7 @@ fn singly(sung: &[i16], size: usize) -> (Tuner, Vec<i16>, Counts) {
         let (answer, counts, written) = block(&mut tuner, number, samples);
         assert_eq!(answer, Answer::Taken);
         out.extend(written);
-        sum = plus(sum, counts);
+        sum = sum.plus(counts);
     }
     (tuner, out, sum)
 }
@@ -155,7 +149,7 @@ fn a_first_block_sent_again_is_given_again_and_the_rest_go_on() {
         for (number, samples) in (number + 1..).zip(sung[3_000..4_001].chunks(length)) {
             let (answer, counts, written) = block(&mut alone, number, samples);
             assert_eq!(answer, Answer::Taken);
-            (sum, blocks) = (plus(sum, counts), blocks + 1);
+            (sum, blocks) = (sum.plus(counts), blocks + 1);
             rest.extend(written);
         }
         let (left, out) = night(&mut tuner, number, length, &on, on.len());
@@ -223,55 +217,32 @@ fn numbers_wrap_within_a_night() {
     assert_eq!(block(&mut tuner, 2, &[5]).0, Answer::GivenAgain);
 }
 
-/// A night over a record, with voices or without, that is refused before its
-/// first block.
+/// A night over a record that is refused before its first block.
 fn untouched(bytes: &[u8], call: &Call, number: u32) -> Left {
-    let mut left = Left {
-        number,
+    let list = Record::of_bytes(bytes).list;
+    Left {
+        answer: Answered {
+            number,
+            list: [list.rows, list.left],
+            ..Answered::default()
+        },
         record: bytes.to_vec(),
+        lent: call.lent(),
         ..Left::default()
-    };
-    if let Call::Night { out, .. } = call.plain() {
-        left.out.clone_from(out);
     }
-    if let Call::Voiced { voices, store, .. } = call {
-        let list = Choir::of_bytes(bytes).list;
-        left.list = [list.rows, list.left];
-        (left.voices, left.store) = (voices.clone(), store.clone());
-    }
-    left
 }
 
 /// The call whose outputs begin where those of the night go on.
-fn going_on(call: &Call, left: &Left, from: usize, number: u16, samples: &[i16]) -> Call {
+fn going_on(left: &Left, from: usize, number: u16, samples: &[i16]) -> Call {
     let part = |output: &Vec<i16>| output.get(from..).unwrap_or(&[]).to_vec();
-    let block = Call::Block {
+    Call::Block {
         number,
         samples: samples.to_vec(),
-        out: part(&left.out),
-    };
-    match call {
-        Call::Voiced { .. } => Call::Voiced {
-            intervals: vec![],
-            voices: left.voices.each_ref().map(part),
-            store: left.store.clone(),
-            call: Box::new(block),
+        lent: Lent {
+            outs: left.lent.outs.each_ref().map(part),
+            store: left.lent.store.clone(),
         },
-        _ => block,
     }
-}
-
-/// Every output of lead and chosen voices is as long as the recording.
-fn have_room(bytes: &[u8], call: &Call, length: usize) -> bool {
-    let voices = match call {
-        Call::Voiced { voices, .. } => &voices[..Choir::of_bytes(bytes).chosen()],
-        _ => &[],
-    };
-    let Call::Night { out, .. } = call.plain() else {
-        return false;
-    };
-    let mut outputs = voices.iter().chain([out]);
-    outputs.all(|output| output.len() >= length)
 }
 
 /// What the single calls over the record leave, one after the other; nothing where the night is refused before them.
@@ -280,36 +251,37 @@ fn one_by_one(bytes: &[u8], call: &Call) -> Option<Left> {
         first,
         size,
         samples,
-        ..
-    } = call.plain()
+        lent,
+    } = call
     else {
         return None;
     };
-    let good = over_a_good_record(bytes, call);
-    if !good || !(1..=512).contains(size) || !have_room(bytes, call, samples.len()) {
+    let record = Record::of_bytes(bytes);
+    let mut outputs = lent.outs[..=record.chosen()].iter();
+    let have_room = outputs.all(|output| output.len() >= samples.len());
+    if !record.is_good() || !(1..=512).contains(size) || !have_room {
         return None;
     }
     let mut left = untouched(bytes, call, 0);
     let (size, mut number) = (*size as usize, *first);
     for (place, samples) in samples.chunks(size).enumerate() {
         let from = place * size;
-        let block = going_on(call, &left, from, number, samples);
-        let after = made(&left.record, &block);
-        (left.record, left.list, left.store) = (after.record, after.list, after.store);
-        left.out.splice(from.., after.out);
-        for (output, given) in left.voices.iter_mut().zip(after.voices) {
+        let after = made(&left.record, &going_on(&left, from, number, samples));
+        (left.record, left.lent.store) = (after.record, after.lent.store);
+        left.answer.list = after.answer.list;
+        for (output, given) in left.lent.outs.iter_mut().zip(after.lent.outs) {
             output.splice(from.min(output.len()).., given);
         }
-        match after.number {
+        match after.answer.number {
             0 => {
-                left.sums[0] += 1;
-                for (sum, count) in left.sums[1..].iter_mut().zip(after.counts) {
-                    *sum += u64::from(count);
-                }
+                left.taken += 1;
+                let sums = left.answer.counts.iter_mut();
+                sums.zip(after.answer.counts)
+                    .for_each(|(sum, count)| *sum += count);
             }
-            1 => left.again = (1, after.counts),
+            1 => left.again = after.answer,
             refusal => {
-                (left.number, left.refused) = (refusal, number);
+                (left.answer.number, left.refused) = (refusal, number);
                 return Some(left);
             }
         }
@@ -321,7 +293,7 @@ fn one_by_one(bytes: &[u8], call: &Call) -> Option<Left> {
 /// Over records of every sort a night leaves what the single calls leave, and the cases go through all that can happen to one.
 #[test]
 fn nights_over_records_are_the_single_calls() {
-    let met = met_by_nights(20_261_115, 20_000, |call| call == call.plain());
+    let met = met_by_nights(20_261_115, 25_000, |record| record.chosen == 0);
     assert_eq!(met.len(), 16, "{met:?}");
     assert!(met.values().all(|&times| times > 5), "{met:?}");
 }
@@ -329,8 +301,7 @@ fn nights_over_records_are_the_single_calls() {
 /// So does one over records with voices.
 #[test]
 fn nights_with_voices_are_the_single_calls() {
-    let with_voices = |call: &Call| matches!(call, Call::Voiced { .. });
-    let met = met_by_nights(20_261_116, 20_000, with_voices);
+    let met = met_by_nights(20_261_116, 25_000, |record| record.chosen > 0);
     assert_eq!(met.len(), 16, "{met:?}");
 }
 
@@ -339,7 +310,7 @@ fn nights_with_voices_are_the_single_calls() {
 fn met_by_nights(
     seed: u64,
     cases: usize,
-    sort: impl Fn(&Call) -> bool,
+    sort: impl Fn(&Record) -> bool,
 ) -> BTreeMap<&'static str, usize> {
     let mut source = Cases::seeded(seed);
     let mut met: BTreeMap<&str, usize> = BTreeMap::new();
@@ -350,19 +321,20 @@ fn met_by_nights(
             size,
             samples,
             ..
-        } = call.plain()
+        } = &call
         else {
             continue;
         };
-        if !sort(&call) {
+        if !sort(&Record::of_bytes(&bytes)) {
             continue;
         }
         let left = made(&bytes, &call);
         let Some(right) = one_by_one(&bytes, &call) else {
-            assert!([3, 4, 9].contains(&left.number), "case {case}: {call:?}");
-            let untouched = untouched(&bytes, &call, left.number);
+            let number = left.answer.number;
+            assert!([3, 4, 9].contains(&number), "case {case}: {call:?}");
+            let untouched = untouched(&bytes, &call, number);
             assert_eq!(left, untouched, "case {case}: {call:?}");
-            let what = match left.number {
+            let what = match number {
                 9 => "record",
                 3 => "length",
                 _ => "room",
@@ -371,25 +343,23 @@ fn met_by_nights(
             continue;
         };
         assert_eq!(left, right, "case {case}: {call:?}");
-        let [taken, written, repeated, dropped] = left.sums;
-        let again = left.again.0 == 1;
+        let [written, repeated, dropped, ..] = left.answer.counts;
+        let (number, taken) = (left.answer.number, left.taken);
+        let again = left.again.number == 1;
         let last_number = first.wrapping_add((taken + u64::from(again)) as u16);
         let what = [
             ("empty", samples.is_empty()),
-            ("several taken", taken > 1 && left.number == 0),
-            ("given again alone", again && taken == 0 && left.number == 0),
+            ("several taken", taken > 1 && number == 0),
+            ("given again alone", again && taken == 0 && number == 0),
             ("given again, then taken", again && taken > 1),
-            ("number", left.number == 5),
-            ("other samples", left.number == 6),
-            ("full at once", left.number == 7 && taken == 0 && !again),
-            ("full in the middle", left.number == 7 && taken > 1),
-            (
-                "given again, then full",
-                left.number == 7 && taken == 0 && again,
-            ),
+            ("number", number == 5),
+            ("other samples", number == 6),
+            ("full at once", number == 7 && taken == 0 && !again),
+            ("full in the middle", number == 7 && taken > 1),
+            ("given again, then full", number == 7 && taken == 0 && again),
             (
                 "short last block",
-                left.number == 0 && taken > 1 && written % size > 0,
+                number == 0 && taken > 1 && written % size > 0,
             ),
             ("wrapped", taken > 1 && last_number < *first),
             ("cycles repeated", repeated > 1),

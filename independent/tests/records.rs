@@ -1,11 +1,12 @@
 //! A take played over a record's bytes is the take played by the tuner, and a
 //! record out of range is refused by every call that reads it.
 
+use independent::calls::{made, Call};
 use independent::generator::cases::Cases;
 use independent::generator::edges::{
     calls_over, choices, edges, fresh_of_version_2, BEGINNING_OF_OLD,
 };
-use independent::record::{made, Call, Record};
+use independent::record::Record;
 use independent::settings::Settings;
 use independent::statistics::Statistics;
 use independent::table::{CD, FILM};
@@ -28,16 +29,15 @@ fn assert_is_the_tuner_s(hertz: u32) {
     let mut pitched = 0;
     for (number, samples) in (0..).zip(sung.chunks(173)) {
         let mut out = vec![7; samples.len() + 1];
-        let call = Call::Block {
-            number,
-            samples: samples.to_vec(),
-            out: out.clone(),
-        };
+        let call = Call::block(number, samples, out.clone());
         let left = made(&bytes, &call);
         let (answer, counts) = tuner.block(number, samples, &mut out, &mut Statistics::default());
-        assert_eq!(left.number as usize, answer.number());
-        assert_eq!(usize::from(left.counts[1]), counts.repeated);
-        assert_eq!(left.out, out, "block {number}");
+        assert_eq!(left.answer.number as usize, answer.number());
+        let [_, repeated, _, pitched_samples, strayed] = left.answer.counts;
+        assert_eq!(repeated as usize, counts.repeated);
+        let figures = (counts.pitched as u64, counts.strayed);
+        assert_eq!((pitched_samples, strayed), figures);
+        assert_eq!(left.lent.outs[0], out, "block {number}");
         bytes = left.record;
         assert!(Record::of_bytes(&bytes).is_good());
         assert_eq!(Record::of_bytes(&bytes).bytes(), bytes);
@@ -64,11 +64,9 @@ fn records_are_good_up_to_the_edges() {
         assert!(Record::of_bytes(&bytes) == record);
         for call in calls_over(&record) {
             let left = made(&bytes, &call);
-            let refused = left.number == 9 || left.state == 9;
+            let refused = left.answer.number == 9 || left.state == 9;
             assert_eq!(refused, !good, "record {place}, {call:?}");
-            if let (Call::Block { out, .. } | Call::Night { out, .. }, true) = (&call, refused) {
-                assert_eq!(&left.out, out);
-            }
+            assert!(good || left.lent == call.lent());
             assert!(good || left.record == bytes, "record {place}, {call:?}");
         }
     }
@@ -82,18 +80,19 @@ fn refused_settings_over_a_record() {
     for (record, call) in choices() {
         let left = made(&record.bytes(), &call);
         let (refused, hertz) = match &call {
-            Call::Start(hertz, _) => (Record::default_start(), *hertz),
+            Call::Start { hertz, .. } => (Record::default_start(), *hertz),
             _ => (record, FILM),
         };
-        assert_eq!(left.number > 0, left.record == refused.bytes(), "{call:?}");
+        let number = left.answer.number;
+        assert_eq!(number > 0, left.record == refused.bytes(), "{call:?}");
         let after = Record::of_bytes(&left.record);
-        let right = if left.number > 0 {
+        let right = if number > 0 {
             refused.hertz
         } else {
             hertz.into()
         };
         assert_eq!(after.hertz, right, "{call:?}");
-        numbers.insert(left.number);
+        numbers.insert(number);
     }
     assert_eq!(Vec::from_iter(numbers), [0, 8, 11, 12, 13, 14, 15, 16]);
 }
@@ -103,8 +102,8 @@ fn refused_settings_over_a_record() {
 fn the_place_of_the_rate() {
     let bytes = Record::fresh(FILM, Settings::DEFAULT).bytes();
     assert_eq!(bytes[32..40], 48_000u64.to_le_bytes());
-    assert_eq!(bytes[..8], 20_006u64.to_le_bytes());
-    assert_eq!(bytes.len(), 6_976);
+    assert_eq!(bytes[..8], 40_000u64.to_le_bytes());
+    assert_eq!(bytes.len(), 10_104);
     let other = Record::fresh(CD, Settings::DEFAULT).bytes();
     assert_eq!(bytes[..32], other[..32]);
     assert_eq!(bytes[40..], other[40..]);
@@ -117,11 +116,11 @@ fn records_of_older_versions_are_refused() {
     assert_eq!(bytes[..8], BEGINNING_OF_OLD.to_le_bytes());
     for call in calls_over(&Record::default_start()) {
         let left = made(&bytes, &call);
-        assert!(left.number == 9 || left.state == 9, "{call:?}");
+        assert!(left.answer.number == 9 || left.state == 9, "{call:?}");
         assert!(left.record == bytes, "{call:?}");
     }
     let left = made(&bytes, &Call::StartDefault);
-    assert_eq!(left.number, 0);
+    assert_eq!(left.answer.number, 0);
     assert_eq!(left.record, Record::default_start().bytes());
 }
 
@@ -141,9 +140,9 @@ fn calls_over_records_meet_something_kept() {
         let left = made(&bytes, &call);
         let after = Record::of_bytes(&left.record);
         let moved = (after.rate, after.kept) != (record.rate, record.kept);
-        let what = match (&call, left.number) {
-            (Call::Start(..) | Call::StartDefault, 0) => "start",
-            (Call::Reset, 0) => "reset",
+        let what = match (&call, left.answer.number) {
+            (Call::Start { .. } | Call::StartDefault, 0) => "start",
+            (Call::Reset(_), 0) => "reset",
             (Call::Change(to), 0) if to.decay != record.settings.decay => "change of decay",
             (Call::Midi(_), 0) if after.key != record.key => "key",
             (Call::Block { .. }, 0) => match (record.tracking, after.tracking) {

@@ -317,9 +317,7 @@ fn play(ensemble: &mut Ensemble, take: &[i16], size: usize) -> Given {
     for (place, samples) in take.chunks(size).enumerate() {
         let (answer, given) = block(ensemble, place as u16, samples);
         assert_eq!(answer, Answer::Taken);
-        all.counts.written += given.counts.written;
-        all.counts.repeated += given.counts.repeated;
-        all.counts.dropped += given.counts.dropped;
+        all.counts = all.counts.plus(given.counts);
         all.lead.extend(given.lead);
         for (voice, more) in all.voices.iter_mut().zip(given.voices) {
             voice.extend(more);

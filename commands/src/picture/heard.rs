@@ -7,9 +7,8 @@ use crate::octave::{held, Held, ALL};
 use crate::rows::{rows, Listed, Row};
 use crate::song::{Played, Song};
 use crate::source::Source;
-use crate::tune::latency;
-use crate::{settings, started};
-use daxfolin::choir::Choir;
+use crate::settings;
+use crate::tune::{latency, starts};
 use daxfolin::wave;
 use daxfolin::{Meter, Settings, CD, LONGEST_BLOCK, TAKEN};
 use std::ops::RangeInclusive;
@@ -139,8 +138,7 @@ impl Started {
         };
         let voices = how.voices.clone();
         // the lead is the same without voices, and these are only asked for
-        let answer = Choir::default().start(take.hertz, wanted, &voices, &[]);
-        started(answer.answer.number)?;
+        starts(take.hertz, wanted, &voices)?;
         let tuner = Listed::start(take.hertz, wanted).map_err(|number| source.refused(number))?;
         Ok(Started {
             take,

@@ -4,7 +4,7 @@
 use commands::delivery::{Delivery, Part};
 use commands::midi::Key;
 use commands::rows::{Listed, Row};
-use daxfolin::{Meter, Record, Settings, LONGEST_BLOCK, TAKEN};
+use daxfolin::{Meter, Settings, Tuner, LONGEST_BLOCK, TAKEN};
 use independent::generator::random::Random;
 use std::convert::Infallible;
 use std::f64::consts::TAU;
@@ -107,7 +107,7 @@ pub fn tuned(take: &[i16], hertz: u32, settings: Settings, keys: &[Key]) -> (Vec
 
 /// What the meter shows after each block of a take with a line, where there is a pitch: period and wanted period.
 pub fn pitches(take: &[i16], hertz: u32, settings: Settings, keys: &[Key]) -> Vec<(f32, f32)> {
-    let (number, mut tuner) = Record::start(hertz, settings);
+    let (number, mut tuner) = Tuner::start_plain(hertz, settings);
     assert_eq!(number, TAKEN);
     let mut shown = Vec::new();
     play(take, keys, |part| {

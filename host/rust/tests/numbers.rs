@@ -1,9 +1,8 @@
 //! The words of numbers, in the places where the constants of the calls have them.
 
-use daxfolin::choir::TOO_MANY_VOICES;
 use daxfolin::smf::TRACK_TOO_LONG;
 use daxfolin::wave::{FILE_TOO_LONG, NOT_RIFF_WAVE, RUNS_PAST};
-use daxfolin::{remedy, words, DECAY_OUT_OF_RANGE, TAKEN, TAKE_FULL};
+use daxfolin::{remedy, words, DECAY_OUT_OF_RANGE, TAKEN, TAKE_FULL, TOO_MANY_VOICES};
 
 #[test]
 fn each_number_has_words() {

@@ -1,26 +1,27 @@
-//! Calls over records, with voices and without, good, damaged, of other layouts
-//! and of any bytes, compared with the independent program: 9 and nothing
-//! changed, or the right answer; guards around every buffer stay as they were.
+//! Calls over tuners, with a list, with voices and without, good, damaged, of
+//! other layouts and of any bytes, compared with the independent program: 9 and
+//! nothing changed, or the right answer; guards around every buffer stay as they
+//! were.
 //! DAXFOLIN_CASES says how many calls, DAXFOLIN_SEED which.
 
 mod lent;
 mod theirs;
 
 use daxfolin::{
-    cut, Answer, Listing, Meter, Record, Settings, CD, CHANNEL_OUT_OF_RANGE, DECAY_OUT_OF_RANGE,
+    cut, no_voices, Answer, Meter, Settings, Tuner, CD, CHANNEL_OUT_OF_RANGE, DECAY_OUT_OF_RANGE,
     EPS_OUT_OF_RANGE, FILM, FLOOR_OUT_OF_RANGE, KEYBOARD_MODE, LAYOUT, MODE_UNKNOWN, RATE_UNKNOWN,
     RECORD_OUT_OF_RANGE, SCALE_OUT_OF_RANGE, TAKEN,
 };
+use independent::calls::{made, Call};
 use independent::generator::cases::Cases;
 use independent::generator::edges::fresh_of_version_2;
-use independent::record::{made, Call};
 use lent::left_by;
 
 /// What an output holds before a call.
 const FILL: i16 = -23_131;
 
 #[test]
-fn calls_over_any_record_are_the_independent_program_s() {
+fn calls_over_any_tuner_are_the_independent_program_s() {
     let told = |name, unless| std::env::var(name).map_or(unless, |n| n.parse().unwrap());
     let cases = told("DAXFOLIN_CASES", 1_000_000);
     let mut source = Cases::seeded(told("DAXFOLIN_SEED", 20_261_115));
@@ -38,56 +39,56 @@ fn calls_over_any_record_are_the_independent_program_s() {
     }
 }
 
-/// Every call over it is answered 9, and leaves it and the output; a start asks nothing of it.
-fn is_of_another_layout(bytes: &[u8; Record::SIZE]) {
-    let mut record = Record::from_bytes(bytes);
-    assert_ne!(record.layout(), LAYOUT);
-    let mut out = [FILL; 8];
-    let answer = record.block(0, &[1, 2, 3], &mut out);
+/// Every call over it is answered 9, and leaves it, the output and the store; a start asks nothing of it.
+fn is_of_another_layout(bytes: &[u8; Tuner::SIZE]) {
+    let mut tuner = Tuner::from_bytes(bytes);
+    assert_ne!(tuner.layout(), LAYOUT);
+    let (mut out, mut store) = ([FILL; 8], [7; 3]);
+    let answer = tuner.block(0, &[1, 2, 3], &mut out);
     let refused = Answer {
         number: RECORD_OUT_OF_RANGE,
-        written: 0,
-        repeated: 0,
-        dropped: 0,
+        // What stands there.
+        rows: u32::from_le_bytes(bytes[248..252].try_into().unwrap()),
+        left: u32::from_le_bytes(bytes[252..256].try_into().unwrap()),
+        ..Answer::default()
     };
     assert_eq!((answer, out), (refused, [FILL; 8]));
     for size in [0, 2] {
-        let night = record.night(0, size, &[1, 2, 3], &mut out);
+        let night = tuner.night_with(0, size, &[1, 2, 3], &mut out, no_voices(), &mut store);
         assert_eq!((night.number, night.taken), (RECORD_OUT_OF_RANGE, 0));
-        assert_eq!(out, [FILL; 8]);
+        assert_eq!((out, store), ([FILL; 8], [7; 3]));
     }
-    assert_eq!(record.change(Settings::default()), RECORD_OUT_OF_RANGE);
+    assert_eq!(tuner.change(Settings::default()), RECORD_OUT_OF_RANGE);
     let scale_0 = Settings {
         scale: 0,
         ..Settings::default()
     };
-    assert_eq!(record.change(scale_0), RECORD_OUT_OF_RANGE);
-    assert_eq!(record.midi(&[]), RECORD_OUT_OF_RANGE);
-    assert_eq!(record.midi(&[144, 60, 100]), RECORD_OUT_OF_RANGE);
-    assert_eq!(record.reset(), RECORD_OUT_OF_RANGE);
-    let (mut list, mut store) = (Listing::default(), [7; 3]);
-    let with_list = record.list_block(&mut list, 0, &[1, 2, 3], &mut out, &mut store);
-    assert_eq!((with_list.answer, out), (refused, [FILL; 8]));
-    assert_eq!(record.list_reset(&mut list, &store).answer, refused);
-    let night = record.list_night(&mut list, 0, 0, &[1, 2, 3], &mut out, &mut store);
-    assert_eq!((night.night.number, out), (RECORD_OUT_OF_RANGE, [FILL; 8]));
-    assert_eq!((list, store), (Listing::default(), [7; 3]));
-    assert_eq!(record.meter(), Meter::Refused);
-    assert!(&record.to_bytes() == bytes, "the record was touched");
-    assert_eq!(Record::start_default(), (TAKEN, Record::default()));
+    assert_eq!(tuner.change(scale_0), RECORD_OUT_OF_RANGE);
+    assert_eq!(tuner.midi(&[]), RECORD_OUT_OF_RANGE);
+    assert_eq!(tuner.midi(&[144, 60, 100]), RECORD_OUT_OF_RANGE);
+    assert_eq!(tuner.reset(&[]), RECORD_OUT_OF_RANGE);
+    let with_list = tuner.block_with(0, &[1, 2, 3], &mut out, no_voices(), &mut store);
+    assert_eq!((with_list, out), (refused, [FILL; 8]));
+    assert_eq!((tuner.reset(&store), store), (RECORD_OUT_OF_RANGE, [7; 3]));
+    assert_eq!(tuner.meter(), Meter::Refused);
+    assert!(&tuner.to_bytes() == bytes, "the tuner was touched");
+    assert_eq!(Tuner::start_default(), (TAKEN, Tuner::default()));
 }
 
 #[test]
-fn a_record_of_another_layout_is_refused() {
-    let mut record = Record::default();
-    record.block(0, &[1_000, -1_000, 500], &mut [0; 3]);
-    assert_eq!(record.layout(), LAYOUT);
-    let good = record.to_bytes();
+fn a_tuner_of_another_layout_is_refused() {
+    let mut tuner = Tuner::default();
+    tuner.block(0, &[1_000, -1_000, 500], &mut [0; 3]);
+    assert_eq!(tuner.layout(), LAYOUT);
+    let good = tuner.to_bytes();
     for layout in [
         0,
         1,
         2,
         3,
+        // Those of the tuners without voices and with them that there were before.
+        20_006,
+        30_001,
         LAYOUT - 1,
         LAYOUT + 1,
         LAYOUT | 1 << 32,
@@ -103,7 +104,7 @@ fn a_record_of_another_layout_is_refused() {
     is_of_another_layout(&old);
 }
 
-/// The first bad setting is named: a start hands back the default tuner, a change leaves the record. An unknown rate is named before all.
+/// The first bad setting is named: a start hands back the default tuner, a change leaves the tuner. An unknown rate is named before all.
 #[test]
 fn each_setting_has_its_own_refusal() {
     let refused = [
@@ -124,15 +125,18 @@ fn each_setting_has_its_own_refusal() {
             channel,
         };
         for hertz in [CD, FILM] {
-            assert_eq!(Record::start(hertz, settings), (number, Record::default()));
+            assert_eq!(
+                Tuner::start_plain(hertz, settings),
+                (number, Tuner::default())
+            );
         }
-        let refused = (RATE_UNKNOWN, Record::default());
-        assert_eq!(Record::start(CD + 1, settings), refused);
-        let mut record = Record::default();
-        record.block(0, &[1_000, -1_000, 500], &mut [0; 3]);
-        let before = record.clone();
-        assert_eq!(record.change(settings), number);
-        assert_eq!(record, before);
+        let refused = (RATE_UNKNOWN, Tuner::default());
+        assert_eq!(Tuner::start_plain(CD + 1, settings), refused);
+        let mut tuner = Tuner::default();
+        tuner.block(0, &[1_000, -1_000, 500], &mut [0; 3]);
+        let before = tuner.clone();
+        assert_eq!(tuner.change(settings), number);
+        assert_eq!(tuner, before);
     }
 }
 
@@ -144,21 +148,21 @@ fn bytes_of_a_keyboard() {
         channel,
         ..Settings::default()
     };
-    let fresh = |mode, channel| Record::start(CD, settings(mode, channel)).1;
-    let mut record = Record::default();
-    assert_eq!(record.midi(&[]), TAKEN);
-    assert_eq!(record, Record::default());
-    assert_eq!(record.midi(&[144, 60, 100, 62]), TAKEN);
+    let fresh = |mode, channel| Tuner::start_plain(CD, settings(mode, channel)).1;
+    let mut tuner = Tuner::default();
+    assert_eq!(tuner.midi(&[]), TAKEN);
+    assert_eq!(tuner, Tuner::default());
+    assert_eq!(tuner.midi(&[144, 60, 100, 62]), TAKEN);
     let (mut at_once, mut in_two) = (fresh(KEYBOARD_MODE, 0), fresh(KEYBOARD_MODE, 0));
     at_once.midi(&[144, 60, 100, 62]);
     in_two.midi(&[144, 60]);
     in_two.midi(&[100, 62]);
-    assert_eq!(record.change(settings(KEYBOARD_MODE, 0)), TAKEN);
-    assert!(record == at_once && record == in_two);
-    assert_ne!(record, fresh(KEYBOARD_MODE, 0));
-    assert_eq!(record.change(settings(KEYBOARD_MODE, 1)), TAKEN);
-    assert_eq!(record, fresh(KEYBOARD_MODE, 1));
-    assert_eq!(at_once.reset(), TAKEN);
+    assert_eq!(tuner.change(settings(KEYBOARD_MODE, 0)), TAKEN);
+    assert!(tuner == at_once && tuner == in_two);
+    assert_ne!(tuner, fresh(KEYBOARD_MODE, 0));
+    assert_eq!(tuner.change(settings(KEYBOARD_MODE, 1)), TAKEN);
+    assert_eq!(tuner, fresh(KEYBOARD_MODE, 1));
+    assert_eq!(at_once.reset(&[]), TAKEN);
     assert_eq!(at_once, fresh(KEYBOARD_MODE, 0));
 }
 
@@ -170,22 +174,22 @@ fn a_rate_is_a_start_s_alone() {
         scale: 1,
         ..settings
     };
-    assert_eq!(Record::start(CD, settings), (TAKEN, Record::default()));
-    let (number, film) = Record::start(FILM, settings);
+    assert_eq!(Tuner::start_plain(CD, settings), (TAKEN, Tuner::default()));
+    let (number, film) = Tuner::start_plain(FILM, settings);
     assert_eq!(number, TAKEN);
-    assert_ne!(film, Record::default());
+    assert_ne!(film, Tuner::default());
     for hertz in [0, 44_099, 44_101, 47_999, 48_001, 96_000, u32::MAX] {
-        let refused = (RATE_UNKNOWN, Record::default());
-        assert_eq!(Record::start(hertz, settings), refused);
+        let refused = (RATE_UNKNOWN, Tuner::default());
+        assert_eq!(Tuner::start_plain(hertz, settings), refused);
     }
-    let mut record = film.clone();
-    assert_eq!(record.change(other), TAKEN);
-    assert_eq!(record, Record::start(FILM, other).1);
-    assert_eq!(record.midi(&[144, 60, 100]), TAKEN);
-    assert_eq!(record.block(0, &[1, 2, 3], &mut [0; 3]).number, TAKEN);
-    assert_eq!(record.reset(), TAKEN);
-    assert_eq!(record.change(settings), TAKEN);
-    assert_eq!(record, film);
+    let mut tuner = film.clone();
+    assert_eq!(tuner.change(other), TAKEN);
+    assert_eq!(tuner, Tuner::start_plain(FILM, other).1);
+    assert_eq!(tuner.midi(&[144, 60, 100]), TAKEN);
+    assert_eq!(tuner.block(0, &[1, 2, 3], &mut [0; 3]).number, TAKEN);
+    assert_eq!(tuner.reset(&[]), TAKEN);
+    assert_eq!(tuner.change(settings), TAKEN);
+    assert_eq!(tuner, film);
 }
 
 /// A square wave of 96 samples is drawn to note 70 at 44,100, and to note 71 at 48,000. In keyboard mode key 32 is in the table of 44,100
@@ -197,15 +201,15 @@ fn each_rate_has_its_own_table() {
         ..Settings::default()
     };
     for (hertz, note, key_32, key_102) in [(CD, 24_218, 217_471, 0), (FILM, 24_880, 0, 4_151)] {
-        let mut record = Record::start(hertz, Settings::default()).1;
+        let mut tuner = Tuner::start_plain(hertz, Settings::default()).1;
         let mut wanted = |number: u16, key: &[u8]| {
             if !key.is_empty() {
-                assert_eq!(record.change(settings), TAKEN);
-                assert_eq!(record.midi(key), TAKEN);
+                assert_eq!(tuner.change(settings), TAKEN);
+                assert_eq!(tuner.midi(key), TAKEN);
             }
             let samples: Vec<i16> = (0..480).map(|at| 9_000 * (at / 48 % 2) - 4_500).collect();
-            assert_eq!(record.block(number, &samples, &mut [0; 480]).number, TAKEN);
-            match record.meter() {
+            assert_eq!(tuner.block(number, &samples, &mut [0; 480]).number, TAKEN);
+            match tuner.meter() {
                 Meter::Pitched { wanted, .. } => (256.0 * wanted) as u32,
                 _ => 0,
             }
@@ -220,23 +224,26 @@ fn each_rate_has_its_own_table() {
 /// A tuner started without settings glides to its goal; at decay 0 it is there at once.
 #[test]
 fn the_default_start_glides() {
-    let first_rate = |mut record: Record| {
+    let first_rate = |mut tuner: Tuner| {
         let samples: Vec<i16> = (0..600).map(|at| 9_000 * (at / 48 % 2) - 4_500).collect();
         (0..).zip(samples.chunks(5)).find_map(|(number, five)| {
-            assert_eq!(record.block(number, five, &mut [0; 5]).number, TAKEN);
-            match record.meter() {
+            assert_eq!(tuner.block(number, five, &mut [0; 5]).number, TAKEN);
+            match tuner.meter() {
                 Meter::Pitched { rate, .. } => Some(rate * 65_536.0),
                 _ => None,
             }
         })
     };
     assert_eq!(Settings::default().decay, 230);
-    assert_eq!(first_rate(Record::default()), Some(65_634.0));
+    assert_eq!(first_rate(Tuner::default()), Some(65_634.0));
     let at_once = Settings {
         decay: 0,
         ..Settings::default()
     };
-    assert_eq!(first_rate(Record::start(CD, at_once).1), Some(66_505.0));
+    assert_eq!(
+        first_rate(Tuner::start_plain(CD, at_once).1),
+        Some(66_505.0)
+    );
 }
 
 /// A held note that is flat: at the highest decay too the rate comes all the way up, and stays there.
@@ -261,15 +268,15 @@ fn a_held_note_reaches_its_goal() {
         floor: 1,
         ..Settings::default()
     };
-    let (number, mut record) = Record::start(CD, settings);
+    let (number, mut tuner) = Tuner::start_plain(CD, settings);
     assert_eq!(number, TAKEN);
     let mut rates = Vec::new();
     for block in 0..150 {
         let samples: Vec<i16> = (0..100)
             .map(|at| cycle[(100 * usize::from(block) + at) % 608])
             .collect();
-        assert_eq!(record.block(block, &samples, &mut [0; 100]).number, TAKEN);
-        if let Meter::Pitched { rate, .. } = record.meter() {
+        assert_eq!(tuner.block(block, &samples, &mut [0; 100]).number, TAKEN);
+        if let Meter::Pitched { rate, .. } = tuner.meter() {
             rates.push(rate);
         }
     }

@@ -6,8 +6,9 @@
 //! The other program reads calls and writes what they left, as `host/driver.c`
 //! does.
 
+use independent::calls::{made, Answered, Call, Left, Lent};
 use independent::generator::cases::Cases;
-use independent::record::{made, over_a_good_record, Call, Left, Record};
+use independent::record::Record;
 use independent::settings::Settings;
 use independent::words::{words, wrong};
 use std::collections::BTreeMap;
@@ -17,31 +18,20 @@ use std::process::{Command, Stdio};
 const USAGE: &str = "records CASES SEED PROGRAM WORDS..";
 
 /// The bytes of what the other program says before the record.
-const SAID: usize = 136;
+const SAID: usize = 168;
 
-/// The number of the plain call and its name.
-fn plain(call: &Call) -> (u32, &'static str) {
-    match call.plain() {
-        Call::Start(..) => (0, "start"),
+/// The number of a call and its name.
+fn numbered(call: &Call) -> (u32, &'static str) {
+    match call {
+        Call::Start { .. } => (0, "start"),
         Call::StartDefault => (1, "start_default"),
         Call::Change(_) => (2, "change"),
         Call::Block { .. } => (3, "block"),
-        Call::Reset => (4, "reset"),
+        Call::Reset(_) => (4, "reset"),
         Call::Meter => (5, "meter"),
         Call::Cut(..) => (6, "cut"),
         Call::Midi(_) => (8, "midi"),
         Call::Night { .. } => (9, "night"),
-        Call::Listed { .. } | Call::Voiced { .. } => unreachable!("a list has plain calls"),
-    }
-}
-
-/// What a call with a list has more in its number than the plain one and before
-/// its name, and one over a record with voices.
-fn more(call: &Call) -> (u32, &'static str) {
-    match call {
-        Call::Listed { .. } => (16, "list_"),
-        Call::Voiced { .. } => (32, "choir_"),
-        _ => (0, ""),
     }
 }
 
@@ -51,73 +41,49 @@ fn bytes_of<T: Copy, const SIZE: usize>(numbers: &[T], bytes: fn(T) -> [u8; SIZE
 
 /// What is lent beside the record, and what a call is told.
 #[derive(Default)]
-struct Asked<'a> {
+struct Asked {
     number: u32,
     settings: [u32; 6],
+    listed: u32,
     longs: [u64; 2],
-    listing: [u32; 4],
     /// Samples, bytes of a keyboard or intervals: how many, and as bytes.
     length: usize,
     sent: Vec<u8>,
-    /// The outputs of the lead and of the voices.
-    outs: [&'a [i16]; 4],
-    store: &'a [u32],
+    lent: Lent,
 }
 
-impl<'a> Asked<'a> {
-    fn of(call: &'a Call) -> Asked<'a> {
-        let mut asked = Asked::default();
+impl Asked {
+    fn of(call: &Call) -> Asked {
+        let mut asked = Asked {
+            lent: call.lent(),
+            ..Asked::default()
+        };
+        asked.send(call.samples(), i16::to_le_bytes);
         match call {
-            Call::Listed { listing, store, .. } => {
-                (asked.listing, asked.store) = (listing.words(), store);
-            }
-            Call::Voiced {
+            // A start's sample rate stands in the place of a block's number.
+            Call::Start {
+                hertz,
+                settings,
+                listed,
                 intervals,
-                voices: [first, second, third],
-                store,
                 ..
             } => {
+                (asked.number, asked.settings) = (*hertz, in_order(settings));
+                asked.listed = *listed;
                 asked.send(intervals, i32::to_le_bytes);
-                asked.outs = [&[], first, second, third];
-                asked.store = store;
             }
-            _ => {}
-        }
-        asked.tell(call.plain());
-        asked
-    }
-
-    fn tell(&mut self, plain: &'a Call) {
-        match plain {
-            // A start's sample rate stands in the place of a block's number.
-            Call::Start(hertz, settings) => {
-                (self.number, self.settings) = (*hertz, in_order(settings));
-            }
-            Call::Change(settings) => self.settings = in_order(settings),
-            Call::Block {
-                number,
-                samples,
-                out,
-            } => self.play(*number, samples, out),
-            Call::Night {
-                first,
-                size,
-                samples,
-                out,
-            } => {
-                self.play(*first, samples, out);
+            Call::Change(settings) => asked.settings = in_order(settings),
+            Call::Block { number, .. } => asked.number = (*number).into(),
+            Call::Night { first, size, .. } => {
+                asked.number = (*first).into();
                 // The length of its blocks stands in the place of a recording's.
-                self.longs[0] = *size;
+                asked.longs[0] = *size;
             }
-            Call::Cut(length, k) => self.longs = [*length, *k],
-            Call::Midi(bytes) => self.send(bytes, u8::to_le_bytes),
+            Call::Cut(length, k) => asked.longs = [*length, *k],
+            Call::Midi(bytes) => asked.send(bytes, u8::to_le_bytes),
             _ => {}
         }
-    }
-
-    fn play(&mut self, number: u16, samples: &[i16], out: &'a [i16]) {
-        (self.number, self.outs[0]) = (number.into(), out);
-        self.send(samples, i16::to_le_bytes);
+        asked
     }
 
     fn send<T: Copy, const SIZE: usize>(&mut self, numbers: &[T], bytes: fn(T) -> [u8; SIZE]) {
@@ -126,17 +92,23 @@ impl<'a> Asked<'a> {
 
     /// As the other program reads it, around these bytes of a record.
     fn around(&self, record: &[u8], call: u32) -> Vec<u8> {
-        let lengths = [self.length, self.store.len()].map(|length| length as u32);
-        let rooms = self.outs.map(|out| out.len() as u32);
-        let words = [&[call, self.number][..], &lengths, &rooms, &self.settings];
+        let Lent { outs, store } = &self.lent;
+        let lengths = [self.length, store.len()].map(|length| length as u32);
+        let rooms = outs.each_ref().map(|out| out.len() as u32);
+        let words = [
+            &[call, self.number][..],
+            &lengths,
+            &rooms,
+            &self.settings,
+            &[self.listed, 0],
+        ];
         [
             bytes_of(&words.concat(), u32::to_le_bytes),
             bytes_of(&self.longs, u64::to_le_bytes),
-            bytes_of(&self.listing, u32::to_le_bytes),
             record.to_vec(),
             self.sent.clone(),
-            bytes_of(&self.outs.concat(), i16::to_le_bytes),
-            bytes_of(self.store, u32::to_le_bytes),
+            bytes_of(&outs.concat(), i16::to_le_bytes),
+            bytes_of(store, u32::to_le_bytes),
         ]
         .concat()
     }
@@ -154,34 +126,78 @@ fn in_order(settings: &Settings) -> [u32; 6] {
     ]
 }
 
+/// The bytes of what the other program says, by their place.
+struct Said([u8; SAID]);
+
+impl Said {
+    fn some<const SIZE: usize>(&self, at: usize) -> [u8; SIZE] {
+        self.0[at..at + SIZE].try_into().expect("so many bytes")
+    }
+
+    fn half(&self, at: usize) -> u16 {
+        u16::from_le_bytes(self.some(at))
+    }
+
+    fn word(&self, at: usize) -> u32 {
+        u32::from_le_bytes(self.some(at))
+    }
+
+    fn long(&self, at: usize) -> u64 {
+        u64::from_le_bytes(self.some(at))
+    }
+
+    /// `struct daxfolin_answer` at this place.
+    fn answer(&self, at: usize) -> Answered {
+        let [written, repeated, dropped] = [4, 6, 8].map(|more| self.half(at + more).into());
+        let [pitched, strayed] = [12, 16].map(|more| self.word(at + more).into());
+        Answered {
+            number: self.word(at),
+            counts: [written, repeated, dropped, pitched, strayed],
+            list: [20, 24].map(|more| self.word(at + more)),
+        }
+    }
+
+    /// `struct daxfolin_night_answer` at the beginning.
+    fn night(&self) -> Left {
+        Left {
+            answer: Answered {
+                number: self.word(0),
+                counts: [16, 24, 32, 40, 48].map(|at| self.long(at)),
+                list: [84, 88].map(|at| self.word(at)),
+            },
+            refused: self.half(4),
+            taken: self.long(8),
+            again: self.answer(56),
+            ..Left::default()
+        }
+    }
+
+    /// What any other call answers, behind it.
+    fn other(&self) -> Left {
+        Left {
+            answer: self.answer(96),
+            state: self.word(124),
+            figures: [128, 132, 136, 140].map(|at| f32::from_bits(self.word(at))),
+            stretch: [self.long(144), self.long(152)],
+            ..Left::default()
+        }
+    }
+}
+
 /// What the other program says that the call left, as long in every part as what is right, and whether it touched anything else.
-fn said(from: &mut impl Read, right: &Left) -> std::io::Result<(Left, bool)> {
-    let mut bytes = [0; SAID];
-    from.read_exact(&mut bytes)?;
-    let half = |at: usize| u16::from_le_bytes(bytes[at..at + 2].try_into().unwrap());
-    let word = |at: usize| u32::from_le_bytes(bytes[at..at + 4].try_into().unwrap());
-    let long = |at: usize| u64::from_le_bytes(bytes[at..at + 8].try_into().unwrap());
-    let mut left = Left {
-        number: word(0),
-        counts: [4, 8, 12].map(|at| word(at) as u16),
-        state: word(16),
-        figures: [20, 24, 28, 32].map(|at| f32::from_bits(word(at))),
-        stretch: [long(40), long(48)],
-        // `struct daxfolin_night_answer` begins at 56 with its number, which stands at 0 too.
-        refused: half(60),
-        sums: [64, 72, 80, 88].map(long),
-        again: (word(96), [100, 102, 104].map(half)),
-        list: [112, 116].map(word),
-        listing: [120, 124, 128, 132].map(word),
-        ..Left::default()
+fn said(from: &mut impl Read, call: &Call, right: &Left) -> std::io::Result<(Left, bool)> {
+    let mut said = Said([0; SAID]);
+    from.read_exact(&mut said.0)?;
+    let mut left = match call {
+        Call::Night { .. } => said.night(),
+        _ => said.other(),
     };
     left.record = part(from, right.record.len(), |[byte]| byte)?;
-    left.out = part(from, right.out.len(), i16::from_le_bytes)?;
-    for (voice, right) in left.voices.iter_mut().zip(&right.voices) {
-        *voice = part(from, right.len(), i16::from_le_bytes)?;
+    for (out, right) in left.lent.outs.iter_mut().zip(&right.lent.outs) {
+        *out = part(from, right.len(), i16::from_le_bytes)?;
     }
-    left.store = part(from, right.store.len(), u32::from_le_bytes)?;
-    Ok((left, word(36) != 0))
+    left.lent.store = part(from, right.lent.store.len(), u32::from_le_bytes)?;
+    Ok((left, said.long(160) != 0))
 }
 
 /// The next so many numbers.
@@ -212,16 +228,16 @@ fn main() {
         .expect("the other program starts");
     let mut to = other.stdin.take().expect("its standard input");
     let mut from = other.stdout.take().expect("its standard output");
-    let mut seen: BTreeMap<(String, u32), u64> = BTreeMap::new();
+    let mut seen: BTreeMap<(&str, u32), u64> = BTreeMap::new();
     let mut good = 0;
     for case in 0..cases {
         let (bytes, call) = source.case();
         let right = made(&bytes, &call);
-        let ((plain, name), (more, before)) = (plain(&call), more(&call));
-        to.write_all(&Asked::of(&call).around(&bytes, plain + more))
+        let (number, name) = numbered(&call);
+        to.write_all(&Asked::of(&call).around(&bytes, number))
             .expect("the call is sent");
         to.flush().expect("the call is sent");
-        let (left, touched) = said(&mut from, &right).expect("the call is answered");
+        let (left, touched) = said(&mut from, &call, &right).expect("the call is answered");
         assert!(
             !touched,
             "case {case}: something else was touched by {call:?}"
@@ -232,12 +248,12 @@ fn main() {
                 Record::of_bytes(&bytes)
             );
         }
-        let answer = match call.plain() {
+        let answer = match call {
             Call::Meter => right.state,
-            _ => right.number,
+            _ => right.answer.number,
         };
-        *seen.entry((format!("{before}{name}"), answer)).or_default() += 1;
-        good += u64::from(over_a_good_record(&bytes, &call));
+        *seen.entry((name, answer)).or_default() += 1;
+        good += u64::from(Record::of_bytes(&bytes).is_good());
     }
     drop(to);
     assert!(other.wait().expect("the other program ends").success());

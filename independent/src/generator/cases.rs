@@ -1,16 +1,20 @@
 //! Calls over records, good, damaged and of any bytes, with blocks, numbers,
-//! lengths and buffers of every sort; the records at the edges come first. One
-//! in five is over a record with voices.
+//! lengths and buffers of every sort; the records at the edges come first, and
+//! of those behind them each third is one with the next byte damaged, until all
+//! were. Of the others one in five has voices, and two in five have a list.
 
-use super::choirs::{any_choir, choir_choices, reached_by};
 use super::edges::{calls_over, choices, edges, fresh_of_version_2, BEGINNING_OF_OLD};
-use super::lists::{any_listed, list_choices};
+use super::ensembles::{
+    alter_voices, any_intervals, ensemble_choices, reached_by, room, turned_bits, with_intervals,
+};
+use super::lists::{any_length, any_listing, list_choices, start_listed, store, SHORT};
 use super::nights::{any_night, night_choices};
 use super::random::Random;
 use super::sound::{period_of_note, sing, Passage, Wave};
 use super::voices::chosen;
-use crate::choir::Choir;
-use crate::record::{Call, Record, LAYOUT};
+use crate::calls::Call;
+use crate::list::Listing;
+use crate::record::{Record, LAYOUT};
 use crate::rules::{LONGEST_BLOCK, TRACKED};
 use crate::settings::Settings;
 use crate::table::{CD, FILM};
@@ -20,34 +24,27 @@ use crate::tuner::TAKE_LIMIT;
 pub const MOST: usize = 1_024;
 
 pub struct Cases {
-    /// The calls over the records at the edges that are still to come.
-    first: std::vec::IntoIter<(Vec<u8>, Call)>,
+    /// The calls over the records at the edges that are still to come, and those over a record with every byte damaged in turn.
+    first: Box<dyn Iterator<Item = (Vec<u8>, Call)>>,
+    turned: Box<dyn Iterator<Item = (Vec<u8>, Call)>>,
+    /// How many came behind the first.
+    behind: usize,
     random: Random,
-    /// Records with voices that calls from a start left. Their leads are records that the same calls without voices leave.
-    reached: Vec<Choir>,
+    /// Records with voices and a list that calls from a start left. Their leads are those that the same calls without them leave.
+    reached: Vec<Record>,
 }
 
 impl Cases {
     pub fn seeded(seed: u64) -> Cases {
         let mut random = Random::seeded(seed);
-        let mut reached = vec![Choir::fresh(CD, Settings::DEFAULT, &[])];
+        let mut reached = vec![Record::default_start()];
         for _ in 0..40 {
             reach(&mut random, &mut reached);
         }
-        let mut first = Vec::new();
-        for (record, _) in edges() {
-            let calls = calls_over(&record).into_iter();
-            first.extend(calls.map(|call| (record.bytes(), call)));
-        }
-        let choices = choices().into_iter();
-        let choices = choices.chain(night_choices()).chain(list_choices());
-        first.extend(choices.map(|(record, call)| (record.bytes(), call)));
-        let calls = calls_over(&Record::default_start()).into_iter();
-        first.extend(calls.map(|call| (fresh_of_version_2().to_vec(), call)));
-        let choices = choir_choices().into_iter();
-        first.extend(choices.map(|(choir, call)| (choir.bytes(), call)));
         Cases {
-            first: first.into_iter(),
+            first: Box::new(first()),
+            turned: Box::new(turned_bits()),
+            behind: 0,
             random,
             reached,
         }
@@ -58,30 +55,67 @@ impl Cases {
         if let Some(case) = self.first.next() {
             return case;
         }
+        self.behind += 1;
+        if self.behind.is_multiple_of(3) {
+            if let Some(case) = self.turned.next() {
+                return case;
+            }
+        }
         let random = &mut self.random;
-        let mut some = || &self.reached[random.whole(0, self.reached.len() - 1)];
+        let mut some = || self.reached[random.whole(0, self.reached.len() - 1)].clone();
         let (reached, other) = (some(), some());
-        let (mut bytes, other, call) = if random.chance(200) {
-            let (choir, call) = any_choir(random, reached);
-            (choir.bytes(), other.bytes(), call)
-        } else {
-            let record = altered(random, reached.lead());
-            let call = any_plain_or_listed(random, &record);
-            (record.bytes(), other.lead().bytes(), call)
-        };
-        spoil(random, &mut bytes, &other);
+        let record = any_record(random, reached);
+        let call = any_call(random, &record);
+        let call = any_lent(random, &record, call);
+        let mut bytes = record.bytes();
+        spoil(random, &mut bytes, &other.bytes());
         (bytes, call)
     }
 }
 
-/// Any of the plain calls.
-pub(super) fn any_call(random: &mut Random, record: &Record) -> Call {
+/// The calls over the records at the edges.
+fn first() -> impl Iterator<Item = (Vec<u8>, Call)> {
+    let edges = edges().into_iter().flat_map(|(record, _)| {
+        let calls = calls_over(&record).into_iter();
+        calls.map(move |call| (record.clone(), call))
+    });
+    let choices = choices().into_iter().chain(night_choices());
+    let choices = choices.chain(list_choices()).chain(ensemble_choices());
+    let of_version_2 = calls_over(&Record::default_start()).into_iter();
+    let of_version_2 = of_version_2.map(|call| (fresh_of_version_2().to_vec(), call));
+    let at_the_edges = edges.chain(choices);
+    let at_the_edges = at_the_edges.map(|(record, call)| (record.bytes(), call));
+    at_the_edges.chain(of_version_2)
+}
+
+/// The record with its voices, with a list alone, or with neither, and some of its numbers altered.
+fn any_record(random: &mut Random, reached: Record) -> Record {
+    let mut record = altered(random, reached);
+    let with_voices = random.chance(200);
+    if with_voices {
+        if random.chance(500) {
+            for _ in 0..random.whole(1, 3) {
+                alter_voices(random, &mut record);
+            }
+        }
+    } else {
+        (record.chosen, record.listed) = (0, u32::from(random.chance(400)));
+        record.list = Listing::FRESH;
+    }
+    if (record.listed > 0 && !with_voices) || random.chance(100) {
+        record.list = any_listing(random, &record);
+    }
+    record
+}
+
+/// Any of the calls, with an output for the lead alone.
+fn any_call(random: &mut Random, record: &Record) -> Call {
     match random.whole(0, 99) {
         0..=46 => block(random, record),
         47..=59 => any_night(random, record),
         60..=69 => Call::Midi(midi(random)),
         70..=77 => Call::Change(change(random, record)),
-        78..=84 => Call::Reset,
+        78..=84 => Call::Reset(vec![]),
         85..=93 => Call::Meter,
         94..=96 => any_start(random),
         97 => Call::StartDefault,
@@ -89,20 +123,35 @@ pub(super) fn any_call(random: &mut Random, record: &Record) -> Call {
     }
 }
 
-pub(super) fn any_start(random: &mut Random) -> Call {
-    Call::Start(hertz(random), settings(random))
+fn any_start(random: &mut Random) -> Call {
+    let keep = random.one_of(&[0, 0, 1, 1, 2, u32::MAX]);
+    let call = start_listed(hertz(random), settings(random), keep);
+    let intervals = if random.chance(500) {
+        any_intervals(random)
+    } else {
+        vec![]
+    };
+    with_intervals(call, &intervals)
 }
 
-/// Two of five that may have a list have one.
-fn any_plain_or_listed(random: &mut Random, record: &Record) -> Call {
-    match any_call(random, record) {
-        call @ (Call::Block { .. } | Call::Night { .. } | Call::Reset | Call::Start(..))
-            if random.chance(400) =>
-        {
-            any_listed(random, record, call)
+/// The call with a store and outputs for the voices, most often where the record needs them.
+fn any_lent(random: &mut Random, record: &Record, call: Call) -> Call {
+    let numbers = match call {
+        Call::Start { .. } | Call::Reset(_) => random.one_of(&SHORT),
+        _ if record.listed > 0 || random.chance(200) => any_length(random, &record.list),
+        _ => 0,
+    };
+    let lend = record.chosen > 0 || random.chance(100);
+    let length = call.samples().len();
+    let voices = [0, 1, 2].map(|place| {
+        let mut output = vec![];
+        if lend {
+            output.resize(room(random, place < record.chosen(), length), 0);
+            noise(random, &mut output);
         }
-        call => call,
-    }
+        output
+    });
+    call.with_voices(voices).with_store(store(numbers))
 }
 
 /// Some bytes damaged, or those of another record in their place.
@@ -127,13 +176,13 @@ fn spoil(random: &mut Random, bytes: &mut [u8], other: &[u8]) {
 }
 
 /// The record, its take often near the limit, some of its samples noise, some of its numbers altered.
-pub(super) fn altered(random: &mut Random, mut record: Record) -> Record {
+fn altered(random: &mut Random, mut record: Record) -> Record {
     if random.chance(150) && record.count >= 1_764 {
         let near = TAKE_LIMIT - random.whole(0, 600);
         record.count = (near - near % 40) as u64 + record.count % 40;
     }
     if random.chance(100) {
-        noise(random, &mut record.store);
+        noise(random, &mut record.heard);
         noise(random, &mut record.eighths);
         record.count = record.count.max(1_800);
         record = record.with_right_sums();
@@ -172,14 +221,17 @@ pub fn sung() -> Vec<i16> {
 }
 
 /// Plays a take from a start, with voices and a list, and keeps records on the way.
-fn reach(random: &mut Random, reached: &mut Vec<Choir>) {
+fn reach(random: &mut Random, reached: &mut Vec<Record>) {
     let mut allowed = settings(random);
     while !allowed.in_range() {
         allowed = settings(random);
     }
     let hertz = random.one_of(&[CD, FILM]);
-    let mut choir = Choir::fresh(hertz, allowed, &chosen(random));
+    let mut record = Record::fresh(hertz, allowed).with_voices(&chosen(random));
     let mut store = vec![0; random.one_of(&[0, 3, 6, 30, 300])];
+    if !store.is_empty() {
+        record = record.with_list();
+    }
     let (mut phase, mut number) = (0.0, 0);
     for _ in 0..random.whole(1, 8) {
         let period = random.one_of(&[17.3, 50.0, 100.2, 187.0, 330.5, 601.0, 870.0]);
@@ -194,25 +246,21 @@ fn reach(random: &mut Random, reached: &mut Vec<Choir>) {
             .gliding(period * random.real(0.97, 1.03));
         let sung = sing(&passage, &mut phase, random);
         for samples in sung.chunks(random.whole(1, LONGEST_BLOCK)) {
-            let block = Call::Block {
-                number,
-                samples: samples.to_vec(),
-                out: vec![0; samples.len()],
-            };
+            let block = Call::block(number, samples, vec![0; samples.len()]);
             // A key of the table or beside it, and bytes that may release it.
             let status = 144 + allowed.channel as u8;
             let key = random.whole(28, 104) as u8;
             let struck = [vec![status, key, 100], midi(random)].concat();
             let played = random.one_of(&[0, 0, 3, struck.len()]);
             for call in [Call::Midi(struck[..played].to_vec()), block] {
-                choir = reached_by(&choir, &mut store, call);
+                record = reached_by(&record, &mut store, call);
             }
             number = number.wrapping_add(1);
             if random.chance(150) {
-                reached.push(choir.clone());
+                reached.push(record.clone());
             }
         }
-        reached.push(choir.clone());
+        reached.push(record.clone());
     }
 }
 
@@ -318,9 +366,12 @@ fn alter(random: &mut Random, record: &mut Record) {
         17 => {
             record.length = (record.count.min(512) as u16).wrapping_add(random.whole(0, 1) as u16)
         }
-        18 => (record.repeated, record.dropped) = (random.next() as u16, random.next() as u16),
-        19 => record.out[place] = random.next() as i16,
-        20 => record.store[random.whole(0, 1_763)] = random.next() as i16,
+        18 => {
+            (record.repeated, record.dropped) = (random.next() as u16, random.next() as u16);
+            (record.pitched, record.strayed) = (random.next() as u32, random.next() as u32);
+        }
+        19 => record.outs[0][place] = random.next() as i16,
+        20 => record.heard[random.whole(0, 1_763)] = random.next() as i16,
         21 => record.eighths[random.whole(0, 223)] = random.next() as i16,
         22 => {
             let place = random.whole(0, TRACKED - 1);
@@ -388,11 +439,7 @@ fn block(random: &mut Random, record: &Record) -> Call {
     };
     let mut out = vec![0; room];
     noise(random, &mut out);
-    Call::Block {
-        number,
-        samples,
-        out,
-    }
+    Call::block(number, &samples, out)
 }
 
 /// Noise of some loudness.

@@ -1,13 +1,15 @@
 //! Records with a number at the end of its range, and with one just past it,
 //! number by number as `docs/RANGES.md` lists them; and calls over each.
 
-use super::lists::{block, lists_over};
+use super::lists::{block, store};
 use super::nights::{nights_over, square};
-use crate::record::{made, Call, Record, LAYOUT, SIZE};
+use crate::calls::{made, Call};
+use crate::record::{Record, LAYOUT, SIZE};
 use crate::settings::Settings;
 use crate::table::{CD, FILM};
+use crate::voices::MOST_VOICES;
 
-type Alter = fn(&mut Record);
+pub(super) type Alter = fn(&mut Record);
 
 /// What a number of 32 bits would lose.
 pub(super) const PAST_32_BITS: u64 = 1 << 32;
@@ -38,7 +40,7 @@ const GOOD: &[Alter] = &[
     // A night's second or third block would pass the limit.
     |record| record.count = 999_999_998,
     |record| alone(record, |fresh| fresh.count = 1_763),
-    |record| alone(record, |fresh| (fresh.count, fresh.store[0]) = (1_764, 1)),
+    |record| alone(record, |fresh| (fresh.count, fresh.heard[0]) = (1_764, 1)),
     |record| alone(record, |fresh| (fresh.count, fresh.eighths[0]) = (1_792, 1)),
     |record| (record.low, record.last) = (16, 16),
     |record| (record.low, record.last) = (16, 23),
@@ -115,7 +117,8 @@ const GOOD: &[Alter] = &[
     |record| record.length = 512,
     |record| alone(record, |fresh| (fresh.count, fresh.length) = (8, 8)),
     |record| (record.repeated, record.dropped) = (u16::MAX, u16::MAX),
-    |record| record.out = [i16::MIN; 512],
+    |record| (record.pitched, record.strayed) = (u32::MAX, u32::MAX),
+    |record| record.outs[0] = [i16::MIN; 512],
 ];
 
 /// No longer good, though the sums are those of what is then kept.
@@ -165,7 +168,7 @@ const BAD: &[Alter] = &[
     |record| record.count = 1_000_000_001,
     |record| record.count += PAST_32_BITS,
     |record| record.count = u64::MAX,
-    |record| alone(record, |fresh| (fresh.count, fresh.store[0]) = (1_763, 1)),
+    |record| alone(record, |fresh| (fresh.count, fresh.heard[0]) = (1_763, 1)),
     |record| alone(record, |fresh| (fresh.count, fresh.eighths[0]) = (1_791, 1)),
     |record| (record.low, record.last) = (15, 16),
     |record| (record.low, record.last) = (874, 874),
@@ -232,7 +235,7 @@ const WRONG_SUMS: &[Alter] = &[
     |record| record.h[0] += 1,
     |record| record.h[7] -= 1,
     |record| record.low += 1,
-    |record| record.store[1_763] += 1,
+    |record| record.heard[1_763] += 1,
     |record| record.eighths[223] += 1,
 ];
 
@@ -279,17 +282,26 @@ fn alone(record: &mut Record, alter: Alter) {
 
 /// A record that is pitched, after 2,400 samples of a square wave, at decay 0: it is at its goal, and nothing was kept on the way.
 pub(super) fn pitched() -> Record {
-    let fresh = Record::fresh(CD, Settings::AT_ONCE).bytes();
-    let record = Record::of_bytes(&after_the_wave(fresh, |block| block));
+    after_the_wave(Record::fresh(CD, Settings::AT_ONCE))
+}
+
+/// What these samples leave of a fresh record.
+pub(super) fn after_the_wave(fresh: Record) -> Record {
+    let record = (0..5).fold(fresh, |record, number| {
+        let call = lent_to(&record, block(number, &square(480)));
+        Record::of_bytes(&made(&record.bytes(), &call).record)
+    });
     assert!(record.period > 0, "the wave is tracked");
     record
 }
 
-/// What these samples leave of a record, each block by the call that is made of it.
-pub(super) fn after_the_wave(fresh: Vec<u8>, call: impl Fn(Call) -> Call) -> Vec<u8> {
-    (0..5).fold(fresh, |bytes, number| {
-        made(&bytes, &call(block(number, &square(480)))).record
-    })
+/// The call with outputs for the voices of this record, just as long as what is sent, and a store of few numbers for its list.
+pub(super) fn lent_to(record: &Record, call: Call) -> Call {
+    let (length, chosen) = (call.samples().len(), record.chosen());
+    let room = |place: usize| if place < chosen { length } else { 0 };
+    let voices = std::array::from_fn::<_, MOST_VOICES, _>(|place| vec![55; room(place)]);
+    let numbers = if record.listed == 0 { 0 } else { 8 };
+    call.with_voices(voices).with_store(store(numbers))
 }
 
 /// The fresh record of versions 1 and 2: settings, count, position, mode, period, note and rate, each of 32 bits, and then zeros. It
@@ -343,45 +355,54 @@ pub fn choices() -> Vec<(Record, Call)> {
         [1, 0, 0, 1, 1, 0],
     ]);
     let calls = chosen.into_iter().map(settings).flat_map(|chosen| {
-        let starts = [CD, FILM, CD + 1].map(|hertz| Call::Start(hertz, chosen));
+        let starts = [CD, FILM, CD + 1].map(|hertz| Call::start(hertz, chosen));
         starts.into_iter().chain([Call::Change(chosen)])
     });
     calls.map(|call| (pitched.clone(), call)).collect()
 }
 
-/// The records, and whether each is good.
-pub fn edges() -> Vec<(Record, bool)> {
-    let pitched = pitched();
+/// This record so altered, and whether it is then good.
+pub(super) fn altered(record: &Record, good: &[Alter], bad: &[Alter]) -> Vec<(Record, bool)> {
     let altered = |alter: &Alter| {
-        let mut record = pitched.clone();
+        let mut record = record.clone();
         alter(&mut record);
-        record
+        record.with_right_sums()
     };
-    let good = GOOD.iter().map(|by| (altered(by).with_right_sums(), true));
-    let bad = BAD.iter().map(|by| (altered(by).with_right_sums(), false));
-    let wrong = WRONG_SUMS.iter().map(|by| (altered(by), false));
-    good.chain(bad).chain(wrong).collect()
+    let good = good.iter().map(|by| (altered(by), true));
+    let bad = bad.iter().map(|by| (altered(by), false));
+    good.chain(bad).collect()
 }
 
-/// Every call that reads the record: the next block and the last again, nights that begin with these, a block and a reset with a list,
-/// changes that are allowed and one that isn't, bytes of the keyboard, a reset, the meter.
+/// The records with a number of the lead there, and whether each is good.
+pub fn edges() -> Vec<(Record, bool)> {
+    let pitched = pitched();
+    let wrong = WRONG_SUMS.iter().map(|alter| {
+        let mut record = pitched.clone();
+        alter(&mut record);
+        (record, false)
+    });
+    let mut edges = altered(&pitched, GOOD, BAD);
+    edges.extend(wrong);
+    edges
+}
+
+/// Every call that reads the record: the next block and the last again, nights that begin with these, changes that are allowed and one
+/// that isn't, bytes of the keyboard, a reset, the meter. Each has what the record's voices and its list need.
 pub fn calls_over(record: &Record) -> Vec<Call> {
     let [ones, again] = nights_over(record);
-    let [with_list, anew] = lists_over(record);
-    vec![
+    let calls = [
         block(record.next_number(), &[1_000, -1_000, 500]),
         block(record.number, record.last_samples()),
         ones,
         again,
-        with_list,
-        anew,
         Call::Change(Settings::DEFAULT),
         Call::Change(settings([0, 410, 256, 0, 2, 16])),
         Call::Change(settings([1, 409, 255, 1, 1, record.settings.channel])),
         Call::Midi(vec![]),
         Call::Midi(vec![100]),
         Call::Midi(vec![144, 60, 100, 62]),
-        Call::Reset,
+        Call::Reset(vec![]),
         Call::Meter,
-    ]
+    ];
+    calls.map(|call| lent_to(record, call)).to_vec()
 }

@@ -1,13 +1,13 @@
-//! Calls over records that lend a listing and a store for the list of the notes
-//! sung: listings with a number at the end of its range and just past it, and
-//! stores of every length.
+//! Calls over records that keep a list of the notes sung: listings with a number
+//! at the end of its range and just past it, and stores of every length.
 
 use super::edges::pitched;
 use super::nights::{night, square};
 use super::random::Random;
 use super::sound::{sing, Passage, Wave};
+use crate::calls::Call;
 use crate::list::{Listing, MOST_ROWS, NO_PLACE, ROW};
-use crate::record::{Call, Record};
+use crate::record::Record;
 use crate::settings::{Settings, KEYBOARD};
 use crate::table::{CD, FILM};
 use crate::tuner::TAKE_LIMIT;
@@ -56,36 +56,35 @@ pub(super) fn store(numbers: usize) -> Vec<u32> {
     (0..numbers as u32).map(|at| 0xABCD_0000 + at).collect()
 }
 
-/// The call with this listing, and a store of so many numbers.
-pub fn listed(listing: Listing, numbers: usize, call: Call) -> Call {
-    Call::Listed {
-        listing,
-        store: store(numbers),
-        call: Box::new(call),
-    }
+/// The record with this listing, and the call with a store of so many numbers.
+pub fn listed(record: &Record, list: Listing, numbers: usize, call: Call) -> (Record, Call) {
+    let record = Record {
+        list,
+        ..record.clone().with_list()
+    };
+    (record, call.with_store(store(numbers)))
 }
 
 pub(super) fn block(number: u16, samples: &[i16]) -> Call {
-    Call::Block {
-        number,
-        samples: samples.to_vec(),
-        out: vec![77; samples.len() + 1],
-    }
+    Call::block(number, samples, vec![77; samples.len() + 1])
 }
 
-/// The next block and a reset, with a list that just begins.
-pub fn lists_over(record: &Record) -> [Call; 2] {
-    let next = block(record.next_number(), &[1_000, -1_000, 500]);
-    [
-        listed(Listing::FRESH, 8, next),
-        listed(Listing::FRESH, 3, Call::Reset),
-    ]
+/// A start that asks for a list by this number.
+pub(super) fn start_listed(hertz: u32, settings: Settings, listed: u32) -> Call {
+    Call::Start {
+        hertz,
+        settings,
+        listed,
+        intervals: vec![],
+        store: vec![],
+    }
 }
 
 /// Over a record whose note goes on and one in which a key is struck: every
 /// listing with every short store, for a block, a night and a reset; blocks
-/// that are given again, refused and lost; lists that are full or nearly so;
-/// starts; and a take of several notes in one night.
+/// that are given again, refused and lost; the same over one that keeps no list;
+/// lists that are full or nearly so; starts; and a take of several notes in one
+/// night.
 pub fn list_choices() -> Vec<(Record, Call)> {
     let going_on = pitched();
     let mut struck = going_on.clone();
@@ -96,40 +95,79 @@ pub fn list_choices() -> Vec<(Record, Call)> {
         let next = record.next_number();
         for listing in &listings {
             for numbers in SHORT {
-                let mut over = |call| calls.push((record.clone(), listed(*listing, numbers, call)));
+                let mut over = |call| calls.push(listed(record, *listing, numbers, call));
                 over(block(next, &square(12)));
                 over(night(next, 5, &square(23), 23));
             }
         }
     }
     let middle = Listing::of([2, 1, 1, 2_000]);
-    let (next, last) = (going_on.next_number(), going_on.last_samples());
     for numbers in SHORT {
         for listing in &listings {
-            let call = listed(*listing, numbers, Call::Reset);
-            calls.push((going_on.clone(), call));
+            let reset = Call::Reset(vec![]);
+            calls.push(listed(&going_on, *listing, numbers, reset));
         }
-        for hertz in [CD, FILM, CD + 1] {
-            for settings in [Settings::DEFAULT, Settings::of([0, 410, 256, 0])] {
-                let call = listed(middle, numbers, Call::Start(hertz, settings));
-                calls.push((going_on.clone(), call));
-            }
+        for call in starts() {
+            calls.push(listed(&going_on, middle, numbers, call));
         }
-        for call in [
-            block(going_on.number, last),
-            block(going_on.number, &last[1..]),
-            block(next, &[0; 300]),
-            block(going_on.number - 1, last),
-            // Given again, then lost; and lost, then found again.
-            night(going_on.number, 480, &[last, &[0; 700]].concat(), 1_180),
-            night(next, 64, &[vec![0; 400], square(1_500)].concat(), 1_900),
-            night(going_on.number, 0, last, 480),
-        ] {
-            calls.push((going_on.clone(), listed(middle, numbers, call)));
+        for call in going_on_with(&going_on) {
+            let (with, call) = listed(&going_on, middle, numbers, call);
+            let without = Record {
+                listed: 0,
+                ..with.clone()
+            };
+            calls.extend([(with, call.clone()), (without, call)]);
         }
     }
+    calls.extend(kept_or_not(&going_on));
     calls.extend(full(&struck));
     calls.extend(glide());
+    calls
+}
+
+/// Starts that keep a list or none, taken and refused.
+fn starts() -> Vec<Call> {
+    let mut calls = Vec::new();
+    for hertz in [CD, FILM, CD + 1] {
+        for settings in [Settings::DEFAULT, Settings::of([0, 410, 256, 0])] {
+            for keep in [0, 1, 2, u32::MAX] {
+                calls.push(start_listed(hertz, settings, keep));
+            }
+        }
+    }
+    calls
+}
+
+/// Blocks and nights given again, refused, lost and found.
+fn going_on_with(record: &Record) -> Vec<Call> {
+    let (next, last) = (record.next_number(), record.last_samples());
+    vec![
+        block(record.number, last),
+        block(record.number, &last[1..]),
+        block(next, &[0; 300]),
+        block(record.number - 1, last),
+        // Given again, then lost; and lost, then found again.
+        night(record.number, 480, &[last, &[0; 700]].concat(), 1_180),
+        night(next, 64, &[vec![0; 400], square(1_500)].concat(), 1_900),
+        night(record.number, 0, last, 480),
+        Call::Reset(vec![]),
+    ]
+}
+
+/// Whether a list is kept, at the end of its range and past it.
+fn kept_or_not(record: &Record) -> Vec<(Record, Call)> {
+    let mut calls = Vec::new();
+    for keeps in [0, 1, 2, 3, 256, 1 << 31, u32::MAX] {
+        for call in [
+            block(record.next_number(), &square(12)),
+            Call::Reset(vec![]),
+            Call::Meter,
+        ] {
+            let (mut record, call) = listed(record, Listing::FRESH, 9, call);
+            record.listed = keeps;
+            calls.push((record, call));
+        }
+    }
     calls
 }
 
@@ -148,7 +186,7 @@ fn full(struck: &Record) -> Vec<(Record, Call)> {
     ] {
         for numbers in LONG {
             let call = block(record.next_number(), &square(12));
-            calls.push((record.clone(), listed(Listing::of(words), numbers, call)));
+            calls.push(listed(&record, Listing::of(words), numbers, call));
         }
     }
     calls
@@ -164,18 +202,11 @@ fn glide() -> Vec<(Record, Call)> {
     for size in [512, 64, 7] {
         for numbers in SHORT.into_iter().chain([30, 12_288]) {
             let call = night(0, size, &sung, sung.len());
-            let call = listed(Listing::FRESH, numbers, call);
-            calls.push((Record::fresh(CD, settings), call));
+            let fresh = Record::fresh(CD, settings);
+            calls.push(listed(&fresh, Listing::FRESH, numbers, call));
         }
     }
     calls
-}
-
-/// The call with some listing and some store.
-pub fn any_listed(random: &mut Random, record: &Record, call: Call) -> Call {
-    let listing = any_listing(random, record);
-    let numbers = any_length(random, &listing);
-    listed(listing, numbers, call)
 }
 
 /// A store's length, most often about that of the list.

@@ -6,9 +6,9 @@
 
 pub mod cases;
 mod choices;
-pub mod choirs;
 pub mod cuts;
 pub mod edges;
+pub mod ensembles;
 pub mod files;
 mod filming;
 mod holding;

@@ -4,7 +4,8 @@
 use super::cases::noise;
 use super::edges::pitched;
 use super::random::Random;
-use crate::record::{Call, Record};
+use crate::calls::{Call, Lent};
+use crate::record::Record;
 use crate::rules::{HIGHEST_LAG, LONGEST_BLOCK, LOWEST_LAG};
 use crate::settings::KEYBOARD;
 use crate::tuner::TAKE_LIMIT;
@@ -32,7 +33,7 @@ pub(super) fn night(first: u16, size: u64, samples: &[i16], room: usize) -> Call
         first,
         size,
         samples: samples.to_vec(),
-        out: vec![77; room],
+        lent: Lent::out(vec![77; room]),
     }
 }
 
@@ -126,7 +127,7 @@ fn calls_with(record: &Record, size: u64) -> Vec<Call> {
 fn cycle_of(record: &Record) -> Option<&[i16]> {
     let lag = record.last as usize;
     let tracked = record.tracking == 1 && (LOWEST_LAG..=HIGHEST_LAG).contains(&lag);
-    tracked.then(|| &record.store[record.store.len() - lag..])
+    tracked.then(|| &record.heard[record.heard.len() - lag..])
 }
 
 /// The cycle over and over, so that it is tracked through the night.
@@ -182,6 +183,6 @@ pub fn any_night(random: &mut Random, record: &Record) -> Call {
         first,
         size,
         samples,
-        out,
+        lent: Lent::out(out),
     }
 }

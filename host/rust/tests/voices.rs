@@ -1,15 +1,15 @@
-//! Backing voices, by the calls over a tuner with voices, beside the independent
-//! program's ensemble: what a start chooses and refuses, outputs that are short
-//! or not lent, repeats, resets, nights, and records that are answered 9.
+//! Backing voices, by a tuner with voices, beside the independent program's
+//! ensemble: what a start chooses and refuses, outputs that are short or not
+//! lent, repeats, resets, nights, and tuners that are answered 9.
 
 mod rows;
 mod theirs;
 
-use daxfolin::choir::{Choir, INTERVAL_OUT_OF_RANGE, LAYOUT, MOST_VOICES, OCTAVE, TOO_MANY_VOICES};
 use daxfolin::{
-    Answer, Listing, Meter, NightAnswer, Record, BLOCK_EMPTY, BLOCK_OVER_512, CD, FILM,
-    GIVEN_AGAIN, MOST_ROWS, NUMBER_NEITHER, OTHER_SAMPLES, OUTPUT_SHORT, RATE_UNKNOWN,
-    RECORD_OUT_OF_RANGE, ROW, SCALE_OUT_OF_RANGE, STORE_WITHOUT_ROOM, TAKEN,
+    Answer, Meter, NightAnswer, Tuner, BLOCK_EMPTY, BLOCK_OVER_512, CD, FILM, GIVEN_AGAIN,
+    INTERVAL_OUT_OF_RANGE, LAYOUT, MOST_ROWS, MOST_VOICES, NUMBER_NEITHER, OCTAVE, OTHER_SAMPLES,
+    OUTPUT_SHORT, RATE_UNKNOWN, RECORD_OUT_OF_RANGE, ROW, SCALE_OUT_OF_RANGE, STORE_WITHOUT_ROOM,
+    TAKEN, TOO_MANY_VOICES,
 };
 use independent::generator::cases::sung;
 use independent::list::{room, List};
@@ -38,21 +38,33 @@ fn keyboard() -> Settings {
     }
 }
 
-/// What a block is answered by the independent program.
+/// What a block is answered by the independent program, its list apart.
 fn as_answer(number: usize, counts: Counts) -> Answer {
     Answer {
         number: number as u32,
         written: counts.written as u16,
         repeated: counts.repeated as u16,
         dropped: counts.dropped as u16,
+        pitched: counts.pitched as u32,
+        strayed: counts.strayed as u32,
+        ..Answer::default()
     }
 }
 
-/// A proved choir and the independent program's ensemble, which are called alike
+/// The answer without its list.
+fn alone(answer: Answer) -> Answer {
+    Answer {
+        rows: 0,
+        left: 0,
+        ..answer
+    }
+}
+
+/// A proved tuner and the independent program's ensemble, which are called alike
 /// and must answer alike; and the store for the list.
 #[derive(Clone)]
 struct Both {
-    choir: Choir,
+    tuner: Tuner,
     ensemble: Ensemble,
     store: Vec<u32>,
 }
@@ -62,13 +74,13 @@ impl Both {
     fn start(hertz: u32, with: Settings, intervals: &[i32], store: usize) -> Both {
         let lent = (store > 0).then_some(store);
         let store = vec![FILL; store];
-        let mut choir = Choir::default();
-        let answer = choir.start(hertz, settings(&with), intervals, &store);
+        let list = lent.is_some();
+        let (number, tuner) = Tuner::start(hertz, settings(&with), list, intervals, &store);
         let (right, ensemble) = Ensemble::start(hertz, with, lent, intervals);
-        assert_eq!(answer.answer.number as usize, right.number());
-        assert_eq!(choir.intervals(), ensemble.intervals());
+        assert_eq!(number as usize, right.number());
+        assert_eq!(tuner.intervals(), ensemble.intervals());
         Both {
-            choir,
+            tuner,
             ensemble,
             store,
         }
@@ -79,16 +91,15 @@ impl Both {
         let (mut given, mut right) = (outputs(rooms), outputs(rooms));
         let [out, first, second, third] = &mut given;
         let voices = [&mut first[..], second, third];
-        let answer = self
-            .choir
-            .block(number, samples, out, voices, &mut self.store);
+        let store = &mut self.store;
+        let answer = self.tuner.block_with(number, samples, out, voices, store);
         let [lead, voices @ ..] = &mut right;
         let seen = &mut Statistics::default();
         let (number, counts) = self.ensemble.block(number, samples, lead, voices, seen);
-        assert_eq!(answer.answer, as_answer(number.number(), counts));
+        assert_eq!(alone(answer), as_answer(number.number(), counts));
         assert!(given == right, "other outputs");
         self.hold_list(answer.rows, answer.left);
-        (answer.answer.number, given)
+        (answer.number, given)
     }
 
     /// The same, and nothing is changed.
@@ -109,9 +120,9 @@ impl Both {
         let (mut given, mut right) = (outputs(rooms), outputs(rooms));
         let [out, one, two, three] = &mut given;
         let voices = [&mut one[..], two, three];
-        let answer = self
-            .choir
-            .night(first, size, samples, out, voices, &mut self.store);
+        let store = &mut self.store;
+        let night_with = Tuner::night_with;
+        let answer = night_with(&mut self.tuner, first, size, samples, out, voices, store);
         let [lead, voices @ ..] = &mut right;
         let seen = &mut Statistics::default();
         let night = self
@@ -125,12 +136,20 @@ impl Both {
             written: night.counts.written as u64,
             repeated: night.counts.repeated as u64,
             dropped: night.counts.dropped as u64,
-            again: again.unwrap_or(as_answer(0, Counts::default())),
+            pitched: night.counts.pitched as u64,
+            strayed: night.counts.strayed,
+            again: again.unwrap_or_default(),
+            rows: answer.rows,
+            left: answer.left,
         };
-        assert_eq!(answer.night, right_answer);
+        let said = NightAnswer {
+            again: alone(answer.again),
+            ..answer
+        };
+        assert_eq!(said, right_answer);
         assert!(given == right, "other outputs");
         self.hold_list(answer.rows, answer.left);
-        (answer.night, given)
+        (answer, given)
     }
 
     /// Every block of a take, with room for just the outputs of the chosen voices.
@@ -159,21 +178,24 @@ impl Both {
     }
 
     fn midi(&mut self, bytes: &[u8]) {
-        assert_eq!(self.choir.midi(bytes), TAKEN);
+        assert_eq!(self.tuner.midi(bytes), TAKEN);
         self.ensemble.lead.midi(bytes, &mut Statistics::default());
     }
 
     fn reset(&mut self) {
         self.store.fill(FILL);
-        let answer = self.choir.reset(&self.store);
+        let number = self.tuner.reset(&self.store);
         let right = self.ensemble.reset().number();
-        assert_eq!(answer.answer.number as usize, right);
-        self.hold_list(answer.rows, answer.left);
+        assert_eq!(number as usize, right);
     }
 
-    /// The list is that of the whole take.
+    /// The list is that of the whole take; without one there are no rows.
     fn hold_list(&self, rows: u32, left: u32) {
-        let list = List::of(self.ensemble.lead.notes(), room(self.store.len()));
+        let notes = match self.store.is_empty() {
+            true => &[],
+            false => self.ensemble.lead.notes(),
+        };
+        let list = List::of(notes, room(self.store.len()));
         assert_eq!((rows as usize, left as usize), (list.rows.len(), list.left));
         holds(&self.store, &list);
     }
@@ -181,7 +203,7 @@ impl Both {
 
 impl PartialEq for Both {
     fn eq(&self, other: &Both) -> bool {
-        self.choir == other.choir && self.store == other.store
+        self.tuner == other.tuner && self.store == other.store
     }
 }
 
@@ -189,12 +211,9 @@ fn sounds(output: &[i16]) -> bool {
     output.iter().any(|&out| out != 0 && out != UNTOUCHED)
 }
 
-/// In their order; and which of them leaves what was there.
+/// In their order; each leaves the default tuner.
 #[test]
 fn starts() {
-    let mut before = Both::start(CD, keyboard(), &[7], 0);
-    before.midi(&[144, 60, 100]);
-    let before = before.choir;
     let bad = Settings {
         scale: 0,
         ..Settings::DEFAULT
@@ -211,25 +230,20 @@ fn starts() {
         (CD, keyboard(), &[0; 4], 0, TOO_MANY_VOICES),
         (FILM, keyboard(), &[-12; 1_000], 12_288, TOO_MANY_VOICES),
     ] {
-        let (mut choir, store) = (before.clone(), vec![FILL; store]);
-        let answer = choir.start(hertz, settings(&with), intervals, &store);
-        let said = (answer.answer.number, answer.rows, answer.left);
-        assert_eq!(said, (number, 0, 0));
-        match number {
-            STORE_WITHOUT_ROOM => assert!(choir == before),
-            _ => assert!(choir == Choir::default()),
-        }
-        let lent = (!store.is_empty()).then_some(store.len());
+        let (list, store) = (store > 0, vec![FILL; store]);
+        let started = Tuner::start(hertz, settings(&with), list, intervals, &store);
+        assert_eq!(started, (number, Tuner::default()));
+        let lent = list.then_some(store.len());
         let right = Ensemble::answer_to_start(hertz, &with, lent, intervals);
         assert_eq!(right.number(), number as usize);
     }
     for interval in -OCTAVE..=OCTAVE {
         for intervals in [&[][..], &[interval], &[interval; 2], &[0, interval, 5]] {
             let both = Both::start(FILM, keyboard(), intervals, 0);
-            assert_eq!(both.choir.intervals(), intervals);
+            assert_eq!(both.tuner.intervals(), intervals);
         }
     }
-    assert_eq!(Choir::default().intervals(), []);
+    assert_eq!(Tuner::default().intervals(), []);
 }
 
 /// Blocks of several lengths at either rate, with and without a list, under keys
@@ -348,7 +362,7 @@ fn repeats() {
     assert!(both.block(7, samples, rooms) == (GIVEN_AGAIN, first.clone()));
     assert!(both == after);
     both.midi(&[144, 57, 0]);
-    assert_eq!(both.choir.change(settings(&Settings::DEFAULT)), TAKEN);
+    assert_eq!(both.tuner.change(settings(&Settings::DEFAULT)), TAKEN);
     both.ensemble.lead.change(Settings::DEFAULT);
     assert!(both.block(7, samples, rooms) == (GIVEN_AGAIN, first));
 }
@@ -360,135 +374,112 @@ fn reset_keeps_the_voices() {
     let fresh = Both::start(FILM, Settings::DEFAULT, &[4, -8, 12], 30);
     let mut both = fresh.clone();
     let first = both.play(take, 512);
-    let before = both.choir.clone();
-    for store in [1, 2] {
-        let answer = both.choir.reset(&vec![0; store]);
-        assert_eq!(answer.answer.number, STORE_WITHOUT_ROOM);
-        assert!(answer.rows > 0 && both.choir == before);
+    let before = both.tuner.clone();
+    for store in [0, 1, 2] {
+        assert_eq!(both.tuner.reset(&vec![0; store]), STORE_WITHOUT_ROOM);
+        assert!(both.tuner == before);
     }
     both.reset();
     assert!(both == fresh);
-    assert_eq!(both.choir.intervals(), [4, -8, 12]);
+    assert_eq!(both.tuner.intervals(), [4, -8, 12]);
     assert!(both.play(take, 512) == first);
-    assert_eq!(both.choir.reset(&[]).answer.number, TAKEN);
-    assert!(both.choir == fresh.choir);
 }
 
-/// Every call but a start answers 9 of such a choir, and leaves all as it was.
-fn answered_9(bytes: &[u8; Choir::SIZE]) {
-    let before = Choir::from_bytes(bytes);
-    let mut choir = before.clone();
+/// Every call answers 9 of such a tuner, and leaves all as it was.
+fn answered_9(bytes: &[u8; Tuner::SIZE]) {
+    let before = Tuner::from_bytes(bytes);
+    let mut tuner = before.clone();
     let [mut out, mut first, mut second, mut third] = outputs([600; 4]);
     let mut store = [FILL; 9];
-    assert_eq!(
-        choir.change(settings(&Settings::DEFAULT)),
-        RECORD_OUT_OF_RANGE
-    );
-    assert_eq!(choir.midi(&[144, 60, 100]), RECORD_OUT_OF_RANGE);
-    assert_eq!(choir.meter(), Meter::Refused);
-    assert_eq!(choir.reset(&[]).answer.number, RECORD_OUT_OF_RANGE);
+    let changed = tuner.change(settings(&Settings::DEFAULT));
+    assert_eq!(changed, RECORD_OUT_OF_RANGE);
+    assert_eq!(tuner.midi(&[144, 60, 100]), RECORD_OUT_OF_RANGE);
+    assert_eq!(tuner.meter(), Meter::Refused);
+    assert_eq!(tuner.reset(&[]), RECORD_OUT_OF_RANGE);
     let voices = [&mut first[..], &mut second, &mut third];
-    let answer = choir.block(0, &[1; 600], &mut out, voices, &mut store);
-    assert_eq!(answer.answer.number, RECORD_OUT_OF_RANGE);
+    let answer = tuner.block_with(0, &[1; 600], &mut out, voices, &mut store);
+    assert_eq!(answer.number, RECORD_OUT_OF_RANGE);
     let voices = [&mut first[..], &mut second, &mut third];
-    let answer = choir.night(0, 0, &[1; 700], &mut out, voices, &mut store);
-    assert_eq!(answer.night.number, RECORD_OUT_OF_RANGE);
-    assert!(choir == before && store == [FILL; 9]);
+    let answer = tuner.night_with(0, 0, &[1; 700], &mut out, voices, &mut store);
+    assert_eq!(answer.number, RECORD_OUT_OF_RANGE);
+    assert!(tuner == before && store == [FILL; 9]);
     assert!([out, first, second, third] == outputs([600; 4]));
-    let answer = choir.start(CD, settings(&Settings::DEFAULT), &[], &[]);
-    assert_eq!(answer.answer.number, TAKEN);
-    assert!(choir == Choir::default());
 }
 
 /// These bytes with this number at a place.
-fn with(mut bytes: [u8; Choir::SIZE], at: usize, number: &[u8]) -> [u8; Choir::SIZE] {
+fn with(mut bytes: [u8; Tuner::SIZE], at: usize, number: &[u8]) -> [u8; Tuner::SIZE] {
     bytes[at..at + number.len()].copy_from_slice(number);
     bytes
 }
 
-/// Records of other layouts, a plain record's among them; and no plain call takes
-/// one with voices.
 #[test]
 fn other_layouts() {
     let good = Both::start(CD, Settings::DEFAULT, &[4, -3, 7], 0);
-    let good = good.choir.to_bytes();
+    let good = good.tuner.to_bytes();
     assert_eq!(good[..8], LAYOUT.to_le_bytes());
-    for layout in [0, daxfolin::LAYOUT, LAYOUT - 1, LAYOUT + 1, u64::MAX] {
+    for layout in [0, 20_006, 30_001, LAYOUT - 1, LAYOUT + 1, u64::MAX] {
         answered_9(&with(good, 0, &layout.to_le_bytes()));
     }
-    answered_9(&[0; Choir::SIZE]);
-    answered_9(&[255; Choir::SIZE]);
-    let plain: [u8; Record::SIZE] = good[..Record::SIZE].try_into().unwrap();
-    let mut plain = Record::from_bytes(&plain);
-    let mut out = [UNTOUCHED; 4];
-    assert_eq!(
-        plain.block(0, &[1; 4], &mut out).number,
-        RECORD_OUT_OF_RANGE
-    );
-    assert_eq!(plain.reset(), RECORD_OUT_OF_RANGE);
-    assert_eq!(out, [UNTOUCHED; 4]);
+    answered_9(&[0; Tuner::SIZE]);
+    answered_9(&[255; Tuner::SIZE]);
 }
 
 /// Each number of the voices and of the list just past its range; of a voice that
 /// is not chosen none is looked at.
 #[test]
 fn numbers_out_of_range() {
-    const LIST: usize = Record::SIZE;
-    const COUNT: usize = LIST + 16;
-    const VOICE: usize = 1_032;
+    const LISTED: usize = 240;
+    const CHOSEN: usize = 244;
+    const LIST: usize = 248;
+    const VOICES: usize = 264;
     let take = sung();
     let mut both = Both::start(CD, Settings::DEFAULT, &[4, -3], 0);
     both.play(&take[..4_000], 512);
-    let good = both.choir.to_bytes();
-    answered_9(&with(good, COUNT, &4u64.to_le_bytes()));
+    let good = both.tuner.to_bytes();
+    answered_9(&with(good, LISTED, &2u32.to_le_bytes()));
+    answered_9(&with(good, CHOSEN, &4u32.to_le_bytes()));
     answered_9(&with(good, LIST, &4_001u32.to_le_bytes()));
     for place in 0..3 {
-        let interval = COUNT + 8 + place * VOICE;
+        let interval = VOICES + 8 * place;
         for (at, most) in [(interval, 24u32), (interval + 4, 65_536_000)] {
-            let mut edge = Choir::from_bytes(&with(good, at, &most.to_le_bytes()));
+            let mut edge = Tuner::from_bytes(&with(good, at, &most.to_le_bytes()));
             assert_ne!(edge.meter(), Meter::Refused);
             assert_eq!(edge.midi(&[]), TAKEN);
             let past = with(good, at, &(most + 1).to_le_bytes());
             match place {
-                2 => assert_eq!(Choir::from_bytes(&past).midi(&[]), TAKEN),
+                2 => assert_eq!(Tuner::from_bytes(&past).midi(&[]), TAKEN),
                 _ => answered_9(&past),
             }
         }
     }
 }
 
-/// Without voices it is the plain record with its listing, in every number and
-/// answer.
+/// Voices and a list change nothing in the answers, the output and the meter of
+/// the lead.
 #[test]
-fn without_voices_the_plain_record() {
+fn the_lead_is_that_of_a_tuner_alone() {
     let take = sung();
-    let mut store = vec![FILL; 30];
-    let (mut record, mut listing) = (Record::default(), Listing::default());
-    record.list_start(&mut listing, FILM, settings(&keyboard()), &store);
-    let mut choir = Choir::default();
-    choir.start(FILM, settings(&keyboard()), &[], &store);
-    let mut rows = store.clone();
-    let [mut out, mut tuned] = [[0; 512]; 2];
+    let mut both = Both::start(FILM, keyboard(), &[7, -12], 30);
+    let (_, mut plain) = Tuner::start_plain(FILM, settings(&keyboard()));
+    let mut tuned = [UNTOUCHED; 512];
     for (number, samples) in (0u16..).zip(take.chunks(512)) {
         let key = [144, 50 + (number % 20) as u8, 100];
-        assert_eq!(choir.midi(&key), record.midi(&key));
+        both.midi(&key);
+        assert_eq!(plain.midi(&key), TAKEN);
         for number in [number, number, number + 3] {
-            let right = record.list_block(&mut listing, number, samples, &mut tuned, &mut store);
-            let none = [&mut [][..], &mut [], &mut []];
-            let answer = choir.block(number, samples, &mut out, none, &mut rows);
-            assert_eq!(answer, right);
+            let [mut out, mut first, mut second, _] = outputs([512; 4]);
+            let voices = [&mut first[..], &mut second, &mut []];
+            let store = &mut both.store;
+            let answer = both
+                .tuner
+                .block_with(number, samples, &mut out, voices, store);
+            tuned.fill(UNTOUCHED);
+            assert_eq!(alone(answer), plain.block(number, samples, &mut tuned));
+            assert!(out == tuned);
         }
-        assert_eq!(choir.meter(), record.meter());
-        assert!(out == tuned && rows == store);
-        let bytes = choir.to_bytes();
-        assert!(bytes[8..Record::SIZE] == record.to_bytes()[8..]);
-        let numbers = [listing.rows, listing.left, listing.place, listing.first];
-        assert_eq!(
-            bytes[Record::SIZE..][..16],
-            *numbers.map(u32::to_le_bytes).as_flattened()
-        );
+        assert_eq!(both.tuner.meter(), plain.meter());
+        assert_eq!(both.tuner.behind(), plain.behind());
     }
-    assert!(listing.rows == 10 && listing.left > 0);
 }
 
 /// The lead and a voice are what they are without a further one.
