@@ -1,7 +1,8 @@
 -- `daxfolin::last_line` meets its contract: without a byte held nothing is answered, and otherwise the bytes held are a line.
 -- Assumes nothing.
 use borrow.Author.Needs.{needs}
-use Rattle.daxfolin.specs.Laws.{nothing-to-finish, last-line-finished}
+use mathlib.Core.Path.{refl}
+use Rattle.daxfolin.specs.Laws.{nothing-to-finish, line-bare, last-line-finished}
 use Rattle.daxfolin.proofs.last_line.Statement.{statement}
 use Rattle.daxfolin.proofs.last_line.Tie as tie
 
