@@ -51,7 +51,7 @@ pub all-served : {t u : Tuner} {input : List ℕ} {at : ℕ} {moved : Bool} → 
 all-served s e = record { text = s .text; served = record { within = s .within; said = s .said; rest = s .rest e } }
 
 module _ {t u : Tuner} {input : List ℕ} {at : ℕ} {moved : Bool} (s : ServedSoFar t input u at moved) where
-  abbrev left : List ℕ
+  abbrev pub left : List ℕ
   left = take (length input - at) (drop at input)
 
   left-is : left ≡ drop at input
