@@ -6,7 +6,7 @@ ghost use mathlib.Core.Path.{_≡_};
 ghost use mathlib.Core.Bool.{true};
 ghost use Rattle.daxfolin.specs.Turns.{Kept, Serves, Answers, OneTurn, Working, Finishes};
 use libc::STDIN_FILENO;
-use tuner::Tuner;
+use one::Tuner;
 
 // The tuner, how many bytes of a line without its end are held, whether to read on, and whether the input came to its end: neither where
 // something failed.
@@ -29,7 +29,7 @@ fn write_out(bytes: &[u8]) -> bool {
     streams::write_out(bytes, b"daxfolin: standard output")
 }
 
-// Answers all lines that end within the input, and writes the answers.
+// Answers all lines that end within the input, and writes the answers. The program's tuner keeps no list, so that an empty store is lent.
 fn serve(t: Tuner, input: &[u8], out: &mut [u8]) -> Served
     requires { ⌜ 4096 ≤ length (now out) ⌝ }
     ensures { λ r. ⌜ (r .written ≡ true → Serves t (now (input .entry)) (r .tuner) (r .at)) ⌝ }
@@ -37,8 +37,9 @@ fn serve(t: Tuner, input: &[u8], out: &mut [u8]) -> Served
     let mut u = t;
     let mut at: usize = 0;
     let mut moved = true;
+    let mut store = [0u32; 0];
     while moved {
-        let r = lines::answer_lines(u, &input[at..], out);
+        let r = lines::answer_lines(u, &input[at..], out, &mut store);
         let n = r.length;
         if !write_out(&out[..n]) {
             return Served {
@@ -137,7 +138,8 @@ fn last_line(t: Tuner, held: &[u8], out: &mut [u8]) -> usize
     if held.len() == 0 {
         return 0;
     }
-    let r = lines::answer_line(t, held, out);
+    let mut store = [0u32; 0];
+    let r = lines::answer_line(t, held, out, &mut store);
     r.length
 }
 
@@ -153,7 +155,7 @@ fn finish(t: Tuner, held: &[u8], out: &mut [u8])
 fn main() {
     let mut buf = io::large_buffer();
     let mut out = io::large_buffer();
-    let mut t = tuner::start_default().tuner;
+    let mut t = lines::opening();
     let mut held: usize = 0;
     let mut ended = false;
     let mut turns = u64::MAX;

@@ -7,20 +7,20 @@ use native.Mathlib.Numerals.{add-one}
 use native.Mathlib.Omega.{arith}
 use lib.ListN.{length, getD, take, drop, length-append, length-drop, drop-of-length-le}
 use lib.Seq.{take-all, take-suc, take-add, drop-drop, length-take-le, getD-take, getD-drop}
-use Rattle.tuner.specs.declared.Tuner.{Tuner}
+use Rattle.one.specs.declared.Answer.{Answer}
 use Rattle.text.specs.Places.{First, put-none, put-then, put-length}
 use Rattle.text.specs.Text.{Put}
-use Rattle.lines.specs.Lines.{Answered, answered, no-room, NoEnd, AllSaid, no-line, line-more, AnsweredAll}
+use Rattle.lines.specs.Lines.{Desk, Answered, answered, no-room, NoEnd, AllSaid, no-line, line-more, AnsweredAll}
 
 -- the first `at` bytes of the input are whole lines, answered at the front of the output
-pub record Batch (t : Tuner) (input out : List ℕ) (u : Tuner) (at n : ℕ) (out′ : List ℕ) : Type 0 where
+pub record Batch (t : Desk) (input out : List ℕ) (u : Desk) (at n : ℕ) (out′ : List ℕ) : Type 0 where
   pub text : List ℕ
   pub said : AllSaid t (take at input) u text
   pub put : Put out 0 text out′ n
   pub fits : length text ≤ length out
   pub same : length out′ ≡ length out
 
-pub none-answered : {t : Tuner} {input out : List ℕ} → Batch t input out t 0 0 out
+pub none-answered : {t : Desk} {input out : List ℕ} → Batch t input out t 0 0 out
 none-answered {out = out} = record { text = []; said = no-line; put = record { text = sym (put-none out 0); next = refl }; fits = omega arith; same = refl }
 
 -- ---- a part of the output, from a place on, that comes back with a text at its front
@@ -49,11 +49,11 @@ put-fits : {s t s′ : List ℕ} {r : ℕ} → Put s 0 t s′ r → length s′ 
 put-fits {s} {t} p e = omega (arith, ap length (p .text), length-append t (drop (0 + length t) s), e)
 
 -- what was written is within the output
-pub all-within : {t : Tuner} {input out : List ℕ} {t′ : Tuner} {at n : ℕ} {out′ : List ℕ} → AnsweredAll t input out t′ at n out′ → length out′ ≡ length out → n ≤ length out′
+pub all-within : {t : Desk} {input out : List ℕ} {t′ : Desk} {at n : ℕ} {out′ : List ℕ} → AnsweredAll t input out t′ at n out′ → length out′ ≡ length out → n ≤ length out′
 all-within a e = omega (arith, a .put .next, put-fits (a .put) e)
 
 -- ---- one line more
-module _ {t : Tuner} {input out : List ℕ} {u : Tuner} {at n : ℕ} {out′ : List ℕ} (b : Batch t input out u at n out′) where
+module _ {t : Desk} {input out : List ℕ} {u : Desk} {at n : ℕ} {out′ : List ℕ} (b : Batch t input out u at n out′) where
   pub length-so-far : n ≤ length out′
   length-so-far = omega (arith, b .put .next, b .fits, b .same)
 
@@ -77,7 +77,7 @@ module _ {t : Tuner} {input out : List ℕ} {u : Tuner} {at n : ℕ} {out′ : L
         ∙ take-suc input end 0 l
         ∙ (λ i. (ap (λ (k : ℕ). take k input) (sym e) ∙ take-add at (end - at) input) i ++ (f .stands l i ∷ [])))
 
-    pub batch-more : {v : Tuner} {ys : List ℕ} {m : ℕ} → 4096 ≤ length out′ - n → Answered u line (part out′ n length-so-far) v m ys → length ys ≡ length (part out′ n length-so-far)
+    pub batch-more : {v : Desk} {a : Answer} {ys : List ℕ} {m : ℕ} → 4096 ≤ length out′ - n → Answered u line (part out′ n length-so-far) v a m ys → length ys ≡ length (part out′ n length-so-far)
         → Batch t input out v (end + 1) (n + m) (take n out′ ++ (ys ++ drop (length out′ - n) (drop n out′)))
     batch-more {v} room (answered {text = more} r s p) k =
         let q = part-put out′ n length-so-far p in
@@ -90,7 +90,7 @@ module _ {t : Tuner} {input out : List ℕ} {u : Tuner} {at n : ℕ} {out′ : L
           fits = omega (arith, length-append (b .text) more, b .put .next, w, b .same);
           same = put-length q w ∙ b .same;
         }
-    batch-more room (no-room r e z o) k = absurd (omega (arith, length-take-le (length out′ - n) (drop n out′) (omega (arith, length-drop n out′))))
+    batch-more room (no-room r e b z o) k = absurd (omega (arith, length-take-le (length out′ - n) (drop n out′) (omega (arith, length-drop n out′))))
 
   -- where it stops: no room for an answer, or no line ends
   pub no-room-left : at ≤ length input → length out′ - n < 4096 → AnsweredAll t input out u at n out′

@@ -9,9 +9,8 @@ use native.Mathlib.Decide.{decLe, decLt, ℕ-discrete}
 use native.Mathlib.Omega.{arith}
 use lib.ListN.{length, getD, take, drop, length-append, length-drop, length-take, take-append-drop, List·getD-append}
 use lib.Seq.{getD-at, getD-append-add, getD-take, take-at, drop-at, take-all, take-append-add, drop-append-add, length-take-le, take-append-seam, drop-append-seam, take-add, drop-drop}
-use Rattle.tuner.specs.declared.Tuner.{Tuner}
 use Rattle.text.specs.Text.{put}
-use Rattle.lines.specs.Lines.{read, Line, Said, NoEnd, AllSaid, no-line, line-more, AnsweredAll}
+use Rattle.lines.specs.Lines.{read, Line, Desk, Said, NoEnd, AllSaid, no-line, line-more, AnsweredAll}
 use Rattle.lines.specs.Laws.{read-long}
 use Rattle.lines.specs.Ones.{said-one}
 use Rattle.lines.specs.Serving.{heldOf, AllServed, Reads, no-read, one-read, Ended, nothing-held, last-line, joined, Cutting}
@@ -44,7 +43,7 @@ no-end-after a b n k h e = n (length a + k) (omega (arith, length-append a b)) (
 abbrev Whole : List ℕ → Type 0
 Whole bs = (k : ℕ) → length bs ≡ suc k → getD bs k 0 ≡ 10
 
-all-whole : {t u : Tuner} {bs x : List ℕ} → AllSaid t bs u x → Whole bs
+all-whole : {t u : Desk} {bs x : List ℕ} → AllSaid t bs u x → Whole bs
 all-whole no-line k e = absurd (omega arith)
 all-whole (line-more {before} line s n r) k e = getD-at (before ++ line) 10 [] 0 k (omega (arith, length-append (before ++ line) (10 ∷ [])))
 
@@ -77,28 +76,28 @@ starts-within a w c z n l h e = by-length (decLt (length a) (length c))
     by-length (no m) = let d = longer c z a w (sym e) (omega arith) in absurd (omega (arith, none-longer [] a c (d .0) n l (d .1)))
 
 -- ---- whole lines are answered in one way, and one after the other
-module _ {t : Tuner} where
-  same-lines : {bs cs : List ℕ} {t₁ t₂ : Tuner} {x₁ x₂ : List ℕ} → AllSaid t bs t₁ x₁ → AllSaid t cs t₂ x₂ → bs ≡ cs → (t₁ ≡ t₂) × (x₁ ≡ x₂)
+module _ {t : Desk} where
+  same-lines : {bs cs : List ℕ} {t₁ t₂ : Desk} {x₁ x₂ : List ℕ} → AllSaid t bs t₁ x₁ → AllSaid t cs t₂ x₂ → bs ≡ cs → (t₁ ≡ t₂) × (x₁ ≡ x₂)
   same-lines no-line no-line e = (refl, refl)
   same-lines no-line (line-more {before} line s n r) e = absurd (omega (arith, ap length e, length-append (before ++ line) (10 ∷ [])))
   same-lines (line-more {before} line s n r) no-line e = absurd (omega (arith, ap length e, length-append (before ++ line) (10 ∷ [])))
-  same-lines {t₂ = t₂} (line-more {before = a} l s n r) (line-more {before = b} m {more = y} s′ n′ r′) e =
+  same-lines {t₂ = t₂} (line-more {before = a} l s n r) (line-more {before = b} m {more = y} {a = c} s′ n′ r′) e =
       let p = parted-one a l b m (all-whole s) (all-whole s′) n n′ (append-cancel-right (a ++ l) (b ++ m) (10 ∷ []) e) in
       let o = same-lines s s′ (p .0) in
-      let q = said-one r (subst₂ (λ (u : Tuner) (l : List ℕ). Said u (read l) t₂ y) (sym (o .0)) (sym (p .1)) r′) in
+      let q = said-one r (subst₂ (λ (u : Desk) (l : List ℕ). Said u (read l) t₂ y c) (sym (o .0)) (sym (p .1)) r′) in
       (q .0, λ i. o .1 i ++ q .1 i)
 
-  pub all-said-one : {bs : List ℕ} {t₁ t₂ : Tuner} {x₁ x₂ : List ℕ} → AllSaid t bs t₁ x₁ → AllSaid t bs t₂ x₂ → (t₁ ≡ t₂) × (x₁ ≡ x₂)
+  pub all-said-one : {bs : List ℕ} {t₁ t₂ : Desk} {x₁ x₂ : List ℕ} → AllSaid t bs t₁ x₁ → AllSaid t bs t₂ x₂ → (t₁ ≡ t₂) × (x₁ ≡ x₂)
   all-said-one p q = same-lines p q refl
 
-pub all-said-then : {t u v : Tuner} {bs cs x y : List ℕ} → AllSaid t bs u x → AllSaid u cs v y → AllSaid t (bs ++ cs) v (x ++ y)
+pub all-said-then : {t u v : Desk} {bs cs x y : List ℕ} → AllSaid t bs u x → AllSaid u cs v y → AllSaid t (bs ++ cs) v (x ++ y)
 all-said-then {bs} {x} s no-line = rw (append-nil bs, append-nil x) s
 all-said-then s (line-more {before} line {text} {more} p n r) = simp append-assoc (simp append-assoc at (line-more line (all-said-then s p) n r))
 
 -- ---- batches
 
 -- where no line ends after the first `at` bytes, whole lines at the front of the input are no longer
-no-more : {t u : Tuner} {x : List ℕ} (input : List ℕ) {m at : ℕ} → AllSaid t (take m input) u x → m ≤ length input → at ≤ length input → NoEnd (drop at input) → m ≤ at
+no-more : {t u : Desk} {x : List ℕ} (input : List ℕ) {m at : ℕ} → AllSaid t (take m input) u x → m ≤ length input → at ≤ length input → NoEnd (drop at input) → m ≤ at
 no-more input {m} {at} s h l n =
     omega (
       arith,
@@ -108,15 +107,15 @@ no-more input {m} {at} s h l n =
     )
 
 -- with room left for one more answer, all lines that end were taken
-pub room-left : {t t′ : Tuner} {input out out′ : List ℕ} {at n : ℕ} → AnsweredAll t input out t′ at n out′ → n + 4096 ≤ length out → NoEnd (drop at input)
+pub room-left : {t t′ : Desk} {input out out′ : List ℕ} {at n : ℕ} → AnsweredAll t input out t′ at n out′ → n + 4096 ≤ length out → NoEnd (drop at input)
 room-left {input = input} {out} {at = at} {n} p h = by-reason (p .stopped)
   where
     by-reason : NoEnd (drop at input) ⊎ (length out < n + 4096) → NoEnd (drop at input)
     by-reason (inl f) = f
     by-reason (inr l) = absurd (omega arith)
 
-module _ {t : Tuner} {input out : List ℕ} {t₁ t₂ : Tuner} {at₁ at₂ n₁ n₂ : ℕ} {o₁ o₂ : List ℕ} (p : AnsweredAll t input out t₁ at₁ n₁ o₁) (q : AnsweredAll t input out t₂ at₂ n₂ o₂) where
-  -- two batches that took the same number of bytes leave the same tuner and the same output
+module _ {t : Desk} {input out : List ℕ} {t₁ t₂ : Desk} {at₁ at₂ n₁ n₂ : ℕ} {o₁ o₂ : List ℕ} (p : AnsweredAll t input out t₁ at₁ n₁ o₁) (q : AnsweredAll t input out t₂ at₂ n₂ o₂) where
+  -- two batches that took the same number of bytes leave the same tuner, store and output
   pub batch-one : at₁ ≡ at₂ → (t₁ ≡ t₂) × (n₁ ≡ n₂) × (o₁ ≡ o₂)
   batch-one e =
       let o = all-said-one (p .said) (rw (← e) at (q .said)) in
@@ -130,10 +129,10 @@ module _ {t : Tuner} {input out : List ℕ} {t₁ t₂ : Tuner} {at₁ at₂ n�
   batch-all f g = omega (arith, batch-most f, no-more input (p .said) (p .within) (q .within) g)
 
 -- batches one after the other, each on the rest that the one before left, until no line ends: all lines are served
-pub served-last : {t u : Tuner} {input out out′ : List ℕ} {at n : ℕ} (b : AnsweredAll t input out u at n out′) → NoEnd (drop at input) → AllServed t input u at (b .text)
+pub served-last : {t u : Desk} {input out out′ : List ℕ} {at n : ℕ} (b : AnsweredAll t input out u at n out′) → NoEnd (drop at input) → AllServed t input u at (b .text)
 served-last b f = record { within = b .within; said = b .said; rest = f }
 
-pub served-after : {t u v : Tuner} {input out out′ more : List ℕ} {at n m : ℕ} (b : AnsweredAll t input out u at n out′) → AllServed u (drop at input) v m more → AllServed t input v (at + m) (b .text ++ more)
+pub served-after : {t u v : Desk} {input out out′ more : List ℕ} {at n m : ℕ} (b : AnsweredAll t input out u at n out′) → AllServed u (drop at input) v m more → AllServed t input v (at + m) (b .text ++ more)
 served-after {input = input} {at = at} {m = m} b s =
     record {
       within = omega (arith, b .within, s .within, length-drop at input);
@@ -141,8 +140,8 @@ served-after {input = input} {at = at} {m = m} b s =
       rest = subst NoEnd (drop-drop m at input) (s .rest);
     }
 
--- so however many batches it takes, the same bytes are answered by the same text and leave the same tuner
-pub served-one : {t u v : Tuner} {input x y : List ℕ} {at m : ℕ} → AllServed t input u at x → AllServed t input v m y → (at ≡ m) × (u ≡ v) × (x ≡ y)
+-- so however many batches it takes, the same bytes are answered by the same text and leave the same tuner and store
+pub served-one : {t u v : Desk} {input x y : List ℕ} {at m : ℕ} → AllServed t input u at x → AllServed t input v m y → (at ≡ m) × (u ≡ v) × (x ≡ y)
 served-one {input = input} {at = at} {m} p q =
     let e : at ≡ m = omega (arith, no-more input (q .said) (q .within) (p .within) (p .rest), no-more input (p .said) (p .within) (q .within) (q .rest)) in
     let o = all-said-one (p .said) (rw (← e) at (q .said)) in
@@ -151,17 +150,17 @@ served-one {input = input} {at = at} {m} p q =
 -- ---- a line that is too long
 
 -- all lines where the first one begins with bytes that are too long, and with others instead: both are unreadable
-module _ {t : Tuner} (a b : List ℕ) (la : 8192 < length a) (lb : 8192 < length b) (na : NoEnd a) (nb : NoEnd b) where
-  instead : {bs x : List ℕ} {u : Tuner} → AllSaid t bs u x → (w : List ℕ) → bs ≡ a ++ w → AllSaid t (b ++ w) u x
+module _ {t : Desk} (a b : List ℕ) (la : 8192 < length a) (lb : 8192 < length b) (na : NoEnd a) (nb : NoEnd b) where
+  instead : {bs x : List ℕ} {u : Desk} → AllSaid t bs u x → (w : List ℕ) → bs ≡ a ++ w → AllSaid t (b ++ w) u x
   instead no-line w e = absurd (omega (arith, ap length e, length-append a w))
-  instead {u = u} (line-more line {more = more} no-line n r) w e =
+  instead {u = u} (line-more line {more = more} {a = c} no-line n r) w e =
       let l = starts-within a w (line ++ (10 ∷ [])) [] na (all-whole (line-more line no-line n r)) (omega (arith, length-append line (10 ∷ []))) (sym e ∙ sym (append-nil (line ++ (10 ∷ [])))) in
       let d = longer a w line (10 ∷ []) (sym e) (omega (arith, length-append line (10 ∷ []))) in
       let z : 8192 < length line = omega (arith, ap length (d .1), length-append a (d .0)) in
       let k : 8192 < length (b ++ d .0) = omega (arith, length-append b (d .0)) in
       subst (λ (l : List ℕ). AllSaid t l u more) (append-assoc b (d .0) (10 ∷ []) ∙ ap (λ (l : List ℕ). b ++ l) (sym (d .2)))
       (line-more (b ++ d .0) no-line (no-end-then b (d .0) nb (no-end-after a (d .0) (subst NoEnd (d .1) n)))
-      (subst (λ (l : Line). Said t l u more) (read-long line z ∙ sym (read-long (b ++ d .0) k)) r))
+      (subst (λ (l : Line). Said t l u more c) (read-long line z ∙ sym (read-long (b ++ d .0) k)) r))
   instead {u = u} (line-more line {more = more} (line-more {before} other {text = text} {more = more′} p m q) n r) w e =
       let lines = before ++ other ++ (10 ∷ []) in
       let f : a ++ w ≡ lines ++ (line ++ (10 ∷ [])) = sym e ∙ append-assoc lines line (10 ∷ []) in
@@ -193,7 +192,7 @@ held-then : (rest new : List ℕ) → heldOf (heldOf rest ++ new) ≡ heldOf (re
 held-then rest new = rw take-then
 
 -- with more bytes after it the same is answered: it is all of the rest, or too long as the rest is
-held-said : (rest w : List ℕ) {t u : Tuner} {x : List ℕ} → NoEnd rest → AllSaid t (heldOf rest ++ w) u x → AllSaid t (rest ++ w) u x
+held-said : (rest w : List ℕ) {t u : Desk} {x : List ℕ} → NoEnd rest → AllSaid t (heldOf rest ++ w) u x → AllSaid t (rest ++ w) u x
 held-said rest w {t} {u} {x} n s = by-length (decLt 8192 (length rest))
   where
     by-length : Dec (8192 < length rest) → AllSaid t (rest ++ w) u x
@@ -205,7 +204,7 @@ held-said rest w {t} {u} {x} n s = by-length (decLt 8192 (length rest))
 -- ---- reads
 
 -- the bytes read so far are whole lines, answered, and a rest of which so much is held
-record Kept (t : Tuner) (bytes : List ℕ) (u : Tuner) (held x : List ℕ) : Type 0 where
+record Kept (t : Desk) (bytes : List ℕ) (u : Desk) (held x : List ℕ) : Type 0 where
   whole : List ℕ
   rest : List ℕ
   parts : bytes ≡ whole ++ rest
@@ -213,7 +212,7 @@ record Kept (t : Tuner) (bytes : List ℕ) (u : Tuner) (held x : List ℕ) : Typ
   open-end : NoEnd rest
   kept : held ≡ heldOf rest
 
-kept-more : {t u v : Tuner} {bytes held x y : List ℕ} (new : List ℕ) {at : ℕ} → Kept t bytes u held x → AllServed u (held ++ new) v at y → Kept t (bytes ++ new) v (heldOf (drop at (held ++ new))) (x ++ y)
+kept-more : {t u v : Desk} {bytes held x y : List ℕ} (new : List ℕ) {at : ℕ} → Kept t bytes u held x → AllServed u (held ++ new) v at y → Kept t (bytes ++ new) v (heldOf (drop at (held ++ new))) (x ++ y)
 kept-more {t} {u} {v} {bytes} {held} {x} {y} new {at} p s = by-lines (ℕ-discrete at 0)
   where
     input : List ℕ
@@ -254,13 +253,13 @@ joined-more : (reads : List (List ℕ)) (new : List ℕ) → joined (reads ++ (n
 joined-more [] new = append-nil new
 joined-more (r ∷ reads) new = ap (λ (l : List ℕ). r ++ l) (joined-more reads new) ∙ sym (append-assoc r (joined reads) new)
 
-reads-kept : {t u : Tuner} {reads : List (List ℕ)} {held x : List ℕ} → Reads t reads u held x → Kept t (joined reads) u held x
+reads-kept : {t u : Desk} {reads : List (List ℕ)} {held x : List ℕ} → Reads t reads u held x → Kept t (joined reads) u held x
 reads-kept no-read = record { whole = []; rest = []; parts = refl; said = no-line; open-end = λ k h e. absurd (omega arith); kept = refl }
-reads-kept {t} (one-read {before} {t′ = v} {held} {text} {more} new {at} p s) =
+reads-kept {t} (one-read {before} {d′ = v} {held} {text} {more} new {at} p s) =
     subst (λ (l : List ℕ). Kept t l v (heldOf (drop at (held ++ new))) (text ++ more)) (sym (joined-more before new)) (kept-more new (reads-kept p) s)
 
 -- any reads are as one read of all their bytes
-kept-read : {t u : Tuner} {bytes held x : List ℕ} → Kept t bytes u held x → Reads t (bytes ∷ []) u held x
+kept-read : {t u : Desk} {bytes held x : List ℕ} → Kept t bytes u held x → Reads t (bytes ∷ []) u held x
 kept-read {t} {u} {bytes} {held} {x} k = subst (λ (l : List ℕ). Reads t (bytes ∷ []) u l x) (ap heldOf ends ∙ sym (k .kept)) (one-read bytes no-read served)
   where
     at : ℕ
@@ -277,22 +276,22 @@ kept-read {t} {u} {bytes} {held} {x} k = subst (λ (l : List ℕ). Reads t (byte
           rest = subst NoEnd (sym ends) (k .open-end);
         }
 
-pub as-one-read : {t u : Tuner} {reads : List (List ℕ)} {held x : List ℕ} → Reads t reads u held x → Reads t (joined reads ∷ []) u held x
+pub as-one-read : {t u : Desk} {reads : List (List ℕ)} {held x : List ℕ} → Reads t reads u held x → Reads t (joined reads ∷ []) u held x
 as-one-read p = kept-read (reads-kept p)
 
 -- the same bytes are kept in one way, and the end of the input is answered in one way
-kept-one : {t u u′ : Tuner} {bytes bytes′ held held′ x x′ : List ℕ} → bytes ≡ bytes′ → Kept t bytes u held x → Kept t bytes′ u′ held′ x′ → (u ≡ u′) × (held ≡ held′) × (x ≡ x′)
+kept-one : {t u u′ : Desk} {bytes bytes′ held held′ x x′ : List ℕ} → bytes ≡ bytes′ → Kept t bytes u held x → Kept t bytes′ u′ held′ x′ → (u ≡ u′) × (held ≡ held′) × (x ≡ x′)
 kept-one {t} {u′ = u′} {x′ = x′} e p q =
     let o = parted-one (p .whole) (p .rest) (q .whole) (q .rest) (all-whole (p .said)) (all-whole (q .said)) (p .open-end) (q .open-end) (sym (p .parts) ∙ e ∙ q .parts) in
     let s = all-said-one (p .said) (subst (λ (l : List ℕ). AllSaid t l u′ x′) (sym (o .0)) (q .said)) in
     (s .0, p .kept ∙ ap heldOf (o .1) ∙ sym (q .kept), s .1)
 
-ended-one : {t v v′ : Tuner} {held y y′ : List ℕ} → Ended t held v y → Ended t held v′ y′ → (v ≡ v′) × (y ≡ y′)
+ended-one : {t v v′ : Desk} {held y y′ : List ℕ} → Ended t held v y → Ended t held v′ y′ → (v ≡ v′) × (y ≡ y′)
 ended-one nothing-held nothing-held = (refl, refl)
-ended-one (last-line p) (last-line q) = said-one p q
+ended-one (last-line p) (last-line q) = let o = said-one p q in (o .0, o .1)
 
 pub cutting : Cutting
 cutting t u u′ v v′ reads reads′ held held′ text text′ last last′ e p x q y =
     let o = kept-one e (reads-kept p) (reads-kept q) in
-    let s = ended-one x (subst₂ (λ (u : Tuner) (held : List ℕ). Ended u held v′ last′) (sym (o .0)) (sym (o .1)) y) in
+    let s = ended-one x (subst₂ (λ (u : Desk) (held : List ℕ). Ended u held v′ last′) (sym (o .0)) (sym (o .1)) y) in
     (s .0, λ i. o .2 i ++ s .1 i)

@@ -6,17 +6,20 @@ use mathlib.Core.Option.{Option, none, some, Option·map, bind}
 use Prim.Native.Nat.{ℕ, _+_, _-_, _*_, _≤_, _<_}
 use native.Mathlib.Omega.{arith}
 use native.Mathlib.Numerals.{add-one}
-use borrow.Author.Tests.{eqb-true, eq-eqb, ne-eqb, lt-leb, le-leb}
-use lib.Dec.{eqb}
-use lib.IntN.{ℤ}
-use lib.ListN.{length, take, drop, set, length-set, length-drop}
+use borrow.Author.Tests.{eqb-true, eq-eqb, ne-eqb, lt-leb, le-leb, leb-true}
+use lib.Dec.{eqb, leb}
+use lib.IntN.{ℤ, pos}
+use lib.ListN.{length, take, drop, set, replicate, length-set, length-drop}
 use lib.Seq.{take-suc-set, length-take-le}
-use Rattle.whole.specs.Tests.{Decides, cond-yes, cond-no, yes-and-no, and-left, and-right, by}
+use Rattle.whole.specs.Tests.{Decides, cond-case, cond-yes, cond-no, yes-and-no, and-left, and-right, by}
 use Rattle.rules.specs.declared.Settings.{Settings}
-use Rattle.rules.specs.Rules.{cdRate}
-use Rattle.tuner.specs.declared.Tuner.{Tuner}
-use Rattle.answers.specs.declared.Answer.{Answer}
-use Rattle.tuner.specs.Tuners.{Verdict, record-out-of-range, block-empty, block-over-512, output-short, number-neither, other-samples, given-again, take-full, taken, answerBy, Took}
+use Rattle.rules.specs.Rules.{defaults, cdRate, longestBlock}
+use Rattle.one.specs.declared.Tuner.{Tuner}
+use Rattle.one.specs.declared.Numbers.{Numbers}
+use Rattle.one.specs.declared.Answer.{Answer}
+use Rattle.one.specs.Tuners.{freshTuner, defaultTuner, plain, counted, answerBy, Took, Started}
+use Rattle.one.specs.Following.{four as outputs}
+use Rattle.one.specs.Verdicts.{verdict-fits}
 use Rattle.text.specs.Text.{fields, number, sample}
 use Rattle.text.specs.Places.{optional, First}
 use Rattle.text.specs.Fields.{later, later-end, later-some, later-field}
@@ -24,7 +27,7 @@ use Rattle.text.specs.Reading.{field-long}
 use Rattle.lines.specs.declared.NumberField.{NumberField}
 use Rattle.lines.specs.declared.FourSettings.{FourSettings}
 use Rattle.lines.specs.declared.Reply.{Reply}
-use Rattle.lines.specs.Lines.{Line, start, change, block, midi, unreadable, each, four, one, startOf, changeOf, settingsIn, lineOf, startIn, changeIn, blockIn, resetIn, modeIn, channelIn, midiIn, recordIn, read, Said, Answered, answered, same, startWord, changeWord, blockWord, resetWord, modeWord, channelWord, midiWord}
+use Rattle.lines.specs.Lines.{Line, start, change, block, reset, mode, channel, midi, unreadable, each, four, one, startOf, changeOf, settingsIn, lineOf, startIn, changeIn, blockIn, resetIn, modeIn, channelIn, midiIn, recordIn, read, Desk, desk, numbered, begins, alone, TookAlone, Said, Answered, answered, same, startWord, changeWord, blockWord, resetWord, modeWord, channelWord, midiWord}
 use Rattle.lines.specs.Steps.{NumberIn, no-field, no-number, a-number, NumberRead, FieldRead, FieldsRead, FourRead, wordOf, keyboardWordOf, keyboardChosen, Replied}
 
 -- ---- a field is read, or not
@@ -233,9 +236,9 @@ module _ {fs more : List (List ℕ)} {ok : Bool} {k : ℕ} (n : NumberIn 65535 f
       by-field (a-number e n) y = absurd (yes-and-no refl y)
 
   module _ (good : Bool) (xs : List ℤ) (yes : ok ≡ true) (e : optional good xs ≡ each sample more) where
-    numbered : blockIn fs ≡ lineOf (Option·map (block k) (each sample more))
+    block-numbered : blockIn fs ≡ lineOf (Option·map (block k) (each sample more))
     unfolding blockIn bind
-    numbered = by-field n yes
+    block-numbered = by-field n yes
       where
         by-field : {ok : Bool} → NumberIn 65535 fs ok k more → ok ≡ true → blockIn fs ≡ lineOf (Option·map (block k) (each sample more))
         by-field (no-field e) y = absurd (yes-and-no y refl)
@@ -243,10 +246,10 @@ module _ {fs more : List (List ℕ)} {ok : Bool} {k : ℕ} (n : NumberIn 65535 f
         by-field (a-number e n) y = rw (e, n)
 
     pub block-unread : good ≡ false → blockIn fs ≡ unreadable
-    block-unread y = numbered ∙ line-unread (block k) good xs e y
+    block-unread y = block-numbered ∙ line-unread (block k) good xs e y
 
     pub block-read : good ≡ true → blockIn fs ≡ block k xs
-    block-read y = numbered ∙ line-read (block k) good xs e y
+    block-read y = block-numbered ∙ line-read (block k) good xs e y
 
 pub midi-some : (fs : List (List ℕ)) → 0 < length fs → midiIn fs ≡ lineOf (Option·map midi (each (number 255) fs))
 unfolding midiIn
@@ -306,28 +309,54 @@ pub read-short : (line : List ℕ) → length line ≤ 8192 → read line ≡ re
 unfolding read
 read-short line h = rw (le-leb (length line) 8192 h)
 
-module _ {t : Tuner} {out out′ : List ℕ} {r : Reply} (line : List ℕ) (room : 4096 ≤ length out) where
-  answered-as : {l : Line} → read line ≡ l → Replied t l r out out′ → Answered t line out (r .tuner) (r .length) out′
-  answered-as e p = answered room (subst (λ (l : Line). Said t l (r .tuner) (p .text)) (sym e) (p .said)) (p .put)
+-- as `answer_line` promises it
+abbrev Promised : Desk → (line : List ℕ) → Reply → (store′ out out′ : List ℕ) → Type 0
+Promised d line r store′ out out′ = Answered d line out (desk (r .tuner) store′) (r .answer) (r .length) out′ × (r .begins ≡ begins (read line) (r .answer))
 
-  pub answered-long : 8192 < length line → Replied t unreadable r out out′ → Answered t line out (r .tuner) (r .length) out′
+module _ {d : Desk} {store′ out out′ : List ℕ} {r : Reply} (line : List ℕ) (room : 4096 ≤ length out) where
+  answered-as : {l : Line} → read line ≡ l → Replied d l r store′ out out′ → Promised d line r store′ out out′
+  answered-as e p = (answered room (subst (λ (l : Line). Said d l (desk (r .tuner) store′) (p .text) (r .answer)) (sym e) (p .said)) (p .put), p .begun ∙ ap (λ (l : Line). begins l (r .answer)) (sym e))
+
+  pub answered-long : 8192 < length line → Replied d unreadable r store′ out out′ → Promised d line r store′ out out′
   answered-long h p = answered-as (read-long line h) p
 
-  pub answered-record : length line ≤ 8192 → Replied t (recordIn (fields line)) r out out′ → Answered t line out (r .tuner) (r .length) out′
+  pub answered-record : length line ≤ 8192 → Replied d (recordIn (fields line)) r store′ out out′ → Promised d line r store′ out out′
   answered-record h p = answered-as (read-short line h) p
 
--- ---- no block writes more than 512 samples
-few-written : {t : Tuner} {k : ℕ} {xs : List ℤ} {room n : ℕ} → Verdict t k xs room n → answerBy n t k xs .written ≤ 512
-unfolding answerBy
-few-written (record-out-of-range n) = omega arith
-few-written (block-empty g e) = omega arith
-few-written (block-over-512 g e) = omega arith
-few-written (output-short g a b e) = omega arith
-few-written (number-neither f l n) = omega arith
-few-written (other-samples f l e) = omega arith
-few-written (given-again f l e) = f .most
-few-written (take-full f l n c) = omega arith
-few-written (taken f l n c) = f .most
+-- with no room nothing begins
+pub begins-no-room : (line : Line) → false ≡ begins line (numbered 4)
+unfolding begins
+begins-no-room (start hertz s) = refl
+begins-no-room (change s) = refl
+begins-no-room (block k xs) = refl
+begins-no-room reset = refl
+begins-no-room (mode m) = refl
+begins-no-room (channel c) = refl
+begins-no-room (midi bytes) = refl
+begins-no-room unreadable = refl
 
-pub took-few : {t : Tuner} {k : ℕ} {xs ys : List ℤ} {t′ : Tuner} {a : Answer} {ys′ : List ℤ} → Took t k xs ys t′ a ys′ → a .written ≤ 512
-took-few p = subst (λ (a : Answer). a .written ≤ 512) (sym (p .answer)) (few-written (p .verdict))
+-- ---- a block
+
+-- none writes more than 512 samples
+few-written : (v long : ℕ) (n : Numbers) → (v ≤ 1 → long ≤ 512) → answerBy v long n .written ≤ 512
+unfolding answerBy
+few-written v long n h = cond-case (leb v 1) (counted v long n) (plain v n) (λ (a : Answer). a .written ≤ 512) (λ e. h (leb-true v 1 e)) (λ e. omega arith)
+
+pub took-few : {t : Tuner} {k : ℕ} {xs : List ℤ} {os os′ : List (List ℤ)} {store store′ : List ℕ} {t′ : Tuner} {a : Answer} → Took t k xs os store t′ a os′ store′ → a .written ≤ 512
+took-few {xs = xs} {t′ = t′} p = subst (λ (a : Answer). a .written ≤ 512) (sym (p .answer)) (few-written (p .number) (length xs) (t′ .numbers) (λ h. verdict-fits (p .verdict) h .most))
+
+-- a list without places is the empty one
+pub no-places : {A : Type 0} (l : List A) → length l ≡ 0 → l ≡ []
+no-places [] e = refl
+no-places (x ∷ l) e = absurd (omega arith)
+
+-- so that what is lent for voices comes back as it was
+pub took-alone : {t t′ : Tuner} {k : ℕ} {xs ys : List ℤ} (first second third : List ℤ) {store store′ : List ℕ} {a : Answer} → length first ≡ 0 → length second ≡ 0 → length third ≡ 0
+    → Took t k xs (alone (replicate longestBlock (pos 0))) store t′ a (outputs ys first second third) store′ → TookAlone (desk t store) k xs (desk t′ store′) a ys
+took-alone {t} {t′} {k} {xs} {ys} first second third {store} {store′} {a} e f g p =
+    subst (λ (os : List (List ℤ)). Took t k xs (alone (replicate longestBlock (pos 0))) store t′ a os store′) (λ i. outputs ys (no-places first e i) (no-places second f i) (no-places third g i)) p
+
+-- ---- the opening
+pub opened : {s : Settings} {voices : List ℤ} {store : List ℕ} {t : Tuner} {v : ℕ} → s ≡ defaults → length voices ≡ 0 → Started cdRate s 0 voices store t v → t ≡ defaultTuner
+opened {voices = voices} {v = v} e n p =
+    p .tuner ∙ (λ i. cond (eqb v 0) (freshTuner cdRate (e i) 0 (no-places voices n i)) defaultTuner) ∙ cond-case (eqb v 0) defaultTuner defaultTuner (λ (t : Tuner). t ≡ defaultTuner) (λ z. refl) (λ z. refl)

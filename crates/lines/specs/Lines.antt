@@ -11,9 +11,10 @@ use Prim.Native.Nat.{_+_}
 use lib.ListN.{length, getD, take, drop, replicate}
 use Rattle.rules.specs.declared.Settings.{Settings}
 use Rattle.rules.specs.Rules.{scaleMode, cdRate, longestBlock}
-use Rattle.tuner.specs.declared.Tuner.{Tuner}
-use Rattle.answers.specs.declared.Answer.{Answer}
-use Rattle.tuner.specs.Tuners.{Took, Started, Changed, Reset, Keyed}
+use Rattle.one.specs.declared.Tuner.{Tuner}
+use Rattle.one.specs.declared.Answer.{Answer}
+use Rattle.one.specs.Tuners.{Took, Started, Changed, Reset, Keyed}
+use Rattle.one.specs.Following.{four as outputs}
 use Rattle.text.specs.Text.{fields, number, sample, decimal, sampleFields, Put}
 
 -- ---- what a line says
@@ -149,46 +150,80 @@ abbrev pub blockLine : Answer → List ℤ → List ℕ
 blockLine a ys =
     decimal (a .number) ++ (9 ∷ decimal (a .written)) ++ (9 ∷ decimal (a .repeated)) ++ (9 ∷ decimal (a .dropped)) ++ sampleFields (take (a .written) ys) ++ (10 ∷ [])
 
+-- what lines speak to: a tuner, and the store that is lent for its list
+pub record Desk : Type 0 where
+  pub tuner : Tuner
+  pub store : List ℕ
+
+abbrev pub desk : Tuner → List ℕ → Desk
+desk t store = record { tuner = t; store = store }
+
+-- an answer that has no more to say than its number
+abbrev pub numbered : ℕ → Answer
+numbered v = record { number = v; written = 0; repeated = 0; dropped = 0; pitched = 0; strayed = 0; rows = 0; left = 0 }
+
 -- the settings that change, mode and channel ask the tuner t for: those that a line does not name stay
 abbrev pub withFour : Tuner → Settings → Settings
-withFour t s = record { scale = s .scale; eps = s .eps; decay = s .decay; floor = s .floor; mode = t .settings .mode; channel = t .settings .channel }
+withFour t s = let o = t .numbers .settings in record { scale = s .scale; eps = s .eps; decay = s .decay; floor = s .floor; mode = o .mode; channel = o .channel }
 
 abbrev pub withMode : Tuner → ℕ → Settings
-withMode t m = let s = t .settings in record { scale = s .scale; eps = s .eps; decay = s .decay; floor = s .floor; mode = m; channel = s .channel }
+withMode t m = let s = t .numbers .settings in record { scale = s .scale; eps = s .eps; decay = s .decay; floor = s .floor; mode = m; channel = s .channel }
 
 abbrev pub withChannel : Tuner → ℕ → Settings
-withChannel t c = let s = t .settings in record { scale = s .scale; eps = s .eps; decay = s .decay; floor = s .floor; mode = s .mode; channel = c }
+withChannel t c = let s = t .numbers .settings in record { scale = s .scale; eps = s .eps; decay = s .decay; floor = s .floor; mode = s .mode; channel = c }
 
--- a line to the tuner t leaves t′ and is answered by this text
-pub data Said (t : Tuner) : Line → Tuner → List ℕ → Type 0 where
-  begun : {hertz : ℕ} {s : Settings} {t′ : Tuner} {a : Answer} → Started hertz s t′ a → a .number ≡ 0 → Said t (start hertz s) t′ (numberLine (a .number))
-  not-begun : {hertz : ℕ} {s : Settings} {t′ : Tuner} {a : Answer} → Started hertz s t′ a → (a .number ≡ 0 → ⊥) → Said t (start hertz s) t (numberLine (a .number))
-  changed : {s : Settings} {t′ : Tuner} {a : Answer} → Changed t (withFour t s) t′ a → Said t (change s) t′ (numberLine (a .number))
-  taken : {k : ℕ} {xs ys : List ℤ} {t′ : Tuner} {a : Answer} → Took t k xs (replicate longestBlock (pos 0)) t′ a ys → Said t (block k xs) t′ (blockLine a ys)
-  begun-again : {t′ : Tuner} {a : Answer} → Reset t t′ a → Said t reset t′ (numberLine (a .number))
-  mode-changed : {m : ℕ} {t′ : Tuner} {a : Answer} → Changed t (withMode t m) t′ a → Said t (mode m) t′ (numberLine (a .number))
-  channel-changed : {c : ℕ} {t′ : Tuner} {a : Answer} → Changed t (withChannel t c) t′ a → Said t (channel c) t′ (numberLine (a .number))
-  keyed : {bytes : List ℕ} {t′ : Tuner} {a : Answer} → Keyed t bytes t′ a → Said t (midi bytes) t′ (numberLine (a .number))
-  not-read : Said t unreadable t (numberLine 10)
+-- a start keeps a list where the tuner before it keeps one, and chooses no voices
+abbrev pub StartsAnew : Desk → ℕ → Settings → Tuner → ℕ → Type 0
+StartsAnew d hertz s t′ v = Started hertz s (d .tuner .numbers .listed) [] (d .store) t′ v
 
--- the promise of a line: with room for 4,096 bytes it is answered at the front of the output, and with less nothing is done
-pub data Answered (t : Tuner) (line out : List ℕ) (t′ : Tuner) (n : ℕ) (out′ : List ℕ) : Type 0 where
-  answered : {text : List ℕ} → 4096 ≤ length out → Said t (read line) t′ text → Put out 0 text out′ n → Answered t line out t′ n out′
-  no-room : length out < 4096 → t′ ≡ t → n ≡ 0 → out′ ≡ out → Answered t line out t′ n out′
+-- the lead's output alone is lent to a block, so that a tuner with voices answers 4
+abbrev pub alone : List ℤ → List (List ℤ)
+alone ys = outputs ys [] [] []
+
+abbrev pub TookAlone : Desk → ℕ → List ℤ → Desk → Answer → List ℤ → Type 0
+TookAlone d k xs d′ a ys = Took (d .tuner) k xs (alone (replicate longestBlock (pos 0))) (d .store) (d′ .tuner) a (alone ys) (d′ .store)
+
+-- a line to the desk d leaves d′ and is answered by this text, which prints this answer
+pub data Said (d : Desk) : Line → Desk → List ℕ → Answer → Type 0 where
+  begun : {hertz : ℕ} {s : Settings} {t′ : Tuner} {v : ℕ} → StartsAnew d hertz s t′ v → v ≡ 0 → Said d (start hertz s) (desk t′ (d .store)) (numberLine v) (numbered v)
+  not-begun : {hertz : ℕ} {s : Settings} {t′ : Tuner} {v : ℕ} → StartsAnew d hertz s t′ v → (v ≡ 0 → ⊥) → Said d (start hertz s) d (numberLine v) (numbered v)
+  changed : {s : Settings} {t′ : Tuner} {v : ℕ} → Changed (d .tuner) (withFour (d .tuner) s) t′ v → Said d (change s) (desk t′ (d .store)) (numberLine v) (numbered v)
+  taken : {k : ℕ} {xs ys : List ℤ} {t′ : Tuner} {store′ : List ℕ} {a : Answer} → TookAlone d k xs (desk t′ store′) a ys → Said d (block k xs) (desk t′ store′) (blockLine a ys) a
+  begun-again : {t′ : Tuner} {v : ℕ} → Reset (d .tuner) (d .store) t′ v → Said d reset (desk t′ (d .store)) (numberLine v) (numbered v)
+  mode-changed : {m : ℕ} {t′ : Tuner} {v : ℕ} → Changed (d .tuner) (withMode (d .tuner) m) t′ v → Said d (mode m) (desk t′ (d .store)) (numberLine v) (numbered v)
+  channel-changed : {c : ℕ} {t′ : Tuner} {v : ℕ} → Changed (d .tuner) (withChannel (d .tuner) c) t′ v → Said d (channel c) (desk t′ (d .store)) (numberLine v) (numbered v)
+  keyed : {bytes : List ℕ} {t′ : Tuner} {v : ℕ} → Keyed (d .tuner) bytes t′ v → Said d (midi bytes) (desk t′ (d .store)) (numberLine v) (numbered v)
+  not-read : Said d unreadable d (numberLine 10) (numbered 10)
+
+-- a start or a reset that is taken begins a take
+unfoldable pub begins : Line → Answer → Bool
+begins (start hertz s) a = eqb (a .number) 0
+begins (change s) a = false
+begins (block k xs) a = false
+begins reset a = eqb (a .number) 0
+begins (mode m) a = false
+begins (channel c) a = false
+begins (midi bytes) a = false
+begins unreadable a = false
+
+-- the promise of a line: with room for 4,096 bytes it is answered at the front of the output; with less nothing is done, and the answer is 4
+pub data Answered (d : Desk) (line out : List ℕ) (d′ : Desk) (a : Answer) (n : ℕ) (out′ : List ℕ) : Type 0 where
+  answered : {text : List ℕ} → 4096 ≤ length out → Said d (read line) d′ text a → Put out 0 text out′ n → Answered d line out d′ a n out′
+  no-room : length out < 4096 → d′ ≡ d → a ≡ numbered 4 → n ≡ 0 → out′ ≡ out → Answered d line out d′ a n out′
 
 -- no line ends in these bytes
 abbrev pub NoEnd : List ℕ → Type 0
 NoEnd bs = (k : ℕ) → k < length bs → getD bs k 0 ≡ 10 → ⊥
 
--- whole lines to the tuner t, each with its end, leave t′ and are answered by this text, in their order
-pub data AllSaid (t : Tuner) : List ℕ → Tuner → List ℕ → Type 0 where
-  no-line : AllSaid t [] t []
-  line-more : {before : List ℕ} (line : List ℕ) {u t′ : Tuner} {text more : List ℕ} → AllSaid t before u text → NoEnd line → Said u (read line) t′ more → AllSaid t (before ++ line ++ (10 ∷ [])) t′ (text ++ more)
+-- whole lines to the desk d, each with its end, leave d′ and are answered by this text, in their order
+pub data AllSaid (d : Desk) : List ℕ → Desk → List ℕ → Type 0 where
+  no-line : AllSaid d [] d []
+  line-more : {before : List ℕ} (line : List ℕ) {u d′ : Desk} {text more : List ℕ} {a : Answer} → AllSaid d before u text → NoEnd line → Said u (read line) d′ more a → AllSaid d (before ++ line ++ (10 ∷ [])) d′ (text ++ more)
 
 -- the promise of a batch: the input's first `at` bytes are whole lines and answered; after them no line ends, or there is no room for an answer
-pub record AnsweredAll (t : Tuner) (input out : List ℕ) (t′ : Tuner) (at n : ℕ) (out′ : List ℕ) : Type 0 where
+pub record AnsweredAll (d : Desk) (input out : List ℕ) (d′ : Desk) (at n : ℕ) (out′ : List ℕ) : Type 0 where
   pub within : at ≤ length input
   pub text : List ℕ
-  pub said : AllSaid t (take at input) t′ text
+  pub said : AllSaid d (take at input) d′ text
   pub put : Put out 0 text out′ n
   pub stopped : NoEnd (drop at input) ⊎ (length out < n + 4096)

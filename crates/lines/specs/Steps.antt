@@ -1,5 +1,5 @@
 -- What the parts of the reading and the answering promise.
-use mathlib.Core.Path.{_≡_, sym, subst}
+use mathlib.Core.Path.{_≡_, sym, ap, subst, subst₂, _∙_}
 use mathlib.Core.Bool.{Bool, true, false, cond}
 use mathlib.Core.List.{List, [], _∷_}
 use mathlib.Core.Option.{Option, none, some}
@@ -7,9 +7,9 @@ use Prim.Native.Nat.{ℕ, _+_, _≤_}
 use lib.Dec.{eqb}
 use lib.ListN.{length, take}
 use Rattle.rules.specs.declared.Settings.{Settings}
-use Rattle.answers.specs.declared.Answer.{Answer}
-use Rattle.tuner.specs.declared.Tuner.{Tuner}
-use Rattle.tuner.specs.Tuners.{Changed}
+use Rattle.one.specs.declared.Tuner.{Tuner}
+use Rattle.one.specs.declared.Answer.{Answer}
+use Rattle.one.specs.Tuners.{Changed}
 use Rattle.text.specs.declared.Number.{Number}
 use Rattle.text.specs.Text.{number, Put}
 use Rattle.text.specs.Places.{optional}
@@ -18,7 +18,7 @@ use Rattle.lines.specs.declared.Reply.{Reply}
 use Rattle.lines.specs.declared.NumberField.{NumberField}
 use Rattle.lines.specs.declared.FourSettings.{FourSettings}
 use Rattle.lines.specs.declared.Count.{Count}
-use Rattle.lines.specs.Lines.{Line, start, unreadable, each, four, startOf, settingsIn, modeIn, channelIn, midiIn, same, startWord, changeWord, blockWord, resetWord, modeWord, channelWord, midiWord, numberLine, Said}
+use Rattle.lines.specs.Lines.{Line, start, unreadable, each, four, startOf, settingsIn, modeIn, channelIn, midiIn, same, startWord, changeWord, blockWord, resetWord, modeWord, channelWord, midiWord, Desk, desk, numbered, numberLine, Said, begins}
 
 -- the first of some fields is read, and the fields after it
 pub data NumberIn (most : ℕ) (fs : List (List ℕ)) : Bool → ℕ → List (List ℕ) → Type 0 where
@@ -66,22 +66,41 @@ wordOf w = cond (same w startWord) 1 (cond (same w changeWord) 2 (cond (same w b
 unfoldable pub keyboardChosen : ℕ → List (List ℕ) → Line
 keyboardChosen n fs = cond (eqb n 5) (modeIn fs) (cond (eqb n 6) (channelIn fs) (cond (eqb n 7) (midiIn fs) unreadable))
 
--- a line was answered at the front of the output
-pub record Replied (t : Tuner) (line : Line) (r : Reply) (out out′ : List ℕ) : Type 0 where
+-- a line was answered at the front of the output, and what was lent for the list is then this
+pub record Replied (d : Desk) (line : Line) (r : Reply) (store′ out out′ : List ℕ) : Type 0 where
   pub text : List ℕ
-  pub said : Said t line (r .tuner) text
+  pub said : Said d line (desk (r .tuner) store′) text (r .answer)
+  pub begun : r .begins ≡ begins line (r .answer)
   pub put : Put out 0 text out′ (r .length)
 
+-- whatever store is lent, it is as it was
+abbrev pub RepliedPlain : Tuner → Line → Reply → (out out′ : List ℕ) → Type 0
+RepliedPlain t line r out out′ = (store : List ℕ) → Replied (desk t store) line r store out out′
+
 -- the same line by another name
-pub replied-as : {t : Tuner} {line line′ : Line} {r : Reply} {out out′ : List ℕ} → line ≡ line′ → Replied t line′ r out out′ → Replied t line r out out′
-replied-as {t} {r = r} {out} {out′} e p = subst (λ (l : Line). Replied t l r out out′) (sym e) p
+pub replied-as : {d : Desk} {line line′ : Line} {r : Reply} {store′ out out′ : List ℕ} → line ≡ line′ → Replied d line′ r store′ out out′ → Replied d line r store′ out out′
+replied-as {d} {r = r} {store′} {out} {out′} e p = subst (λ (l : Line). Replied d l r store′ out out′) (sym e) p
+
+-- a number alone was answered, beside this tuner
+pub record Says (t′ : Tuner) (v : ℕ) (b : Bool) (r : Reply) (out out′ : List ℕ) : Type 0 where
+  pub tuner : r .tuner ≡ t′
+  pub answer : r .answer ≡ numbered v
+  pub begun : r .begins ≡ b
+  pub put : Put out 0 (numberLine v) out′ (r .length)
+
+-- as the answer to a line
+pub replied-number : {d : Desk} {line : Line} {t′ : Tuner} {v : ℕ} {b : Bool} {r : Reply} {store′ out out′ : List ℕ} → Said d line (desk t′ store′) (numberLine v) (numbered v) → b ≡ begins line (numbered v) → Says t′ v b r out out′ → Replied d line r store′ out out′
+replied-number {d} {line} {v = v} {store′ = store′} s e p =
+    record {
+      text = numberLine v;
+      said = subst₂ (λ (u : Tuner) (a : Answer). Said d line (desk u store′) (numberLine v) a) (sym (p .tuner)) (sym (p .answer)) s;
+      begun = p .begun ∙ e ∙ ap (begins line) (sym (p .answer));
+      put = p .put;
+    }
 
 -- other settings were asked for, and their number was answered
 pub record ChangeReplied (t : Tuner) (s : Settings) (r : Reply) (out out′ : List ℕ) : Type 0 where
-  pub answer : Answer
-  pub changed : Changed t s (r .tuner) answer
-  pub put : Put out 0 (numberLine (answer .number)) out′ (r .length)
-
--- as a line that asks for them
-pub replied-changed : {t : Tuner} {s : Settings} {line : Line} {r : Reply} {out out′ : List ℕ} (p : ChangeReplied t s r out out′) → Said t line (r .tuner) (numberLine (p .answer .number)) → Replied t line r out out′
-replied-changed p said = record { text = numberLine (p .answer .number); said = said; put = p .put }
+  pub after : Tuner
+  pub number : ℕ
+  pub changed : Changed t s after number
+  pub says : Says after number false r out out′

@@ -1,25 +1,28 @@
 // The line program's lines: a line is read, answered by the tuner's calls, and the answer is written.
+use one::Answer;
+use one::Tuner;
 use rules::CD_RATE;
 use rules::LONGEST_BLOCK;
 use rules::SCALE_MODE;
+use rules::Settings;
 use text::Number;
-use tuner::Answer;
-use tuner::Settings;
-use tuner::Tuner;
 ghost use mathlib.Core.Path.{_≡_};
 ghost use mathlib.Core.Bool.{false};
 ghost use Prim.Native.Nat.{_+_, _≤_, _<_};
 ghost use lib.ListN.{length};
 ghost use Rattle.rules.specs.Rules.{longestBlock};
+ghost use Rattle.one.specs.Tuners.{defaultTuner};
 ghost use Rattle.text.specs.Text.{fields, number, sample, Put};
 ghost use Rattle.text.specs.Places.{optional};
 ghost use Rattle.text.specs.Fields.{later};
-ghost use Rattle.lines.specs.Lines.{settingsIn, one, recordIn, startIn, changeIn, blockIn, resetIn, modeIn, channelIn, midiIn, numberLine, blockLine, Answered, AnsweredAll, unreadable};
-ghost use Rattle.lines.specs.Steps.{NumberRead, FieldRead, FieldsRead, FourRead, RateRead, wordOf, keyboardWordOf, keyboardChosen, Replied, ChangeReplied};
+ghost use Rattle.lines.specs.Lines.{settingsIn, one, recordIn, startIn, changeIn, blockIn, resetIn, modeIn, channelIn, midiIn, numberLine, blockLine, desk, numbered, begins, read, Answered, AnsweredAll, unreadable};
+ghost use Rattle.lines.specs.Steps.{NumberRead, FieldRead, FieldsRead, FourRead, RateRead, wordOf, keyboardWordOf, keyboardChosen, Replied, RepliedPlain, Says, ChangeReplied};
 
-// What a line is answered: the tuner after it, and how many bytes were written.
+// What a line is answered: the tuner after it, the answer, whether a take began, and how many bytes were written.
 pub struct Reply {
     pub tuner: Tuner,
+    pub answer: Answer,
+    pub begins: bool,
     pub length: usize,
 }
 
@@ -250,22 +253,49 @@ fn say_block(out: &mut [u8], a: Answer, ys: &[i16]) -> usize
     t + 1
 }
 
-// A line that cannot be read prints 10 alone and changes nothing.
-fn unreadable(t: Tuner, out: &mut [u8]) -> Reply
-    requires { ⌜ 4096 ≤ length (now out) ⌝ }
-    ensures { λ r. ⌜ Replied t unreadable r (now (out .entry)) (now (out .exit)) ⌝ }
+// An answer that has no more to say than its number.
+fn numbered(v: u32) -> Answer
+    ensures { λ r. ⌜ r ≡ numbered v ⌝ }
 {
-    let n = say_number(out, 10);
+    Answer {
+        number: v,
+        written: 0,
+        repeated: 0,
+        dropped: 0,
+        pitched: 0,
+        strayed: 0,
+        rows: 0,
+        left: 0,
+    }
+}
+
+// Answers a number alone.
+fn say(t: Tuner, v: u32, begins: bool, out: &mut [u8]) -> Reply
+    requires { ⌜ 4096 ≤ length (now out) ⌝ }
+    ensures { λ r. ⌜ Says t v begins r (now (out .entry)) (now (out .exit)) ⌝ }
+{
+    let n = say_number(out, v);
+    let answer = numbered(v);
     Reply {
         tuner: t,
+        answer: answer,
+        begins: begins,
         length: n,
     }
 }
 
-// Start begins anew; if it is refused, the old tuner stays.
-fn start_line(t: Tuner, line: &[u8], at: usize, out: &mut [u8]) -> Reply
+// A line that cannot be read prints 10 alone and changes nothing.
+fn unreadable(t: Tuner, out: &mut [u8]) -> Reply
+    requires { ⌜ 4096 ≤ length (now out) ⌝ }
+    ensures { λ r. ⌜ RepliedPlain t unreadable r (now (out .entry)) (now (out .exit)) ⌝ }
+{
+    say(t, 10, false, out)
+}
+
+// Start begins anew, with a list where there was one; if it is refused, the old tuner stays.
+fn start_line(t: Tuner, line: &[u8], at: usize, out: &mut [u8], store: &[u32]) -> Reply
     requires { ⌜ (at ≤ length (now line)) × (4096 ≤ length (now out)) ⌝ }
-    ensures { λ r. ⌜ Replied t (startIn (later (now (line .entry)) at)) r (now (out .entry)) (now (out .exit)) ⌝ }
+    ensures { λ r. ⌜ Replied (desk t (now (store .entry))) (startIn (later (now (line .entry)) at)) r (now (store .entry)) (now (out .entry)) (now (out .exit)) ⌝ }
 {
     let s = four_settings(line, at);
     if !s.ok {
@@ -275,20 +305,13 @@ fn start_line(t: Tuner, line: &[u8], at: usize, out: &mut [u8]) -> Reply
     if !rate.ok {
         return unreadable(t, out);
     }
-    let d = tuner::start(rate.value, s.settings);
-    let number = d.answer.number;
-    let n = say_number(out, number);
-    if number == 0 {
+    let voices = [0i32; 0];
+    let d = one::start(rate.value, s.settings, t.numbers.listed, &voices, store);
+    if d.number == 0 {
         let u = d.tuner;
-        return Reply {
-            tuner: u,
-            length: n,
-        };
+        return say(u, d.number, true, out);
     }
-    Reply {
-        tuner: t,
-        length: n,
-    }
+    say(t, d.number, false, out)
 }
 
 // Asks for other settings, and writes the number that is answered.
@@ -297,18 +320,14 @@ fn settings_line(t: Tuner, s: Settings, out: &mut [u8]) -> Reply
     ensures { λ r. ⌜ ChangeReplied t s r (now (out .entry)) (now (out .exit)) ⌝ }
 {
     let d = t.change(s);
-    let n = say_number(out, d.answer.number);
     let u = d.tuner;
-    Reply {
-        tuner: u,
-        length: n,
-    }
+    say(u, d.number, false, out)
 }
 
 // Change keeps mode and channel.
 fn change_line(t: Tuner, line: &[u8], at: usize, out: &mut [u8]) -> Reply
     requires { ⌜ (at ≤ length (now line)) × (4096 ≤ length (now out)) ⌝ }
-    ensures { λ r. ⌜ Replied t (changeIn (later (now (line .entry)) at)) r (now (out .entry)) (now (out .exit)) ⌝ }
+    ensures { λ r. ⌜ RepliedPlain t (changeIn (later (now (line .entry)) at)) r (now (out .entry)) (now (out .exit)) ⌝ }
 {
     let s = four_settings(line, at);
     if !s.ok {
@@ -318,56 +337,53 @@ fn change_line(t: Tuner, line: &[u8], at: usize, out: &mut [u8]) -> Reply
         return unreadable(t, out);
     }
     let mut asked = s.settings;
-    asked.mode = t.settings.mode;
-    asked.channel = t.settings.channel;
+    asked.mode = t.numbers.settings.mode;
+    asked.channel = t.numbers.settings.channel;
     settings_line(t, asked, out)
 }
 
 fn mode_line(t: Tuner, line: &[u8], at: usize, out: &mut [u8]) -> Reply
     requires { ⌜ (at ≤ length (now line)) × (4096 ≤ length (now out)) ⌝ }
-    ensures { λ r. ⌜ Replied t (modeIn (later (now (line .entry)) at)) r (now (out .entry)) (now (out .exit)) ⌝ }
+    ensures { λ r. ⌜ RepliedPlain t (modeIn (later (now (line .entry)) at)) r (now (out .entry)) (now (out .exit)) ⌝ }
 {
     let m = one_setting(line, at);
     if !m.ok {
         return unreadable(t, out);
     }
-    let mut asked = t.settings;
+    let mut asked = t.numbers.settings;
     asked.mode = m.value;
     settings_line(t, asked, out)
 }
 
 fn channel_line(t: Tuner, line: &[u8], at: usize, out: &mut [u8]) -> Reply
     requires { ⌜ (at ≤ length (now line)) × (4096 ≤ length (now out)) ⌝ }
-    ensures { λ r. ⌜ Replied t (channelIn (later (now (line .entry)) at)) r (now (out .entry)) (now (out .exit)) ⌝ }
+    ensures { λ r. ⌜ RepliedPlain t (channelIn (later (now (line .entry)) at)) r (now (out .entry)) (now (out .exit)) ⌝ }
 {
     let c = one_setting(line, at);
     if !c.ok {
         return unreadable(t, out);
     }
-    let mut asked = t.settings;
+    let mut asked = t.numbers.settings;
     asked.channel = c.value;
     settings_line(t, asked, out)
 }
 
-fn reset_line(t: Tuner, line: &[u8], at: usize, out: &mut [u8]) -> Reply
+fn reset_line(t: Tuner, line: &[u8], at: usize, out: &mut [u8], store: &[u32]) -> Reply
     requires { ⌜ (at ≤ length (now line)) × (4096 ≤ length (now out)) ⌝ }
-    ensures { λ r. ⌜ Replied t (resetIn (later (now (line .entry)) at)) r (now (out .entry)) (now (out .exit)) ⌝ }
+    ensures { λ r. ⌜ Replied (desk t (now (store .entry))) (resetIn (later (now (line .entry)) at)) r (now (store .entry)) (now (out .entry)) (now (out .exit)) ⌝ }
 {
     if at < line.len() {
         return unreadable(t, out);
     }
-    let d = t.reset();
-    let n = say_number(out, d.answer.number);
+    let d = t.reset(store);
     let u = d.tuner;
-    Reply {
-        tuner: u,
-        length: n,
-    }
+    say(u, d.number, d.number == 0, out)
 }
 
-fn block_line(t: Tuner, line: &[u8], at: usize, out: &mut [u8]) -> Reply
+// The lead's output alone is lent: a tuner with voices has no room for them.
+fn block_line(t: Tuner, line: &[u8], at: usize, out: &mut [u8], store: &mut [u32]) -> Reply
     requires { ⌜ (at ≤ length (now line)) × (length (now line) ≤ 8192) × (4096 ≤ length (now out)) ⌝ }
-    ensures { λ r. ⌜ Replied t (blockIn (later (now (line .entry)) at)) r (now (out .entry)) (now (out .exit)) ⌝ }
+    ensures { λ r. ⌜ Replied (desk t (now (store .entry))) (blockIn (later (now (line .entry)) at)) r (now (store .exit)) (now (out .entry)) (now (out .exit)) ⌝ }
 {
     let k = number_field(line, at, 65535);
     if !k.ok {
@@ -381,18 +397,32 @@ fn block_line(t: Tuner, line: &[u8], at: usize, out: &mut [u8]) -> Reply
     let number = k.value as u16;
     let n = c.value;
     let mut ys = [0i16; LONGEST_BLOCK];
-    let d = t.block(number, &xs[..n], &mut ys);
-    let length = say_block(out, d.answer, &ys);
+    let mut first = [0i16; 0];
+    let mut second = [0i16; 0];
+    let mut third = [0i16; 0];
+    let d = t.block(
+        number,
+        &xs[..n],
+        &mut ys,
+        &mut first,
+        &mut second,
+        &mut third,
+        store,
+    );
+    let answer = d.answer;
+    let length = say_block(out, answer, &ys);
     let u = d.tuner;
     Reply {
         tuner: u,
+        answer: answer,
+        begins: false,
         length: length,
     }
 }
 
 fn midi_line(t: Tuner, line: &[u8], at: usize, out: &mut [u8]) -> Reply
     requires { ⌜ (at ≤ length (now line)) × (length (now line) ≤ 8192) × (4096 ≤ length (now out)) ⌝ }
-    ensures { λ r. ⌜ Replied t (midiIn (later (now (line .entry)) at)) r (now (out .entry)) (now (out .exit)) ⌝ }
+    ensures { λ r. ⌜ RepliedPlain t (midiIn (later (now (line .entry)) at)) r (now (out .entry)) (now (out .exit)) ⌝ }
 {
     if at == line.len() {
         return unreadable(t, out);
@@ -404,12 +434,8 @@ fn midi_line(t: Tuner, line: &[u8], at: usize, out: &mut [u8]) -> Reply
     }
     let n = c.value;
     let d = t.midi(&bytes[..n]);
-    let length = say_number(out, d.answer.number);
     let u = d.tuner;
-    Reply {
-        tuner: u,
-        length: length,
-    }
+    say(u, d.number, false, out)
 }
 
 // 5 mode, 6 channel, 7 midi, 0 another.
@@ -450,7 +476,7 @@ pub fn word(f: &[u8]) -> u32
 // By the line's first word w, which is one of the keyboard's or another.
 fn keyboard_line(t: Tuner, line: &[u8], at: usize, w: u32, out: &mut [u8]) -> Reply
     requires { ⌜ (at ≤ length (now line)) × (length (now line) ≤ 8192) × (4096 ≤ length (now out)) ⌝ }
-    ensures { λ r. ⌜ Replied t (keyboardChosen w (later (now (line .entry)) at)) r (now (out .entry)) (now (out .exit)) ⌝ }
+    ensures { λ r. ⌜ RepliedPlain t (keyboardChosen w (later (now (line .entry)) at)) r (now (out .entry)) (now (out .exit)) ⌝ }
 {
     if w == 5 {
         return mode_line(t, line, at, out);
@@ -465,46 +491,61 @@ fn keyboard_line(t: Tuner, line: &[u8], at: usize, w: u32, out: &mut [u8]) -> Re
 }
 
 // By the line's first word.
-fn record_line(t: Tuner, line: &[u8], out: &mut [u8]) -> Reply
+fn record_line(t: Tuner, line: &[u8], out: &mut [u8], store: &mut [u32]) -> Reply
     requires { ⌜ (length (now line) ≤ 8192) × (4096 ≤ length (now out)) ⌝ }
-    ensures { λ r. ⌜ Replied t (recordIn (fields (now (line .entry)))) r (now (out .entry)) (now (out .exit)) ⌝ }
+    ensures { λ r. ⌜ Replied (desk t (now (store .entry))) (recordIn (fields (now (line .entry)))) r (now (store .exit)) (now (out .entry)) (now (out .exit)) ⌝ }
 {
     let at = text::first(line, 0, 9);
     let w = word(&line[..at]);
     if w == 1 {
-        return start_line(t, line, at, out);
+        return start_line(t, line, at, out, store);
     }
     if w == 2 {
         return change_line(t, line, at, out);
     }
     if w == 3 {
-        return block_line(t, line, at, out);
+        return block_line(t, line, at, out, store);
     }
     if w == 4 {
-        return reset_line(t, line, at, out);
+        return reset_line(t, line, at, out, store);
     }
     keyboard_line(t, line, at, w, out)
 }
 
-// Answers a line, given without its end. With less room than 4,096 bytes nothing is done.
-pub fn answer_line(t: Tuner, line: &[u8], out: &mut [u8]) -> Reply
-    ensures { λ r. ⌜ Answered t (now (line .entry)) (now (out .entry)) (r .tuner) (r .length) (now (out .exit)) ⌝ }
+// The tuner to which the first line speaks: started with the defaults, without a list and without voices.
+pub fn opening() -> Tuner
+    ensures { λ r. ⌜ r ≡ defaultTuner ⌝ }
+{
+    let s = record::default_settings();
+    let voices = [0i32; 0];
+    let store = [0u32; 0];
+    let d = one::start(CD_RATE, s, 0, &voices, &store);
+    d.tuner
+}
+
+// Answers a line, given without its end, and lends a store for the list of a tuner that keeps one. With less room than 4,096 bytes nothing is done.
+pub fn answer_line(t: Tuner, line: &[u8], out: &mut [u8], store: &mut [u32]) -> Reply
+    ensures answered { λ r. ⌜ Answered (desk t (now (store .entry))) (now (line .entry)) (now (out .entry)) (desk (r .tuner) (now (store .exit))) (r .answer) (r .length) (now (out .exit)) ⌝ }
+    ensures begun { λ r. ⌜ r .begins ≡ begins (read (now (line .entry))) (r .answer) ⌝ }
 {
     if out.len() < 4096 {
+        let answer = numbered(4);
         return Reply {
             tuner: t,
+            answer: answer,
+            begins: false,
             length: 0,
         };
     }
     if line.len() > 8192 {
         return unreadable(t, out);
     }
-    record_line(t, line, out)
+    record_line(t, line, out, store)
 }
 
 // Answers one line after the other, as far as lines end within the input and there is room for an answer.
-pub fn answer_lines(t: Tuner, input: &[u8], out: &mut [u8]) -> Replies
-    ensures { λ r. ⌜ AnsweredAll t (now (input .entry)) (now (out .entry)) (r .tuner) (r .at) (r .length) (now (out .exit)) ⌝ }
+pub fn answer_lines(t: Tuner, input: &[u8], out: &mut [u8], store: &mut [u32]) -> Replies
+    ensures { λ r. ⌜ AnsweredAll (desk t (now (store .entry))) (now (input .entry)) (now (out .entry)) (desk (r .tuner) (now (store .exit))) (r .at) (r .length) (now (out .exit)) ⌝ }
 {
     let mut u = t;
     let mut at: usize = 0;
@@ -518,7 +559,7 @@ pub fn answer_lines(t: Tuner, input: &[u8], out: &mut [u8]) -> Replies
                 length: length,
             };
         }
-        let r = answer_line(u, &input[at..end], &mut out[length..]);
+        let r = answer_line(u, &input[at..end], &mut out[length..], store);
         u = r.tuner;
         length += r.length;
         at = end + 1;

@@ -7,8 +7,7 @@ use mathlib.Core.List.{[]}
 use Prim.Native.Nat.{_≤_}
 use lib.ListN.{length, take}
 use lib.Seq.{length-take-le}
-use Rattle.tuner.specs.declared.Tuner.{Tuner}
-use Rattle.tuner.specs.Starts.{default-start-taken}
+use Rattle.one.specs.declared.Tuner.{Tuner}
 use Rattle.daxfolin.specs.Turns.{Working}
 use Rattle.daxfolin.specs.Laws.{none-read, one-turn-more}
 use Rattle.daxfolin.proofs.main.Statement.{statement}
@@ -32,12 +31,12 @@ large-buffer-requires c κs = tt
 large-buffer-requires-2 : tie.Need-large-buffer-requires-2 Inv-loop μ-loop
 large-buffer-requires-2 c κs = tt
 
-start-default-requires : tie.Need-start-default-requires Inv-loop μ-loop
-start-default-requires c κs = tt
+opening-requires : tie.Need-opening-requires Inv-loop μ-loop
+opening-requires c κs = tt
 
 loop-holds : tie.Need-loop-holds Inv-loop μ-loop
 loop-holds c =
-    (sym (c .before .before .before .large-buffer .ensures), sym (c .before .before .large-buffer2 .ensures), omega arith, subst (λ (t : Tuner). Working t []) (sym (default-start-taken (c .before .start-default .ensures) .0)) none-read)
+    (sym (c .before .before .large-buffer .ensures), sym (c .before .large-buffer2 .ensures), omega arith, subst (λ (t : Tuner). Working t []) (sym (c .opening .ensures)) none-read)
 
 slice-aggregate-one-turn : tie.Need-slice-aggregate-one-turn Inv-loop μ-loop
 slice-aggregate-one-turn c = sym (c .before .before .loop .inv .0)
@@ -89,7 +88,7 @@ main-spec =
     μ-loop
     large-buffer-requires
     large-buffer-requires-2
-    start-default-requires
+    opening-requires
     loop-holds
     slice-aggregate-one-turn
     slice-aggregate-one-turn-2

@@ -6,8 +6,8 @@ use mathlib.Core.Path.{_≡_, refl, sym, ap, _∙_, subst}
 use borrow.Author.Tests.{not-true, not-false}
 use lib.ListN.{length, take}
 use lib.Seq.{length-take-le}
-use Rattle.lines.specs.Lines.{blockLine, taken}
-use Rattle.lines.specs.Laws.{block-unnumbered, block-unread, block-read, took-few}
+use Rattle.lines.specs.Lines.{begins, blockLine, taken}
+use Rattle.lines.specs.Laws.{block-unnumbered, block-unread, block-read, took-few, took-alone}
 use Rattle.lines.specs.Steps.{replied-as}
 use Rattle.lines.proofs.block_line.Statement.{statement}
 use Rattle.lines.proofs.block_line.Tie as tie
@@ -25,7 +25,7 @@ returns : tie.Need-returns
 returns c =
     let q = c .before .before in
     let k = q .before .before .before .before .number-field in
-    replied-as (block-unnumbered (k .ensures .field) (not-true (k .result .ok) (q .before .before .if1 .taken))) (q .unreadable .ensures)
+    replied-as (block-unnumbered (k .ensures .field) (not-true (k .result .ok) (q .before .before .if1 .taken))) (q .unreadable .ensures _)
 
 samples-from-requires : tie.Need-samples-from-requires
 samples-from-requires c κs = search needs
@@ -42,7 +42,7 @@ returns-2 c =
     let s = q .before .before .before .before in
     let k = s .before .before .before .before .number-field in
     let x = s .samples-from in
-    replied-as (block-unread (k .ensures .field) (x .result .ok) (take (x .result .value) (x .last .1 .1 .0)) (not-false (k .result .ok) (s .before .before .if1 .left)) (x .ensures .values) (not-true (x .result .ok) (q .before .before .if2 .taken))) (q .unreadable2 .ensures)
+    replied-as (block-unread (k .ensures .field) (x .result .ok) (take (x .result .value) (x .last .1 .1 .0)) (not-false (k .result .ok) (s .before .before .if1 .left)) (x .ensures .values) (not-true (x .result .ok) (q .before .before .if2 .taken))) (q .unreadable2 .ensures _)
 
 cast-number : tie.Need-cast-number
 cast-number c = search needs
@@ -58,6 +58,15 @@ slice-aggregate-block c =
 slice-aggregate-block-2 : tie.Need-slice-aggregate-block-2
 slice-aggregate-block-2 c = search needs
 
+slice-aggregate-block-3 : tie.Need-slice-aggregate-block-3
+slice-aggregate-block-3 c = search needs
+
+slice-aggregate-block-4 : tie.Need-slice-aggregate-block-4
+slice-aggregate-block-4 c = search needs
+
+slice-aggregate-block-5 : tie.Need-slice-aggregate-block-5
+slice-aggregate-block-5 c = search needs
+
 block-requires : tie.Need-block-requires
 block-requires c κs = search needs
 
@@ -65,22 +74,33 @@ slice-aggregate-say-block : tie.Need-slice-aggregate-say-block
 slice-aggregate-say-block c = search needs
 
 say-block-requires : tie.Need-say-block-requires
-say-block-requires c κs = (omega (arith, c .before .before .before .before .before .before .before .before .before .before .before .before .before .before .before .before .pre .2), took-few (c .before .before .before .block .ensures), search needs)
+say-block-requires c κs = let b = c .before .before .before .before .before .before .before .before .before in (omega (arith, b .before .before .before .before .before .before .before .before .before .before .before .before .before .before .before .before .before .before .pre .2), took-few (b .block .ensures), search needs)
 
 same-length-3 : tie.Need-same-length-3
 same-length-3 c = search needs
 
+same-length-4 : tie.Need-same-length-4
+same-length-4 c = search needs
+
 returns-3 : tie.Need-returns-3
+unfolding begins
 returns-3 c =
     let q = c .before .before .before in
-    let b = q .before .before .before .before in
-    let e = b .before .before .before .before in
+    let b = q .before .before .before .before .before .before .before .before .before .before in
+    let e = b .before .before .before .before .before .before .before .before in
     let s = e .before .before in
     let k = s .before .before .before .before .number-field in
     let x = s .samples-from in
+    let l = b .block .last in
+    let m = b .block .kept in
     replied-as
     (block-read (k .ensures .field) (x .result .ok) (take (x .result .value) (x .last .1 .1 .0)) (not-false (k .result .ok) (s .before .before .if1 .left)) (x .ensures .values) (not-false (x .result .ok) (e .if2 .left)))
-    (record { text = blockLine (b .block .result .answer) (b .block .last .1 .1 .1 .0); said = taken (b .block .ensures); put = q .say-block .ensures })
+    (record {
+      text = blockLine (b .block .result .answer) (l .1 .1 .1 .0);
+      said = taken (took-alone (l .1 .1 .1 .1 .0) (l .1 .1 .1 .1 .1 .0) (l .1 .1 .1 .1 .1 .1 .0) (m .1 .1 .1 .1 .0) (m .1 .1 .1 .1 .1 .0) (m .1 .1 .1 .1 .1 .1 .0) (b .block .ensures));
+      begun = refl;
+      put = q .say-block .ensures;
+    })
 
 pub block-line-spec : {M : Type 1} → statement M
 block-line-spec =
@@ -98,8 +118,12 @@ block-line-spec =
     array-share-prefix-xs
     slice-aggregate-block
     slice-aggregate-block-2
+    slice-aggregate-block-3
+    slice-aggregate-block-4
+    slice-aggregate-block-5
     block-requires
     slice-aggregate-say-block
     say-block-requires
     same-length-3
+    same-length-4
     returns-3)

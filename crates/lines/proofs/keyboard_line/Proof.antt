@@ -26,7 +26,7 @@ same-length c = search needs
 
 returns : tie.Need-returns
 unfolding keyboardChosen
-returns c = let q = c .before .before in let t = q .before .before in replied-as (by-word (t .before) (t .if1 .taken)) (q .mode-line .ensures)
+returns c store = let q = c .before .before in let t = q .before .before in replied-as (by-word (t .before) (t .if1 .taken)) (q .mode-line .ensures store)
 
 channel-line-requires : tie.Need-channel-line-requires
 channel-line-requires c κs = search needs
@@ -36,7 +36,7 @@ same-length-2 c = search needs
 
 returns-2 : tie.Need-returns-2
 unfolding keyboardChosen
-returns-2 c = let q = c .before .before in let t = q .before .before in replied-as (by-word (t .before .before) (t .if2 .taken)) (q .channel-line .ensures)
+returns-2 c store = let q = c .before .before in let t = q .before .before in replied-as (by-word (t .before .before) (t .if2 .taken)) (q .channel-line .ensures store)
 
 midi-line-requires : tie.Need-midi-line-requires
 midi-line-requires c κs = search needs
@@ -46,7 +46,7 @@ same-length-3 c = search needs
 
 returns-3 : tie.Need-returns-3
 unfolding keyboardChosen
-returns-3 c = let q = c .before .before in let t = q .before .before in replied-as (by-word (t .before .before .before) (t .if3 .taken)) (q .midi-line .ensures)
+returns-3 c store = let q = c .before .before in let t = q .before .before in replied-as (by-word (t .before .before .before) (t .if3 .taken)) (q .midi-line .ensures store)
 
 unreadable-requires : tie.Need-unreadable-requires
 unreadable-requires c κs = search needs
@@ -55,11 +55,11 @@ same-length-4 : tie.Need-same-length-4
 same-length-4 c = search needs
 
 returns-4 : tie.Need-returns-4
-returns-4 c =
+returns-4 c store =
     let q = c .before .before in
     let e = q .before .before in
     let w = e .before .before .before in
-    replied-as (keyboard-other (w .before .before .args .w) (left w) (e .before .before .if1 .left) (e .before .if2 .left) (e .if3 .left)) (q .unreadable .ensures)
+    replied-as (keyboard-other (w .before .before .args .w) (left w) (e .before .before .if1 .left) (e .before .if2 .left) (e .if3 .left)) (q .unreadable .ensures store)
 
 pub keyboard-line-spec : {M : Type 1} → statement M
 keyboard-line-spec =

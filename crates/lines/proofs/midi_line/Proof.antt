@@ -2,16 +2,16 @@
 -- Assumes nothing.
 use native.Mathlib.Omega.{arith}
 use borrow.Author.Needs.{needs}
-use mathlib.Core.Path.{_≡_, sym, ap, _∙_}
+use mathlib.Core.Path.{_≡_, refl, sym, ap, _∙_}
 use mathlib.Core.Option.{Option·map}
 use borrow.Author.Tests.{not-true, not-false}
 use lib.ListN.{take}
 use lib.Seq.{length-take-le}
 use Rattle.text.specs.Text.{number}
 use Rattle.text.specs.Fields.{later, later-end, later-some}
-use Rattle.lines.specs.Lines.{midi, each, lineOf, midiIn, numberLine, keyed}
+use Rattle.lines.specs.Lines.{midi, each, lineOf, midiIn, begins, keyed}
 use Rattle.lines.specs.Laws.{line-read, line-unread, midi-some}
-use Rattle.lines.specs.Steps.{replied-as}
+use Rattle.lines.specs.Steps.{replied-as, replied-number}
 use Rattle.lines.proofs.midi_line.Statement.{statement}
 use Rattle.lines.proofs.midi_line.Tie as tie
 
@@ -29,10 +29,10 @@ same-length c = search needs
 
 returns : tie.Need-returns
 unfolding midiIn
-returns c =
+returns c store =
     let q = c .before .before in
     let a = q .before .before .before .before .before .args in
-    replied-as (ap midiIn (later-end (a .line .now) (a .at) (omega arith))) (q .unreadable .ensures)
+    replied-as (ap midiIn (later-end (a .line .now) (a .at) (omega arith))) (q .unreadable .ensures store)
 
 bytes-from-requires : tie.Need-bytes-from-requires
 bytes-from-requires c κs = search needs
@@ -44,11 +44,11 @@ same-length-2 : tie.Need-same-length-2
 same-length-2 c = search needs
 
 returns-2 : tie.Need-returns-2
-returns-2 c =
+returns-2 c store =
     let q = c .before .before in
     let b = q .before .before .before .before in
     let x = b .bytes-from in
-    replied-as (some-byte (b .before .before) ∙ line-unread midi (x .result .ok) (take (x .result .value) (x .last .1 .1 .0)) (x .ensures .values) (not-true (x .result .ok) (q .before .before .if2 .taken))) (q .unreadable2 .ensures)
+    replied-as (some-byte (b .before .before) ∙ line-unread midi (x .result .ok) (take (x .result .value) (x .last .1 .1 .0)) (x .ensures .values) (not-true (x .result .ok) (q .before .before .if2 .taken))) (q .unreadable2 .ensures store)
 
 array-share-prefix-bytes : tie.Need-array-share-prefix-bytes
 array-share-prefix-bytes c = search needs
@@ -61,21 +61,22 @@ slice-aggregate-midi c =
 midi-requires : tie.Need-midi-requires
 midi-requires c κs = search needs
 
-say-number-requires : tie.Need-say-number-requires
-say-number-requires c κs = search needs
+say-requires : tie.Need-say-requires
+say-requires c κs = search needs
 
 same-length-3 : tie.Need-same-length-3
 same-length-3 c = search needs
 
 returns-3 : tie.Need-returns-3
-returns-3 c =
-    let q = c .before .before .before in
-    let m = q .before .before in
+unfolding begins
+returns-3 c store =
+    let q = c .before .before in
+    let m = q .before .before .before in
     let e = m .before .before in
     let b = e .before .before in
     let x = b .bytes-from in
     replied-as (some-byte (b .before .before) ∙ line-read midi (x .result .ok) (take (x .result .value) (x .last .1 .1 .0)) (x .ensures .values) (not-false (x .result .ok) (e .if2 .left)))
-    (record { text = numberLine (m .midi .result .answer .number); said = keyed (m .midi .ensures); put = q .say-number .ensures })
+    (replied-number (keyed (m .midi .ensures)) refl (q .say .ensures))
 
 pub midi-line-spec : {M : Type 1} → statement M
 midi-line-spec =
@@ -91,6 +92,6 @@ midi-line-spec =
     array-share-prefix-bytes
     slice-aggregate-midi
     midi-requires
-    say-number-requires
+    say-requires
     same-length-3
     returns-3)

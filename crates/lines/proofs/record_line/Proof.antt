@@ -17,7 +17,7 @@ use Rattle.lines.proofs.record_line.Tie as tie
 -- the line by its word, and the fields after it
 module _ (c : tie.After-word) where
   abbrev line : List ℕ
-  line = c .before .before .before .before .before .args .line .now
+  line = c .before .before .before .before .before .before .args .line .now
 
   abbrev left : List (List ℕ)
   left = later line (c .before .before .first .result)
@@ -32,7 +32,7 @@ first-requires : tie.Need-first-requires
 first-requires c κs = search needs
 
 slice-aggregate-word : tie.Need-slice-aggregate-word
-slice-aggregate-word c = sym (length-take-le (c .before .first .result) (c .before .before .before .before .args .line .now) (c .before .first .ensures .within))
+slice-aggregate-word c = sym (length-take-le (c .before .first .result) (c .before .before .before .before .before .args .line .now) (c .before .first .ensures .within))
 
 word-requires : tie.Need-word-requires
 word-requires c κs = search needs
@@ -43,60 +43,69 @@ start-line-requires c κs = search needs
 same-length : tie.Need-same-length
 same-length c = search needs
 
+same-length-2 : tie.Need-same-length-2
+same-length-2 c = search needs
+
 returns : tie.Need-returns
 unfolding chosen
 returns c =
     let q = c .before .before in
-    replied-as (by-word (q .before .before .before) (q .before .before .if1 .taken)) (q .start-line .ensures)
+    replied-as (by-word (q .before .before .before .before) (q .before .before .before .if1 .taken)) (q .start-line .ensures)
 
 change-line-requires : tie.Need-change-line-requires
 change-line-requires c κs = search needs
 
-same-length-2 : tie.Need-same-length-2
-same-length-2 c = search needs
+same-length-3 : tie.Need-same-length-3
+same-length-3 c = search needs
 
 returns-2 : tie.Need-returns-2
 unfolding chosen
 returns-2 c =
     let q = c .before .before in
-    replied-as (by-word (q .before .before .before .before) (q .before .before .if2 .taken)) (q .change-line .ensures)
+    replied-as (by-word (q .before .before .before .before) (q .before .before .if2 .taken)) (q .change-line .ensures (q .before .before .before .before .before .before .before .before .before .before .args .store .now))
 
 block-line-requires : tie.Need-block-line-requires
 block-line-requires c κs = search needs
 
-same-length-3 : tie.Need-same-length-3
-same-length-3 c = search needs
+same-length-4 : tie.Need-same-length-4
+same-length-4 c = search needs
+
+same-length-5 : tie.Need-same-length-5
+same-length-5 c = search needs
 
 returns-3 : tie.Need-returns-3
 unfolding chosen
 returns-3 c =
-    let q = c .before .before in
-    replied-as (by-word (q .before .before .before .before .before) (q .before .before .if3 .taken)) (q .block-line .ensures)
+    let q = c .before .before .before .before in
+    replied-as (by-word (q .before .before .before .before .before .before) (q .before .before .before .if3 .taken)) (q .block-line .ensures)
 
 reset-line-requires : tie.Need-reset-line-requires
 reset-line-requires c κs = search needs
 
-same-length-4 : tie.Need-same-length-4
-same-length-4 c = search needs
+same-length-6 : tie.Need-same-length-6
+same-length-6 c = search needs
+
+same-length-7 : tie.Need-same-length-7
+same-length-7 c = search needs
 
 returns-4 : tie.Need-returns-4
 unfolding chosen
 returns-4 c =
     let q = c .before .before in
-    replied-as (by-word (q .before .before .before .before .before .before) (q .before .before .if4 .taken)) (q .reset-line .ensures)
+    replied-as (by-word (q .before .before .before .before .before .before .before) (q .before .before .before .if4 .taken)) (q .reset-line .ensures)
 
 keyboard-line-requires : tie.Need-keyboard-line-requires
 keyboard-line-requires c κs = search needs
 
-same-length-5 : tie.Need-same-length-5
-same-length-5 c = search needs
+same-length-8 : tie.Need-same-length-8
+same-length-8 c = search needs
 
 returns-5 : tie.Need-returns-5
 returns-5 c =
     let q = c .before .before in
     let e = q .before .before in
     let w = e .before .before .before .before in
-    replied-as (by-word w refl ∙ chosen-other (w .word .result) (left w) (e .before .before .before .if1 .left) (e .before .before .if2 .left) (e .before .if3 .left) (e .if4 .left)) (q .keyboard-line .ensures)
+    replied-as (by-word w refl ∙ chosen-other (w .word .result) (left w) (e .before .before .before .if1 .left) (e .before .before .if2 .left) (e .before .if3 .left) (e .if4 .left)) (q .keyboard-line .ensures (w .before .before .before .before .before .before .args .store .now))
 
 pub record-line-spec : {M : Type 1} → statement M
 record-line-spec =
@@ -107,16 +116,19 @@ record-line-spec =
     word-requires
     start-line-requires
     same-length
+    same-length-2
     returns
     change-line-requires
-    same-length-2
+    same-length-3
     returns-2
     block-line-requires
-    same-length-3
+    same-length-4
+    same-length-5
     returns-3
     reset-line-requires
-    same-length-4
+    same-length-6
+    same-length-7
     returns-4
     keyboard-line-requires
-    same-length-5
+    same-length-8
     returns-5)

@@ -1,19 +1,21 @@
--- `lines::unreadable` meets its contract.
+-- `lines::unreadable` meets its contract: the number alone, and nothing else.
 -- Assumes nothing.
-use native.Mathlib.Omega.{arith}
 use borrow.Author.Needs.{needs}
-use Rattle.lines.specs.Lines.{numberLine, not-read}
+use mathlib.Core.Path.{refl}
+use Rattle.lines.specs.Lines.{begins, not-read}
+use Rattle.lines.specs.Steps.{replied-number}
 use Rattle.lines.proofs.unreadable.Statement.{statement}
 use Rattle.lines.proofs.unreadable.Tie as tie
 
-say-number-requires : tie.Need-say-number-requires
-say-number-requires c κs = search needs
+say-requires : tie.Need-say-requires
+say-requires c κs = search needs
 
 same-length : tie.Need-same-length
 same-length c = search needs
 
 returns : tie.Need-returns
-returns c = record { text = numberLine 10; said = not-read; put = c .before .before .say-number .ensures }
+unfolding begins
+returns c store = replied-number not-read refl (c .before .before .say .ensures)
 
 pub unreadable-spec : {M : Type 1} → statement M
-unreadable-spec = tie.close (tie.spec say-number-requires same-length returns)
+unreadable-spec = tie.close (tie.spec say-requires same-length returns)
