@@ -16,7 +16,8 @@ use Rattle.answers.specs.declared.Answer.{Answer}
 use Rattle.meters.specs.declared.Meter.{Meter}
 use Rattle.nights.specs.declared.NightAnswer.{NightAnswer}
 use Rattle.nights.specs.Nights.{Nighted}
-use Rattle.tuner.specs.Tuners.{defaultTuner, takeOf, forceOf, Good, made, Took, Started, Changed, Keyed, Reset, Metered}
+use Rattle.record.specs.Records.{made}
+use Rattle.tuner.specs.Tuners.{defaultTuner, takeOf, forceOf, Good, Took, Started, Changed, Keyed, Reset, Metered}
 
 -- ---- the history
 

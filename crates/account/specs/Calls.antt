@@ -22,7 +22,8 @@ use Rattle.meters.specs.declared.Meter.{Meter}
 use Rattle.meters.specs.Meters.{Exact}
 use Rattle.record.specs.declared.Last.{Last}
 use Rattle.tuner.specs.declared.Tuner.{Tuner}
-use Rattle.tuner.specs.Tuners.{Good, freshTuner, heardAfter, afterBlock, lastSamples, Fits, Verdict, record-out-of-range, given-again, Took, withSettings, ChangeVerdict, by-settings, Changed, NineOnly, Reset, withBytes, Keyed, Metered, read}
+use Rattle.record.specs.Records.{heardAfter}
+use Rattle.tuner.specs.Tuners.{Good, freshTuner, afterBlock, lastSamples, Fits, Verdict, record-out-of-range, given-again, Took, withSettings, ChangeVerdict, by-settings, Changed, NineOnly, Reset, withBytes, Keyed, Metered, read}
 use Rattle.tuner.specs.Verdicts.{verdict-one, verdict-fits, tuner-taken}
 use Rattle.account.specs.Account.{Call, Leaves, by-start, by-change, by-block, by-midi, by-reset, by-meter, TakesNone, Meanwhile, nothing, and-meanwhile, GivenAgain, NeverNine}
 use Rattle.staying.specs.Staying.{Lengths, took-good, changed-good, keyed-good, reset-good, started-good, after-lengths, took-number, took-keeps, untaken-unchanged, overlaid-starts}

@@ -24,7 +24,7 @@ use Rattle.record.specs.Records.{soundOf, noLast}
 use Rattle.answers.specs.declared.Answer.{Answer}
 use Rattle.tuner.specs.declared.Tuner.{Tuner}
 use Rattle.tuner.specs.Tuners.{Good, withSettings, Verdict, taken, Took}
-use Rattle.tuner.specs.Taking.{right-alike}
+use Rattle.record.specs.Kept.{right-alike}
 use Rattle.account.specs.Cutting.{newest, tunerAfter}
 use Rattle.account.specs.Following.{newest-sound, kept-newest, block-after}
 use Rattle.account.specs.Wrong.{Done, Program}

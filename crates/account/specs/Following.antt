@@ -21,12 +21,11 @@ use Rattle.keyboard.specs.Keys.{fresh}
 use Rattle.pitch.specs.Pitches.{trackingOf, trackerOf, keptOf}
 use Rattle.pitch.specs.Keeping.{right-energies, right-correlations, listed-right, kept-pitch}
 use Rattle.record.specs.declared.Last.{Last}
-use Rattle.record.specs.Records.{soundOf, freshHeard, freshPitch, freshHead, noLast}
+use Rattle.record.specs.Records.{soundOf, freshHeard, freshPitch, freshHead, noLast, made, heardAfter}
 use Rattle.tuner.specs.declared.Tuner.{Tuner}
-use Rattle.tuner.specs.Tuners.{freshTuner, takeOf, made, heardAfter, lastOf, afterBlock, withSettings, withBytes}
-use Rattle.tuner.specs.Taking.{keeping-length, sound-at, kept-age, right-alike, after-eighths}
+use Rattle.tuner.specs.Tuners.{freshTuner, takeOf, lastOf, afterBlock, withSettings, withBytes}
+use Rattle.record.specs.Kept.{keeping-length, sound-at, kept-age, right-alike, after-eighths, silent-right}
 use Rattle.account.specs.Cutting.{newest, tunerAfter}
-use Rattle.staying.specs.Staying.{silent-right}
 
 -- ---- the newest samples of a sound
 

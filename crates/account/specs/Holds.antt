@@ -28,10 +28,10 @@ use Rattle.answers.specs.Numbering.{plain}
 use Rattle.meters.specs.declared.Meter.{Meter}
 use Rattle.meters.specs.Meters.{shownOf}
 use Rattle.record.specs.declared.Last.{Last}
-use Rattle.record.specs.Records.{noLast}
+use Rattle.record.specs.Records.{noLast, made}
 use Rattle.tuner.specs.declared.Tuner.{Tuner}
-use Rattle.tuner.specs.Tuners.{freshTuner, defaultTuner, takeOf, Good, made, lastOf, afterBlock, Took, Started, withSettings, Changed, withBytes, Keyed, Reset, Metered, record-out-of-range, read}
-use Rattle.tuner.specs.Taking.{eighths-next}
+use Rattle.tuner.specs.Tuners.{freshTuner, defaultTuner, takeOf, Good, lastOf, afterBlock, Took, Started, withSettings, Changed, withBytes, Keyed, Reset, Metered, record-out-of-range, read}
+use Rattle.record.specs.Kept.{eighths-next}
 use Rattle.tuner.specs.Verdicts.{tuner-taken, verdict-fits}
 use Rattle.staying.specs.Staying.{Lengths, good-fresh, fresh-lengths, good-sane, took-good, changed-good, keyed-good, took-number, took-keeps, untaken-unchanged, overlaid-starts}
 use Rattle.account.specs.Calls.{again-after, good-never-nine}

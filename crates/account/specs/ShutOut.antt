@@ -12,12 +12,13 @@ use Rattle.history.specs.History.{sample, freshCourse, happened, givenBy}
 use Rattle.rules.specs.Facts.{pitched, valueAt}
 use Rattle.tuner.specs.declared.Tuner.{Tuner}
 use Rattle.answers.specs.declared.Answer.{Answer}
-use Rattle.record.specs.Records.{freshHeard, freshPitch, freshHead, noLast}
-use Rattle.tuner.specs.Tuners.{freshTuner, defaultTuner, Good, takeOf, heardAfter, nextNumber, Verdict, taken, afterBlock, Took}
+use Rattle.record.specs.Records.{freshHeard, freshPitch, freshHead, noLast, heardAfter}
+use Rattle.tuner.specs.Tuners.{freshTuner, defaultTuner, Good, takeOf, nextNumber, Verdict, taken, afterBlock, Took}
 use Rattle.tuner.specs.Verdicts.{verdict-one, counted, tuner-taken}
 use Rattle.account.specs.Account.{block, Series, fresh-start, and-then, by-block, plus, received}
 use Rattle.account.specs.Wrong.{Done, Program, RefusesAll, AnswersSilence, CopiesThrough, LeavesAll, PassesTheRest, InventsCounts, firstBlock, secondBlock, room, ahead, Tried, AllShutOut}
-use Rattle.staying.specs.Staying.{default-good, still-silent, silent-right, took-good, took-number, took-keeps}
+use Rattle.record.specs.Kept.{still-silent, silent-right}
+use Rattle.staying.specs.Staying.{default-good, took-good, took-number, took-keeps}
 use Rattle.account.specs.Holds.{holds}
 
 -- ---- what the promise says there

@@ -22,7 +22,8 @@ use Rattle.lists.specs.Afresh.{Listed, listed-empty, listed-more, is-list}
 use Rattle.answers.specs.declared.Answer.{Answer}
 use Rattle.answers.specs.Numbering.{plain}
 use Rattle.tuner.specs.declared.Tuner.{Tuner}
-use Rattle.tuner.specs.Tuners.{Good, freshTuner, defaultTuner, Fits, Verdict, record-out-of-range, block-empty, block-over-512, output-short, number-neither, other-samples, given-again, take-full, taken, heardAfter, afterBlock, tunerBy, outBy, Took, withSettings, Changed, withBytes, Keyed, Started, Reset, record-good}
+use Rattle.record.specs.Records.{heardAfter}
+use Rattle.tuner.specs.Tuners.{Good, freshTuner, defaultTuner, Fits, Verdict, record-out-of-range, block-empty, block-over-512, output-short, number-neither, other-samples, given-again, take-full, taken, afterBlock, tunerBy, outBy, Took, withSettings, Changed, withBytes, Keyed, Started, Reset, record-good}
 use Rattle.tuner.specs.Verdicts.{tuner-taken, tuner-kept, took-one, changed-one, keyed-one, reset-one}
 use Rattle.staying.specs.Staying.{Lengths, took-number}
 use Rattle.listing.specs.declared.ListAnswer.{ListAnswer}

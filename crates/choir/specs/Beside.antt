@@ -20,7 +20,7 @@ use Rattle.rules.specs.Blocks.{after-more, after-count, after-sound}
 use Rattle.ages.specs.Ages.{ago}
 use Rattle.copying.specs.Copies.{take-drop}
 use Rattle.record.specs.Records.{soundOf}
-use Rattle.tuner.specs.Taking.{kept-age}
+use Rattle.record.specs.Kept.{kept-age}
 use Rattle.voices.specs.Voices.{voiceRate, Voiced, voiced, voicedBy, voiceAfter, voiceGives, voiceOuts}
 use Rattle.voices.specs.Singing.{TrackedAll, singNext, singAfter, singOuts, Sang}
 use Rattle.voices.specs.Accompanying.{voice-cutting, tone-tracked, beside-in-bounds, voice-bounds}

@@ -17,9 +17,9 @@ use Rattle.voices.specs.Accompanying.{voice-bounds}
 use Rattle.lists.specs.declared.Listing.{Listing}
 use Rattle.lists.specs.Lists.{emptyListing, sungNote, sheet, Sheet, ListingIn}
 use Rattle.lists.specs.Folds.{empty-in, afterNotes-in}
-use Rattle.record.specs.Records.{freshHeard}
+use Rattle.record.specs.Records.{freshHeard, heardAfter}
 use Rattle.tuner.specs.declared.Tuner.{Tuner}
-use Rattle.tuner.specs.Tuners.{takeOf, forceOf, Good, freshTuner, defaultTuner, heardAfter, afterBlock, Verdict, tunerBy, answerBy, outBy, Took}
+use Rattle.tuner.specs.Tuners.{takeOf, forceOf, Good, freshTuner, defaultTuner, afterBlock, Verdict, tunerBy, answerBy, outBy, Took}
 use Rattle.tuner.specs.Verdicts.{tuner-taken, tuner-kept}
 use Rattle.staying.specs.Staying.{Lengths, good-force, good-sane, good-fresh, fresh-lengths, took-good, started-good, default-good}
 use Rattle.listing.specs.declared.ListAnswer.{ListAnswer}

@@ -24,7 +24,8 @@ use Rattle.answers.specs.declared.Answer.{Answer}
 use Rattle.answers.specs.Numbering.{plain}
 use Rattle.lists.specs.Lists.{sungNote, sheet, afterNotes}
 use Rattle.tuner.specs.declared.Tuner.{Tuner}
-use Rattle.tuner.specs.Tuners.{takeOf, forceOf, Good, heardAfter, afterBlock, Verdict, tunerBy, answerBy}
+use Rattle.record.specs.Records.{heardAfter}
+use Rattle.tuner.specs.Tuners.{takeOf, forceOf, Good, afterBlock, Verdict, tunerBy, answerBy}
 use Rattle.tuner.specs.Parted.{tunerOf}
 use Rattle.tuner.specs.Verdicts.{tuner-taken, tuner-kept, counted, overlaid, by-refused, by-given}
 use Rattle.staying.specs.Staying.{good-force, good-sane}

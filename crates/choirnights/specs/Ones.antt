@@ -8,7 +8,7 @@ use lib.IntN.{ℤ}
 use lib.ListN.{length}
 use Rattle.rules.specs.Rules.{longestBlock}
 use Rattle.lists.specs.Lists.{Sheet, sungNote, sheet, afterNotes}
-use Rattle.tuner.specs.Verdicts.{Step, isn't, is, step-one}
+use Rattle.answers.specs.Paths.{Step, isn't, is, step-one}
 use Rattle.nights.specs.declared.NightAnswer.{NightAnswer}
 use Rattle.nights.specs.Ones.{nighted-one}
 use Rattle.listing.specs.Listings.{blockNotes}

@@ -18,10 +18,10 @@ use Rattle.lists.specs.Lists.{Sheet, sungNote, notesSung, lastNote, afterNotes}
 use Rattle.lists.specs.Folds.{afterNotes-append}
 use Rattle.lists.specs.Sung.{last-sung}
 use Rattle.pitch.specs.Keeping.{kept-pitch}
-use Rattle.record.specs.Records.{soundOf}
+use Rattle.record.specs.Records.{soundOf, made, heardAfter}
 use Rattle.tuner.specs.declared.Tuner.{Tuner}
-use Rattle.tuner.specs.Tuners.{takeOf, forceOf, Good, made, heardAfter, afterBlock}
-use Rattle.tuner.specs.Taking.{keeping-length, kept-age, after-eighths}
+use Rattle.tuner.specs.Tuners.{takeOf, forceOf, Good, afterBlock}
+use Rattle.record.specs.Kept.{keeping-length, kept-age, after-eighths}
 use Rattle.staying.specs.Staying.{Lengths, good-force, good-sane}
 use Rattle.listing.specs.Listings.{blockNotes}
 

@@ -17,7 +17,8 @@ use Rattle.answers.specs.declared.Answer.{Answer}
 use Rattle.record.specs.Parts.{heardOf, Stores}
 use Rattle.tuner.specs.declared.Left.{Left}
 use Rattle.tuner.specs.declared.Tuner.{Tuner}
-use Rattle.tuner.specs.Tuners.{Good, Took, heardAfter, afterBlock}
+use Rattle.record.specs.Records.{heardAfter}
+use Rattle.tuner.specs.Tuners.{Good, Took, afterBlock}
 use Rattle.tuner.specs.Parted.{tunerOf, lastWith}
 use Rattle.tuner.specs.Verdicts.{tuner-taken, verdict-fits}
 use Rattle.staying.specs.Staying.{Lengths, took-good, took-number, took-keeps, untaken-unchanged}

@@ -10,7 +10,8 @@ use Rattle.rules.specs.Rules.{longestBlock}
 use Rattle.answers.specs.declared.Answer.{Answer}
 use Rattle.tuner.specs.declared.Tuner.{Tuner}
 use Rattle.tuner.specs.Tuners.{Good}
-use Rattle.tuner.specs.Verdicts.{Step, isn't, is, step-one, took-one}
+use Rattle.answers.specs.Paths.{Step, isn't, is, step-one}
+use Rattle.tuner.specs.Verdicts.{took-one}
 use Rattle.nights.specs.declared.NightAnswer.{NightAnswer}
 use Rattle.nights.specs.Nights.{numberAfter, noNight, added, stretches, OneByOne, all-done, and-on, refused, Untouched, Nighted, record-out-of-range, size-out-of-range, output-short, one-by-one}
 

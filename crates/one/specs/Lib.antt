@@ -6,4 +6,5 @@ pub mod Voices
 pub mod Beside
 pub mod Outputs
 pub mod Verdicts
+pub mod Afters
 pub mod Taking

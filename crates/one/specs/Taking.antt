@@ -1,31 +1,31 @@
 -- A block that is taken: what must hold before its tones are followed, what follows them, and the tuner that this comes to.
 use mathlib.Core.Path.{_≡_, refl, sym, ap, _∙_, subst}
 use mathlib.Core.Bool.{Bool, true, false, cond}
-use mathlib.Core.List.{List, [], _∷_, _++_, map, flatten}
+use mathlib.Core.List.{List, [], _++_, map, flatten}
 use Prim.Native.Nat.{ℕ, zero, suc, _+_, _-_, _*_, _≤_}
 use native.Mathlib.Numerals.{add-one}
 use native.Mathlib.Omega.{arith}
 use lib.Dec.{eqb}
-use lib.IntN.{ℤ, pos, _-ℤ_}
+use lib.IntN.{ℤ}
 use lib.ListN.{length, take, drop, getD, length-append, length-map, length-drop, take-append-drop}
 use lib.Seq.{take-at, drop-at, drop-drop}
 use Rattle.rules.specs.declared.InForce.{InForce}
 use Rattle.rules.specs.declared.Tone.{Tone}
-use Rattle.rules.specs.Rules.{Sound, Given, farthest, inputAt, gives, samplesOut, takeLimit, longestBlock, keptSamples}
+use Rattle.rules.specs.Rules.{Sound, Given, farthest, gives, samplesOut, takeLimit, longestBlock, keptSamples}
 use Rattle.rules.specs.Facts.{ForceIn, SampleRate}
 use Rattle.rules.specs.Blocks.{given-length}
 use Rattle.rules.specs.Position.{behind-in-bounds, tone-rate}
 use Rattle.rules.specs.Sane.{Sane}
-use Rattle.ages.specs.Ages.{ago, Samples}
+use Rattle.ages.specs.Ages.{Samples}
 use Rattle.passing.specs.Distances.{Long}
-use Rattle.copying.specs.Copies.{Joined, joined-old, joined-new}
+use Rattle.copying.specs.Copies.{Joined}
 use Rattle.pitch.specs.declared.Pitch.{Pitch as KeptPitch}
 use Rattle.pitch.specs.Pitches.{pitchOf, PitchRight, keptOf}
 use Rattle.reading.specs.declared.Growth.{Growth}
 use Rattle.reading.specs.Gliding.{PacedAll, Glided}
 use Rattle.steps.specs.declared.Progress.{Progress}
-use Rattle.steps.specs.Running.{takeSoFar, Tones, given, tonesGiven, Long512, Ready, Begins}
-use Rattle.steps.specs.Going.{Going, first}
+use Rattle.steps.specs.Running.{Tones, given, tonesGiven, Long512, Ready, Begins}
+use Rattle.steps.specs.Going.{Going}
 use Rattle.steps.specs.Heading.{paced-all, ran, ready-left, ended-left}
 use Rattle.lists.specs.declared.Listing.{Listing}
 use Rattle.lists.specs.Lists.{Sheet, sheet, sungNote, notesSung, afterNotes, ListingIn}
@@ -35,28 +35,25 @@ use Rattle.reports.specs.declared.Figures.{Figures}
 use Rattle.reports.specs.Reports.{figuresOf}
 use Rattle.reports.specs.Counting.{onePitched, pitchedIn, distanceIn, pitched-more, none-pitched, block-counted}
 use Rattle.voices.specs.Singing.{TrackedAll}
+use Rattle.record.specs.declared.Heard.{Heard}
 use Rattle.record.specs.Parts.{Stores}
-use Rattle.tuner.specs.declared.Tuner.{Tuner as Lead}
-use Rattle.tuner.specs.Tuners as plain
-use Rattle.tuner.specs.Afters.{begin-long, begin-ready, after-is, after-stores}
+use Rattle.record.specs.Kept.{stores-after as still-long}
 use Rattle.one.specs.declared.Voice.{Voice}
 use Rattle.one.specs.declared.Last.{Last}
 use Rattle.one.specs.declared.Numbers.{Numbers}
 use Rattle.one.specs.declared.Tuner.{Tuner}
-use Rattle.one.specs.Tuners.{takeOf, forceOf, voiceAt, VoicesIn, heardBy, testedLast, Good, keptPlaces, keptOut, lastOf, standsAt, voiceBeside, voiceOut, outsBeside, listAfter, afterBlock}
+use Rattle.one.specs.Tuners.{takeOf, forceOf, voiceAt, VoicesIn, heardBy, Good, keptPlaces, keptOut, lastOf, standsAt, voiceBeside, voiceOut, outsBeside, listAfter, afterBlock}
 use Rattle.one.specs.Parted.{tunerOf}
+use Rattle.one.specs.Afters.{beginsAt, Led, begin-long, begin-ready, begin-take, block-is, led-is}
 use Rattle.one.specs.Following.{RatesUpto, noOut, Goes, SungTo, AllSung, listedOf}
 use Rattle.one.specs.Outputs.{glided-long}
 use Rattle.one.specs.Beside.{ToldEach, told-each, told-in, told-tracked, sang-rules}
 
 -- ---- what is asked before the samples of a block are heard
 
--- what is in force, and where the block begins
+-- what is in force
 abbrev pub forceBy : Numbers → InForce
 forceBy n = record { settings = n .settings; key = n .keyboard .key; hertz = n .hertz }
-
-abbrev pub beginsAt : Numbers → Progress
-beginsAt n = record { count = n .count; places = 224; behind = n .behind; repeated = 0; dropped = 0; pitch = n .pitch }
 
 pub record Hears (n : Numbers) (y : List ℤ) (e : List ℕ) (h s : List ℤ) (b : ℕ) (ts : Tones) : Type 0 where
   pub force : ForceIn (forceBy n)
@@ -132,10 +129,7 @@ pitched-counted ps (suc n) h =
     let more = ap (λ (m : ℕ). pitchedIn (take m ps)) (sym (add-one n)) ∙ pitched-more ps n (omega arith) in
     omega (arith, more, pitched-counted ps n (omega arith), one-of (getD ps n 0))
 
--- ---- the lead of a tuner, as the rules for it were proved
-abbrev leadOf : Tuner → Lead
-leadOf t = let n = t .numbers in record { settings = n .settings; hertz = n .hertz; keyboard = n .keyboard; heard = heardBy t; pitch = n .pitch; head = record { behind = n .behind }; last = testedLast (n .last) }
-
+-- ---- from a good tuner to the tuner that a block leaves
 module _ (t : Tuner) (g : Good t) (st : Stores (heardBy t)) {xs s y : List ℤ} (j : Joined (t .heard) xs 2276 s) (k : Joined (t .eighths) [] 288 y) where
   good-force : ForceIn (forceOf t)
   good-force = record { settings = g .lead .settings; key = g .lead .keyboard .key; hertz = g .lead .hertz }
@@ -145,21 +139,7 @@ module _ (t : Tuner) (g : Good t) (st : Stores (heardBy t)) {xs s y : List ℤ} 
   good-sane = record { pitch = g .lead .pitch .pitch; bounds = behind-in-bounds (record { is = refl; near = g .lead .head .behind }) }
 
   pub hears : {ts : Tones} → length xs ≤ 512 → t .numbers .count + length xs ≤ takeLimit → Long512 ts → Hears (t .numbers) y (t .energies) (t .correlations) s (length xs) ts
-  hears few c l = record { force = good-force; long = begin-long (leadOf t) (g .lead) st j k; stored = omega (arith, j .long); few = few; ready = begin-ready (leadOf t) (g .lead) st j k; count = c; places = l }
-
-  begin-take : takeSoFar s 1764 y (beginsAt (t .numbers)) ≡ takeOf t
-  unfolding takeOf
-  begin-take =
-      λ i. record {
-        count = t .numbers .count;
-        sound = (ap (ago s) (sym (st .store)) ∙ joined-old j) i;
-        eighths = (ap (ago y) (sym (st .eighths)) ∙ joined-old k) i;
-        pitch = pitchOf (t .numbers .pitch);
-        position = inputAt (t .numbers .count) -ℤ pos (t .numbers .behind);
-      }
-
-  block-is : first s 1764 (length xs) ≡ xs
-  block-is = ap (λ (n : ℕ). take (length xs) (drop n s)) (sym (st .store)) ∙ joined-new j
+  hears few c l = record { force = good-force; long = begin-long t g st j k; stored = omega (arith, j .long); few = few; ready = begin-ready t g st j k; count = c; places = l }
 
   -- what the rules give for the samples
   abbrev gave : List Given
@@ -170,7 +150,7 @@ module _ (t : Tuner) (g : Good t) (st : Stores (heardBy t)) {xs s y : List ℤ} 
 
   module _ (few : length xs ≤ 512) {y′ : List ℤ} {e : List ℕ} {h : List ℤ} {ts₀ ts : Tones} {q : Progress} (going : Going (forceOf t) s 1764 y ts₀ (beginsAt (t .numbers)) (length xs) y′ e h ts q) (l₀ : Long512 ts₀) (c : t .numbers .count + length xs ≤ takeLimit) where
     told-is : ts ≡ tonesGiven ts₀ gave
-    told-is = going .tone ∙ (λ i. tonesGiven ts₀ (gives (forceOf t) (begin-take i) (block-is i)))
+    told-is = going .tone ∙ (λ i. tonesGiven ts₀ (gives (forceOf t) (begin-take t g st j k i) (block-is t g st j k i)))
 
     told : ToldEach (forceOf t) (takeOf t) xs ts
     told = told-each (forceOf t) (takeOf t) xs ts₀ told-is
@@ -222,25 +202,16 @@ module _ (t : Tuner) (g : Good t) (st : Stores (heardBy t)) {xs s y : List ℤ} 
       begins = record { places = refl; count = c; repeated = refl; dropped = refl }
 
       -- the lead's parts
-      abbrev led : Lead
+      abbrev heardNow : Heard
+      heardNow = record { count = q .count; energies = e; correlations = h; store = heard′; eighths = eighths′ }
+
+      led : Led t xs heardNow (r .pitch) (f .lead .behind) (f .lead .repeated) (f .lead .dropped) (f .out)
       led =
-          record {
-            settings = t .numbers .settings;
-            hertz = t .numbers .hertz;
-            keyboard = t .numbers .keyboard;
-            heard = record { count = q .count; energies = e; correlations = h; store = heard′; eighths = eighths′ };
-            pitch = r .pitch;
-            head = record { behind = f .lead .behind };
-            last = record { number = number; length = length xs; repeated = f .lead .repeated; dropped = f .lead .dropped; out = f .out };
-          }
-
-      led-is : led ≡ plain.afterBlock (leadOf t) number xs
-      led-is =
           let rd = ready-left going fits (f .glided) in
-          after-is (leadOf t) (g .lead) st j k few (rd .eighths .long) rd (ran going fits (f .glided) begins) (ended-left going fits (f .glided)) number refl a b (f .pitch)
+          led-is t g st j k few (rd .eighths .long) rd (ran going fits (f .glided) begins) (ended-left going fits (f .glided)) refl a b (f .pitch)
 
-      pub stores-after : Samples heard′ → Samples eighths′ → Stores (led .heard)
-      stores-after u v = after-stores (leadOf t) number xs st led-is u v
+      pub stores-after : Samples heard′ → Samples eighths′ → Stores heardNow
+      stores-after u v = still-long xs st (led .heard-is) u v
 
       -- the figures
       pitched-is : pitchedIn (take (length xs) (ts .periods)) ≡ figuresOf gave .pitched
@@ -254,8 +225,8 @@ module _ (t : Tuner) (g : Good t) (st : Stores (heardBy t)) {xs s y : List ℤ} 
           ∙ ap (λ (o : Figures). o .sum) (block-counted gave (drop (length gave) (ts₀ .periods)) (drop (length gave) (ts₀ .rates)))
 
       last-is : lastBy number (length xs) ts (f .lead) ≡ lastOf number xs gave
-      unfolding takeOf plain.takeOf plain.afterBlock figuresOf
-      last-is = λ i. record { number = number; length = length xs; repeated = led-is i .last .repeated; dropped = led-is i .last .dropped; pitched = pitched-is i; strayed = strayed-is i }
+      unfolding figuresOf
+      last-is = λ i. record { number = number; length = length xs; repeated = led .repeated-is i; dropped = led .dropped-is i; pitched = pitched-is i; strayed = strayed-is i }
 
       -- the list
       notes-is : take (length xs) (hushed (length xs) (ts .periods) (ts .notes)) ≡ notesSung gave
@@ -275,10 +246,6 @@ module _ (t : Tuner) (g : Good t) (st : Stores (heardBy t)) {xs s y : List ℤ} 
       out-long : length (f .out) ≡ 512
       out-long = glided-long few (f .glided)
 
-      out-is : f .out ≡ keptOut (length xs) (samplesOut gave)
-      unfolding takeOf plain.takeOf plain.afterBlock
-      out-is = ap (λ (u : Lead). u .last .out) led-is
-
       beside : SungTo (t .numbers .chosen) (t .numbers .voices) (f .out ++ drop longestBlock outs) (voiceBeside t xs) (voiceOut t xs) (r .voices) outs′
       beside = f .voices (voiceBeside t xs) (voiceOut t xs) goes
 
@@ -289,7 +256,7 @@ module _ (t : Tuner) (g : Good t) (st : Stores (heardBy t)) {xs s y : List ℤ} 
             let here : 512 * (1 + many) ≡ 512 + 512 * many = omega arith in
             sym (take-append-drop (512 * (1 + many)) outs′)
             ∙ (λ i. beside .front i ++ beside .behind i)
-            ∙ (λ i. (take-at (f .out) (drop 512 outs) 512 out-long ∙ out-is) i ++ flatten (map (voiceOut t xs) (take many (t .numbers .voices))) ++ drop (here i) (f .out ++ drop 512 outs))
+            ∙ (λ i. (take-at (f .out) (drop 512 outs) 512 out-long ∙ led .out-is) i ++ flatten (map (voiceOut t xs) (take many (t .numbers .voices))) ++ drop (here i) (f .out ++ drop 512 outs))
             ∙ ap (λ (l : List ℤ). keptOut (length xs) (samplesOut gave) ++ flatten (map (voiceOut t xs) (take many (t .numbers .voices))) ++ l)
             (sym (drop-drop (512 * many) 512 (f .out ++ drop 512 outs))
             ∙ ap (drop (512 * many)) (drop-at (f .out) (drop 512 outs) 512 out-long)
@@ -298,8 +265,9 @@ module _ (t : Tuner) (g : Good t) (st : Stores (heardBy t)) {xs s y : List ℤ} 
 
         -- the tuner after the block
         pub taken-is : tunerOf r e h heard′ eighths′ outs′ ≡ afterBlock t number xs store
-        unfolding afterBlock plain.afterBlock takeOf plain.takeOf
+        unfolding afterBlock
         taken-is =
+            let heard = led .heard-is in
             ap (λ (n : Numbers). tunerOf n e h heard′ eighths′ outs′) (f .numbers)
-            ∙ (λ i. tunerOf (numbersWith (t .numbers) (led-is i .heard .count) (led-is i .pitch) (led-is i .head .behind) (last-is i) (list-is i .listing) (beside .voices i))
-            (led-is i .heard .energies) (led-is i .heard .correlations) (led-is i .heard .store) (led-is i .heard .eighths) (outs-is i))
+            ∙ (λ i. tunerOf (numbersWith (t .numbers) (heard i .count) (led .pitch-is i) (led .behind-is i) (last-is i) (list-is i .listing) (beside .voices i))
+            (heard i .energies) (heard i .correlations) (heard i .store) (heard i .eighths) (outs-is i))

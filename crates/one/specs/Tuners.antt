@@ -16,12 +16,11 @@ use Rattle.meters.specs.declared.Meter.{Meter}
 use Rattle.meters.specs.Meters.{shownOf, Exact}
 use Rattle.record.specs.declared.Heard.{Heard}
 use Rattle.record.specs.declared.Last.{Last as TestedLast}
-use Rattle.record.specs.Records.{soundOf, AllRight, freshPitch}
+use Rattle.record.specs.Records.{soundOf, AllRight, freshPitch, heardAfter}
 use Rattle.lists.specs.Lists.{room, emptyListing, sungNote, notesSung, Sheet, sheet, afterNotes, ListingIn}
 use Rattle.reports.specs.Reports.{figuresOf}
 use Rattle.voices.specs.Voices.{unison, IntervalIn, voiceAfter, voiceGives, voiceOuts}
 use Rattle.singers.specs.Singers.{keptInterval, intervalsNumber}
-use Rattle.tuner.specs.Tuners.{heardAfter}
 use Rattle.one.specs.declared.Voice.{Voice}
 use Rattle.one.specs.declared.Last.{Last}
 use Rattle.one.specs.declared.Numbers.{Numbers}

@@ -10,7 +10,7 @@ use lib.IntN.{ℤ}
 use lib.ListN.{length, length-drop}
 use Rattle.whole.specs.Tests.{by, cond-no}
 use Rattle.answers.specs.Numbering.{Numbered, neither, other, again, full, new}
-use Rattle.tuner.specs.Verdicts.{Step, isn't, is, step-one}
+use Rattle.answers.specs.Paths.{Step, isn't, is, step-one}
 use Rattle.one.specs.declared.Numbers.{Numbers}
 use Rattle.one.specs.declared.Tuner.{Tuner}
 use Rattle.one.specs.declared.Answer.{Answer}

@@ -16,7 +16,7 @@ use Rattle.voices.specs.Voices.{Voiced, voicedBy, voiceAfter, voiceOuts, voiceA
 use Rattle.lists.specs.Lists.{notesSung, sheet, IsList}
 use Rattle.singers.specs.Singers.{keptInterval}
 use Rattle.meters.specs.declared.Meter.{Meter}
-use Rattle.tuner.specs.Tuners.{made}
+use Rattle.record.specs.Records.{made}
 use Rattle.one.specs.declared.Voice.{Voice}
 use Rattle.one.specs.declared.Tuner.{Tuner}
 use Rattle.one.specs.declared.Answer.{Answer}

@@ -19,7 +19,7 @@ use Rattle.pitch.specs.declared.Pitch.{Pitch as KeptPitch}
 use Rattle.meters.specs.declared.Meter.{Meter}
 use Rattle.meters.specs.Meters.{Exact}
 use Rattle.singers.specs.Singers.{allInRange, intervalsNumber}
-use Rattle.tuner.specs.Tuners.{heardAfter}
+use Rattle.record.specs.Records.{heardAfter}
 use Rattle.one.specs.declared.Last.{Last}
 use Rattle.one.specs.declared.Tuner.{Tuner}
 use Rattle.one.specs.declared.Answer.{Answer}

@@ -16,10 +16,8 @@ use Rattle.history.specs.History.{sample, new-settings, byte, Course, freshCour
 use Rattle.history.specs.Courses.{withTake, course-samples, given-samples, course-bytes, CourseIn, course-force}
 use Rattle.pitch.specs.Pitches.{trackingOf, trackerOf, keptOf}
 use Rattle.pitch.specs.Keeping.{right-energies, right-correlations, kept-pitch}
-use Rattle.record.specs.Records.{soundOf, freshPitch}
-use Rattle.tuner.specs.Tuners.{made, heardAfter}
-use Rattle.tuner.specs.Taking.{after-eighths}
-use Rattle.staying.specs.Staying.{silent-right}
+use Rattle.record.specs.Records.{soundOf, freshPitch, made, heardAfter}
+use Rattle.record.specs.Kept.{after-eighths, silent-right}
 use Rattle.one.specs.declared.Voice.{Voice}
 use Rattle.one.specs.declared.Tuner.{Tuner}
 use Rattle.one.specs.Tuners.{takeOf, forceOf, layoutNumber, freshNumbers, silentTuner, afterBlock, withNumbers, withKeys, withSettings, withBytes}

@@ -22,8 +22,8 @@ use Rattle.meters.specs.Meters.{shownOf}
 use Rattle.reports.specs.Reports.{figuresOf}
 use Rattle.voices.specs.Voices.{voiceOuts, voiceRates, voiceCycles, voiceAccount}
 use Rattle.voices.specs.Accompanying.{voice-bounds}
-use Rattle.tuner.specs.Tuners.{made}
-use Rattle.tuner.specs.Taking.{eighths-next}
+use Rattle.record.specs.Records.{made}
+use Rattle.record.specs.Kept.{eighths-next}
 use Rattle.one.specs.declared.Voice.{Voice}
 use Rattle.one.specs.declared.Tuner.{Tuner}
 use Rattle.one.specs.Tuners.{takeOf, forceOf, voiceAt, Good, standsAt, Metered, record-out-of-range, read}

@@ -24,7 +24,7 @@ use Rattle.reports.specs.Reports.{figuresOf, added, noFigures}
 use Rattle.reports.specs.Counting.{figures-append, figures-none}
 use Rattle.voices.specs.Voices.{voiceAfter, voiceGives, voiceOuts}
 use Rattle.voices.specs.Accompanying.{voice-bounds}
-use Rattle.tuner.specs.Tuners.{heardAfter}
+use Rattle.record.specs.Records.{heardAfter}
 use Rattle.singers.specs.Singers.{keptInterval}
 use Rattle.singers.specs.Voicing.{number-says}
 use Rattle.one.specs.declared.Voice.{Voice}

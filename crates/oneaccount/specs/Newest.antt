@@ -14,7 +14,7 @@ use Rattle.pitch.specs.Pitches.{trackingOf, trackerOf, keptOf}
 use Rattle.pitch.specs.Keeping.{right-energies, right-correlations, listed-right}
 use Rattle.record.specs.Records.{soundOf}
 use Rattle.oneaccount.specs.Cutting.{newest}
-use Rattle.tuner.specs.Taking.{keeping-length, sound-at, kept-age, right-alike}
+use Rattle.record.specs.Kept.{keeping-length, sound-at, kept-age, right-alike}
 
 pub newest-length : (n : ℕ) (x : Sound) → length (newest n x) ≡ n
 newest-length n x = length-listOf (λ (k : ℕ). x (n - 1 - k)) n

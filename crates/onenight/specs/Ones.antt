@@ -7,7 +7,7 @@ use native.Mathlib.Omega.{arith}
 use lib.IntN.{ℤ}
 use lib.ListN.{length, drop}
 use Rattle.rules.specs.Rules.{longestBlock}
-use Rattle.tuner.specs.Verdicts.{Step, isn't, is, step-one}
+use Rattle.answers.specs.Paths.{Step, isn't, is, step-one}
 use Rattle.one.specs.declared.Tuner.{Tuner}
 use Rattle.one.specs.declared.Answer.{Answer}
 use Rattle.one.specs.Tuners.{Good, Roomy, keptOuts}

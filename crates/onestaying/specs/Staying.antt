@@ -24,16 +24,14 @@ use Rattle.keyboard.specs.declared.Keyboard.{Keyboard}
 use Rattle.keyboard.specs.Keys.{KeyboardIn}
 use Rattle.keyboard.specs.Playing.{fresh-in, played-in, onChannel-in}
 use Rattle.pitch.specs.Keeping.{listed-right, kept-right}
-use Rattle.record.specs.Records.{soundOf, freshPitch}
+use Rattle.record.specs.Records.{soundOf, freshPitch, made, heardAfter}
 use Rattle.lists.specs.Lists.{sungNote, notesSung, sheet, Sheet, afterNotes, ListingIn}
 use Rattle.lists.specs.Folds.{empty-in, later-in, afterNotes-in}
 use Rattle.voices.specs.Voices.{voicedBy, voiceGives, voiceOuts}
 use Rattle.voices.specs.Accompanying.{voice-bounds}
 use Rattle.singers.specs.Singers.{keptInterval, allInRange, intervalsNumber}
 use Rattle.singers.specs.Voicing.{number-says}
-use Rattle.tuner.specs.Tuners.{made, heardAfter}
-use Rattle.tuner.specs.Taking.{keeping-length, made-length}
-use Rattle.staying.specs.Staying.{still-silent, silent-right}
+use Rattle.record.specs.Kept.{keeping-length, made-length, still-silent, silent-right}
 use Rattle.one.specs.declared.Voice.{Voice}
 use Rattle.one.specs.declared.Numbers.{Numbers}
 use Rattle.one.specs.declared.Tuner.{Tuner}

@@ -1,12 +1,13 @@
--- The parts of a tuner's record: settings, sample rate, keyboard, what was heard, the pitch, the read head and the last block. When each is right, and fresh. Definitions only.
+-- The parts of a tuner's record: settings, sample rate, keyboard, what was heard, the pitch, the read head and the last block. When each is right, and fresh; what was heard after more samples. Definitions only.
 use mathlib.Core.Path.{_≡_}
-use mathlib.Core.List.{List}
-use Prim.Native.Nat.{ℕ, _+_, _/_, _≤_, _<_}
+use mathlib.Core.Bool.{cond}
+use mathlib.Core.List.{List, [], _∷_}
+use Prim.Native.Nat.{ℕ, suc, _+_, _/_, _≤_, _<_}
 use lib.IntN.{ℤ, pos}
-use lib.ListN.{replicate}
+use lib.ListN.{length, replicate}
 use Rattle.rules.specs.declared.Settings.{Settings}
-use Rattle.rules.specs.Rules.{Sound, silence, heardAll, farthest, noTone, takeLimit, longestBlock, keptSamples, keptEighths, eighthLags}
-use Rattle.rules.specs.Facts.{InRange, SampleRate, valueAt, Right}
+use Rattle.rules.specs.Rules.{Sound, silence, heard, heardAll, eighthDue, eighthSample, farthest, noTone, takeLimit, longestBlock, keptSamples, keptEighths, eighthLags}
+use Rattle.rules.specs.Facts.{InRange, SampleRate, valueAt, Right, energiesOf, correlationsOf, keeping}
 use Rattle.keyboard.specs.declared.Keyboard.{Keyboard}
 use Rattle.keyboard.specs.Keys.{KeyboardIn}
 use Rattle.pitch.specs.declared.Pitch.{Pitch as KeptPitch}
@@ -36,6 +37,25 @@ freshHeard =
       correlations = replicate eighthLags (pos 0);
       store = replicate keptSamples (pos 0);
       eighths = replicate keptEighths (pos 0);
+    }
+
+-- the eighth-rate samples made while the samples come after n samples of the sound x
+unfoldable pub made : ℕ → Sound → List ℤ → List ℤ
+made n x [] = []
+made n x (new ∷ more) =
+    let rest = made (suc n) (heard new x) more in
+    cond (eighthDue (suc n)) (eighthSample (heard new x) ∷ rest) rest
+
+-- what was heard, with the samples xs: the newest are kept, and the sums are those over them
+unfoldable pub heardAfter : Heard → List ℤ → Heard
+heardAfter h xs =
+    let eighths = keeping (h .eighths) (made (h .count) (soundOf (h .store)) xs) in
+    record {
+      count = h .count + length xs;
+      energies = energiesOf (soundOf eighths) 2 eighthLags;
+      correlations = correlationsOf (soundOf eighths) 2 eighthLags;
+      store = keeping (h .store) xs;
+      eighths = eighths;
     }
 
 -- ---- the pitch: right as `PitchRight` says

@@ -2,22 +2,19 @@
 use mathlib.Core.Path.{_≡_, refl, sym, ap, _∙_, subst}
 use mathlib.Core.Bool.{cond}
 use mathlib.Core.List.{List, _++_}
-use Prim.Native.Nat.{ℕ, zero, suc, _+_, _-_, _*_, _≤_, _<_}
+use Prim.Native.Nat.{ℕ, zero, suc, _+_, _≤_, _<_}
 use native.Mathlib.Omega.{arith}
 use borrow.Author.Tests.{eqb-true}
 use lib.Dec.{eqb}
-use lib.IntN.{ℤ, pos, _*ℤ_}
-use lib.ListN.{length, take, drop, replicate, length-replicate, getD-replicate, List·getD-append}
+use lib.IntN.{ℤ, pos}
+use lib.ListN.{length, take, drop, length-replicate, getD-replicate, List·getD-append}
 use lib.Seq.{take-at, length-take-le, getD-drop}
 use Rattle.whole.specs.Tests.{by, cond-case}
-use Rattle.whole.specs.Bounds.{natAbs-zero}
 use Rattle.whole.specs.Lists.{length-listOf}
-use Rattle.whole.specs.Sums.{sum-within, total-zero}
 use Rattle.rules.specs.declared.Settings.{Settings}
-use Rattle.rules.specs.Rules.{Sound, silence, heard, heardAll, sq, E, H, noTone, inRange, defaults, cdRate, startNumber, after}
+use Rattle.rules.specs.Rules.{silence, noTone, inRange, defaults, cdRate, startNumber, after}
 use Rattle.rules.specs.Ranges.{unrefused-start, default-start}
-use Rattle.rules.specs.Facts.{InRange, SampleRate, ForceIn, unpitched, valueAt, Right, keeping}
-use Rattle.rules.specs.Hearing.{all-heard}
+use Rattle.rules.specs.Facts.{InRange, SampleRate, ForceIn, unpitched, valueAt, keeping}
 use Rattle.rules.specs.Position.{behind-in-bounds, in-bounds-behind}
 use Rattle.rules.specs.Sane.{Sane, after-sane}
 use Rattle.pitch.specs.Keeping.{listed-right, kept-right}
@@ -25,10 +22,10 @@ use Rattle.answers.specs.declared.Answer.{Answer}
 use Rattle.keyboard.specs.declared.Keyboard.{Keyboard}
 use Rattle.keyboard.specs.Keys.{KeyboardIn}
 use Rattle.keyboard.specs.Playing.{fresh-in, played-in, onChannel-in}
-use Rattle.record.specs.Records.{soundOf, freshHeard, freshPitch, freshHead, noLast}
+use Rattle.record.specs.Records.{soundOf, freshHeard, made, heardAfter, freshPitch, freshHead, noLast}
+use Rattle.record.specs.Kept.{keeping-length, still-silent, silent-right, made-length}
 use Rattle.tuner.specs.declared.Tuner.{Tuner}
-use Rattle.tuner.specs.Tuners.{takeOf, forceOf, Good, freshTuner, defaultTuner, made, heardAfter, afterBlock, Verdict, record-out-of-range, tunerBy, answerBy, Took, Started, withSettings, ChangeVerdict, by-settings, Changed, Reset, withBytes, Keyed, read}
-use Rattle.tuner.specs.Taking.{keeping-length, made-length}
+use Rattle.tuner.specs.Tuners.{takeOf, forceOf, Good, freshTuner, defaultTuner, afterBlock, Verdict, record-out-of-range, tunerBy, answerBy, Took, Started, withSettings, ChangeVerdict, by-settings, Changed, Reset, withBytes, Keyed, read}
 use Rattle.tuner.specs.Verdicts.{verdict-fits, verdict-zero, tuner-kept, by-refused, by-given, counted, overlaid, out-length}
 
 -- how long a tuner's arrays are
@@ -40,24 +37,6 @@ pub record Lengths (t : Tuner) : Type 0 where
   pub out : length (t .last .out) ≡ 512
 
 -- ---- a fresh tuner is good
-
--- silence, and zeros heard after it
-pub still-silent : (n : ℕ) (x : Sound) → ((k : ℕ) → x k ≡ pos 0) → (k : ℕ) → heardAll x (replicate n (pos 0)) k ≡ pos 0
-unfolding heardAll
-still-silent zero x p = p
-still-silent (suc n) x p = still-silent n (heard (pos 0) x) (all-heard (λ z. z ≡ pos 0) p refl)
-
-pub silent-right : {x : Sound} (low n : ℕ) → ((k : ℕ) → x k ≡ pos 0) → Right x low n (replicate n 0) (replicate n (pos 0))
-unfolding E H
-silent-right {x} low n p =
-    record {
-      energies = length-replicate n 0;
-      correlations = length-replicate n (pos 0);
-      energy = λ j h. getD-replicate n j 0 0 h ∙ sym (total-zero (λ (k : ℕ). sq (x k)) (2 * (low + j)) (λ k l. ap sq (p k)));
-      correlation = λ j h.
-          getD-replicate n j (pos 0) (pos 0) h
-          ∙ sym (natAbs-zero (H x (low + j)) (omega (arith, sum-within 0 (λ (k : ℕ). x k *ℤ x (k + (low + j))) (λ k. record { within = rw (p k, p (k + (low + j))) (omega arith) }) (low + j) .within)));
-    }
 
 pub good-fresh : {hertz : ℕ} (s : Settings) → SampleRate hertz → InRange s → Good (freshTuner hertz s)
 unfolding freshTuner freshHeard freshPitch freshHead noLast noTone silence

@@ -15,9 +15,9 @@ use Rattle.rules.specs.Rules.{Given, gives, scaleMode, keyboardMode, within, se
 use Rattle.rules.specs.Blocks.{given-length}
 use Rattle.answers.specs.declared.Answer.{Answer}
 use Rattle.answers.specs.Numbering.{plain}
-use Rattle.record.specs.Records.{freshHeard}
+use Rattle.record.specs.Records.{freshHeard, heardAfter}
 use Rattle.tuner.specs.declared.Tuner.{Tuner}
-use Rattle.tuner.specs.Tuners.{takeOf, forceOf, freshTuner, defaultTuner, heardAfter, afterBlock, Verdict, record-out-of-range, block-empty, block-over-512, output-short, number-neither, other-samples, given-again, take-full, taken as verdict-taken, Took, Started, withSettings, Changed, NineOnly, record-good, Reset, withBytes, Keyed}
+use Rattle.tuner.specs.Tuners.{takeOf, forceOf, freshTuner, defaultTuner, afterBlock, Verdict, record-out-of-range, block-empty, block-over-512, output-short, number-neither, other-samples, given-again, take-full, taken as verdict-taken, Took, Started, withSettings, Changed, NineOnly, record-good, Reset, withBytes, Keyed}
 use Rattle.tuner.specs.Verdicts.{verdict-fits, verdict-zero, tuner-taken}
 use Rattle.staying.specs.Staying.{took-number, untaken-unchanged, good-force, good-sane}
 use Rattle.text.specs.Text.{number, digits, places, decimal, Put}

@@ -11,7 +11,6 @@ use Rattle.rules.specs.Rules.{Sound, silence, heardAll, Take, Given, inputAt, a
 use Rattle.rules.specs.Hearing.{heardAll-append}
 use Rattle.rules.specs.Position.{Behind, behind-one}
 use Rattle.rules.specs.Facts.{Right, keeping}
-use Rattle.whole.specs.Lists.{length-listOf}
 use Rattle.ages.specs.Ages.{ago, Samples}
 use Rattle.passing.specs.Distances.{Long}
 use Rattle.copying.specs.Copies.{Joined, joined-old, joined-new, joined-sound, joined-keeping, take-drop}
@@ -22,11 +21,11 @@ use Rattle.pitch.specs.Keeping.{right-energies, right-correlations}
 use Rattle.steps.specs.declared.Progress.{Progress}
 use Rattle.steps.specs.Eighths.{Eighths}
 use Rattle.steps.specs.Running.{takeSoFar, Tones, tonesGiven, Ready, Ran, Begins, Ended}
-use Rattle.record.specs.Records.{soundOf}
+use Rattle.record.specs.Records.{soundOf, made, heardAfter}
 use Rattle.record.specs.Parts.{Stores}
 use Rattle.tuner.specs.declared.Tuner.{Tuner}
-use Rattle.tuner.specs.Tuners.{takeOf, forceOf, Good, made, heardAfter, afterBlock}
-use Rattle.tuner.specs.Taking.{keeping-length, same-sound, newest-right, made-length, after-eighths}
+use Rattle.tuner.specs.Tuners.{takeOf, forceOf, Good, afterBlock}
+use Rattle.record.specs.Kept.{same-sound, newest-right, stores-after, made-length, after-eighths}
 
 -- ---- where a block begins
 
@@ -169,13 +168,5 @@ module _ (t : Tuner) (g : Good t) (st : Stores (t .heard)) {xs s y : List ℤ} (
 
 -- the stores of a tuner that a block leaves are as long as they were
 pub after-stores : (t : Tuner) (number : ℕ) (xs : List ℤ) {t′ : Tuner} → Stores (t .heard) → t′ ≡ afterBlock t number xs → Samples (t′ .heard .store) → Samples (t′ .heard .eighths) → Stores (t′ .heard)
-unfolding afterBlock heardAfter
-after-stores t number xs st e s y =
-    record {
-      store = ap (λ (u : Tuner). length (u .heard .store)) e ∙ keeping-length (t .heard .store) xs ∙ st .store;
-      eighths = ap (λ (u : Tuner). length (u .heard .eighths)) e ∙ keeping-length (t .heard .eighths) (made (t .heard .count) (soundOf (t .heard .store)) xs) ∙ st .eighths;
-      energies = ap (λ (u : Tuner). length (u .heard .energies)) e ∙ length-listOf _ 109;
-      correlations = ap (λ (u : Tuner). length (u .heard .correlations)) e ∙ length-listOf _ 109;
-      storeFits = s;
-      eighthsFit = y;
-    }
+unfolding afterBlock
+after-stores t number xs st e s y = stores-after xs st (ap (λ (u : Tuner). u .heard) e) s y

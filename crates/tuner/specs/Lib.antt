@@ -1,6 +1,5 @@
 pub mod Tuners
 pub mod Parted
-pub mod Taking
 pub mod Afters
 pub mod Verdicts
 pub mod Starts

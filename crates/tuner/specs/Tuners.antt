@@ -1,25 +1,23 @@
 -- The tuner's record: when it is good, what a start and a block make of it, and what each call answers and leaves. Definitions only.
 use mathlib.Core.Path.{_≡_}
-use mathlib.Core.Bool.{true, false, cond}
-use mathlib.Core.List.{List, [], _∷_, _++_}
+use mathlib.Core.Bool.{cond}
+use mathlib.Core.List.{List, _++_}
 use Prim.Native.Nat.{ℕ, zero, suc, _+_, _-_, _%_, _≤_, _<_}
 use lib.Dec.{eqb}
 use lib.IntN.{ℤ, pos, natAbs, _-ℤ_}
 use lib.ListN.{length, take, drop, replicate}
 use Rattle.rules.specs.declared.Settings.{Settings}
 use Rattle.rules.specs.declared.InForce.{InForce}
-use Rattle.rules.specs.Rules.{Sound, heard, eighthDue, eighthSample, Take, Given, inputAt, settingsNumber, startNumber, defaults, cdRate, after, gives, samplesOut, allRepeated, allDropped, takeLimit, longestBlock, keptSamples, eighthLags}
-use Rattle.rules.specs.Facts.{energiesOf, correlationsOf, keeping}
+use Rattle.rules.specs.Rules.{Take, Given, inputAt, settingsNumber, startNumber, defaults, cdRate, after, gives, samplesOut, allRepeated, allDropped, takeLimit, longestBlock, keptSamples}
 use Rattle.keyboard.specs.Keys.{fresh, played, onChannel}
 use Rattle.pitch.specs.Pitches.{pitchOf, keptOf}
 use Rattle.answers.specs.declared.Answer.{Answer}
 use Rattle.answers.specs.Numbering.{plain}
 use Rattle.meters.specs.declared.Meter.{Meter}
 use Rattle.meters.specs.Meters.{shownOf, Exact}
-use Rattle.record.specs.declared.Heard.{Heard}
 use Rattle.record.specs.declared.Head.{Head}
 use Rattle.record.specs.declared.Last.{Last}
-use Rattle.record.specs.Records.{soundOf, AllRight, freshHeard, freshPitch, freshHead, noLast}
+use Rattle.record.specs.Records.{soundOf, heardAfter, AllRight, freshHeard, freshPitch, freshHead, noLast}
 use Rattle.tuner.specs.declared.Tuner.{Tuner}
 
 -- ---- the take that a tuner holds, and what is in force
@@ -49,25 +47,6 @@ abbrev pub defaultTuner : Tuner
 defaultTuner = freshTuner cdRate defaults
 
 -- ---- a tuner after a block
-
--- the eighth-rate samples made while the samples come after n samples of the sound x
-unfoldable pub made : ℕ → Sound → List ℤ → List ℤ
-made n x [] = []
-made n x (new ∷ more) =
-    let rest = made (suc n) (heard new x) more in
-    cond (eighthDue (suc n)) (eighthSample (heard new x) ∷ rest) rest
-
--- what was heard, with the samples xs: the newest are kept, and the sums are those over them
-unfoldable pub heardAfter : Heard → List ℤ → Heard
-heardAfter h xs =
-    let eighths = keeping (h .eighths) (made (h .count) (soundOf (h .store)) xs) in
-    record {
-      count = h .count + length xs;
-      energies = energiesOf (soundOf eighths) 2 eighthLags;
-      correlations = correlationsOf (soundOf eighths) 2 eighthLags;
-      store = keeping (h .store) xs;
-      eighths = eighths;
-    }
 
 -- the read head of a take
 abbrev pub headOf : Take → Head

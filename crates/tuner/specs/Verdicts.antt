@@ -14,6 +14,7 @@ use Rattle.rules.specs.Rules.{settingsNumber}
 use Rattle.rules.specs.Blocks.{gives-length}
 use Rattle.tuner.specs.declared.Tuner.{Tuner}
 use Rattle.answers.specs.declared.Answer.{Answer}
+use Rattle.answers.specs.Paths.{Step, isn't, is, step-one}
 use Rattle.answers.specs.Numbering.{plain, HasNumber, following, Numbered, neither, other, again, full, new}
 use Rattle.tuner.specs.Tuners.{Good, freshTuner, afterBlock, IsLast, lastSamples, nextNumber, Fits, Verdict, record-out-of-range, block-empty, block-over-512, output-short, number-neither, other-samples, given-again, take-full, taken, tunerBy, answerBy, outBy, Took, ChangeVerdict, withSettings, by-settings, Changed, NineOnly, record-good, Reset, withBytes, Keyed}
 use Rattle.tuner.specs.Parted.{NotTaken}
@@ -27,16 +28,6 @@ module _ {t : Tuner} {k : ℕ} {xs : List ℤ} {room : ℕ} where
   by-number f (new l n c) = taken f l n c
 
 -- ---- no second number: each is the end of one path through the same tests
-pub data Step (P no yes : Type 0) : Type 0 where
-  isn't : (P → ⊥) → no → Step P no yes
-  is : P → yes → Step P no yes
-
-pub step-one : {P A B A′ B′ C : Type 0} → Step P A B → Step P A′ B′ → (A → A′ → C) → (B → B′ → C) → C
-step-one (isn't n a) (isn't m b) f g = f a b
-step-one (isn't n a) (is p b) f g = absurd (n p)
-step-one (is p a) (isn't n b) f g = absurd (n p)
-step-one (is p a) (is q b) f g = g a b
-
 both : {v w n : ℕ} → v ≡ n → w ≡ n → v ≡ w
 both e f = e ∙ sym f
 

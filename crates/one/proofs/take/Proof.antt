@@ -9,7 +9,7 @@ use Rattle.one.specs.Taking.{hears, follows, taken-is, rows-after, store
 use Prim.Native.Nat.{_-_}
 use lib.ListN.{length, replicate}
 use Rattle.steps.specs.Running.{tones, Long512}
-use Rattle.tuner.specs.Taking.{samples-part}
+use Rattle.record.specs.Kept.{samples-part}
 use borrow.Author.Needs.{needs}
 use Rattle.one.proofs.take.Statement.{statement}
 use Rattle.one.proofs.take.Tie as tie

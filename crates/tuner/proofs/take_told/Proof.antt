@@ -13,7 +13,7 @@ use Rattle.record.specs.Parts.{heardOf}
 use Rattle.tuner.specs.declared.Tuner.{Tuner}
 use Rattle.tuner.specs.Tuners.{takeOf}
 use Rattle.tuner.specs.Parted.{tunerOf, last-unread}
-use Rattle.tuner.specs.Taking.{samples-part}
+use Rattle.record.specs.Kept.{samples-part}
 use Rattle.tuner.specs.Afters.{begin-long, begin-ready, end-places-few, tones-are, after-is, after-stores}
 use Rattle.tuner.proofs.take_told.Statement.{statement}
 use Rattle.tuner.proofs.take_told.Tie as tie

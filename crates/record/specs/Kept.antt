@@ -1,26 +1,30 @@
--- Sounds of kept samples and the sums over them; the eighth-rate samples of a block.
+-- Sounds of kept samples and the sums over them, silence among them; the eighth-rate samples of a block.
 use mathlib.Core.Path.{_≡_, refl, sym, ap, _∙_, subst}
 use mathlib.Core.Bool.{Bool, true, false, cond}
 use mathlib.Core.List.{List, [], _∷_, _++_}
-use Prim.Native.Nat.{ℕ, suc, _+_, _-_, _*_, _/_, _%_, _≤_, _<_}
+use Prim.Native.Nat.{ℕ, zero, suc, _+_, _-_, _*_, _/_, _%_, _≤_, _<_}
 use mathlib.Core.Logic.{_≢_}
 use native.Mathlib.Omega.{arith}
 use borrow.Author.Tests.{eqb-true, eqb-false, leb-true, leb-false}
 use lib.Dec.{leb, eqb}
-use lib.IntN.{ℤ, pos}
-use lib.ListN.{length, take, drop, length-take, length-drop, length-append, List·getD-eq-default}
+use lib.IntN.{ℤ, pos, _*ℤ_}
+use lib.ListN.{length, take, drop, replicate, length-take, length-drop, length-append, length-replicate, getD-replicate, List·getD-eq-default}
 use lib.Seq.{ext-getD, getD-take, getD-drop}
 use mir.Syntax.{w16}
 use mir.Val.{SFits}
 use Rattle.whole.specs.Tests.{by, cond-case}
+use Rattle.whole.specs.Bounds.{natAbs-zero}
+use Rattle.whole.specs.Lists.{length-listOf}
+use Rattle.whole.specs.Sums.{sum-within, total-zero}
 use Rattle.rules.specs.declared.InForce.{InForce}
-use Rattle.rules.specs.Rules.{Sound, heard, heardAll, eighthDue, eighthSample, eighthsAfter, Take, after, stepped}
+use Rattle.rules.specs.Rules.{Sound, heard, heardAll, sq, E, H, eighthDue, eighthSample, eighthsAfter, Take, after, stepped}
 use Rattle.rules.specs.Energies.{E-same, H-same}
-use Rattle.ages.specs.Ages.{ago-at, Samples}
 use Rattle.rules.specs.Facts.{valueAt, Right, keeping}
-use Rattle.record.specs.Records.{soundOf}
-use Rattle.record.specs.Parts.{ago-all}
-use Rattle.tuner.specs.Tuners.{made}
+use Rattle.rules.specs.Hearing.{all-heard}
+use Rattle.ages.specs.Ages.{ago-at, Samples}
+use Rattle.record.specs.declared.Heard.{Heard}
+use Rattle.record.specs.Records.{soundOf, made, heardAfter}
+use Rattle.record.specs.Parts.{ago-all, Stores}
 
 -- ---- a part of a store
 
@@ -70,6 +74,39 @@ right-alike {x} {y} {low} same r =
 
 pub newest-right : {low n : ℕ} {e : List ℕ} {h : List ℤ} (k : ℕ) (l : List ℤ) → 2 * (low + n) ≤ length (drop k l) → Right (soundOf l) low n e h → Right (soundOf (drop k l)) low n e h
 newest-right k l few r = right-alike (λ i g. sym (kept-age k l i (omega arith))) r
+
+-- stores with more samples heard are as long as they were
+pub stores-after : {h h′ : Heard} (xs : List ℤ) → Stores h → h′ ≡ heardAfter h xs → Samples (h′ .store) → Samples (h′ .eighths) → Stores h′
+unfolding heardAfter
+stores-after {h} xs st e s y =
+    record {
+      store = ap (λ (u : Heard). length (u .store)) e ∙ keeping-length (h .store) xs ∙ st .store;
+      eighths = ap (λ (u : Heard). length (u .eighths)) e ∙ keeping-length (h .eighths) (made (h .count) (soundOf (h .store)) xs) ∙ st .eighths;
+      energies = ap (λ (u : Heard). length (u .energies)) e ∙ length-listOf _ 109;
+      correlations = ap (λ (u : Heard). length (u .correlations)) e ∙ length-listOf _ 109;
+      storeFits = s;
+      eighthsFit = y;
+    }
+
+-- ---- silence
+
+-- silence, and zeros heard after it
+pub still-silent : (n : ℕ) (x : Sound) → ((k : ℕ) → x k ≡ pos 0) → (k : ℕ) → heardAll x (replicate n (pos 0)) k ≡ pos 0
+unfolding heardAll
+still-silent zero x p = p
+still-silent (suc n) x p = still-silent n (heard (pos 0) x) (all-heard (λ z. z ≡ pos 0) p refl)
+
+pub silent-right : {x : Sound} (low n : ℕ) → ((k : ℕ) → x k ≡ pos 0) → Right x low n (replicate n 0) (replicate n (pos 0))
+unfolding E H
+silent-right {x} low n p =
+    record {
+      energies = length-replicate n 0;
+      correlations = length-replicate n (pos 0);
+      energy = λ j h. getD-replicate n j 0 0 h ∙ sym (total-zero (λ (k : ℕ). sq (x k)) (2 * (low + j)) (λ k l. ap sq (p k)));
+      correlation = λ j h.
+          getD-replicate n j (pos 0) (pos 0) h
+          ∙ sym (natAbs-zero (H x (low + j)) (omega (arith, sum-within 0 (λ (k : ℕ). x k *ℤ x (k + (low + j))) (λ k. record { within = rw (p k, p (k + (low + j))) (omega arith) }) (low + j) .within)));
+    }
 
 -- ---- the eighth-rate samples of a block
 pub made-length : (n : ℕ) (x : Sound) (xs : List ℤ) → length (made n x xs) + n / 8 ≡ (n + length xs) / 8
