@@ -22,7 +22,7 @@ use Rattle.pitch.specs.declared.Pitch.{Pitch as KeptPitch}
 use Rattle.pitch.specs.Pitches.{PitchRight, trackingOf}
 use Rattle.pitch.specs.Keeping.{listed-right, kept-right}
 use Rattle.record.specs.Records.{soundOf}
-use Rattle.tuner.specs.Taking.{right-alike}
+use Rattle.record.specs.Kept.{right-alike}
 use Rattle.one.specs.declared.Tuner.{Tuner}
 use Rattle.one.specs.declared.Answer.{Answer}
 use Rattle.one.specs.Tuners.{Good, silentTuner, freshNumbers, defaultTuner, parts, Roomy, Verdict, taken, Took, withKeys}

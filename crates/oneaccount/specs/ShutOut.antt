@@ -14,8 +14,8 @@ use Rattle.history.specs.History.{sample, freshCourse, happened, courseAfter, g
 use Rattle.rules.specs.Facts.{pitched, valueAt}
 use Rattle.record.specs.Records.{freshPitch}
 use Rattle.reports.specs.Reports.{figuresOf}
-use Rattle.tuner.specs.Tuners.{heardAfter}
-use Rattle.staying.specs.Staying.{still-silent, silent-right}
+use Rattle.record.specs.Records.{heardAfter}
+use Rattle.record.specs.Kept.{still-silent, silent-right}
 use Rattle.one.specs.declared.Tuner.{Tuner}
 use Rattle.one.specs.declared.Answer.{Answer}
 use Rattle.one.specs.Tuners.{takeOf, forceOf, Good, freshNumbers, silentTuner, defaultTuner, outsBeside, parts, keptOuts, Roomy, written, nextNumber, Verdict, taken, afterBlock, counted, Took}

@@ -13,7 +13,7 @@ use lib.Seq.{take-add, take-all, take-at, drop-at, drop-drop, length-take-le}
 use Rattle.whole.specs.Tests.{by, cond-case}
 use Rattle.rules.specs.Rules.{longestBlock}
 use Rattle.record.specs.Parts.{Stores}
-use Rattle.tuner.specs.Tuners.{heardAfter}
+use Rattle.record.specs.Records.{heardAfter}
 use Rattle.one.specs.declared.Numbers.{Numbers}
 use Rattle.one.specs.declared.Tuner.{Tuner}
 use Rattle.one.specs.declared.Answer.{Answer}

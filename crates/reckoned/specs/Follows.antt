@@ -7,28 +7,24 @@ use native.Mathlib.Omega.{arith}
 use borrow.Author.Tests.{eq-eqb, ne-eqb, eqb-true, eqb-false}
 use lib.Dec.{eqb}
 use lib.IntN.{ℤ}
-use Rattle.whole.specs.Tests.{by, cond-yes, cond-no, cond-case}
+use lib.ListN.{length, take, drop}
+use lib.Seq.{take-length}
+use Rattle.whole.specs.Tests.{by, cond-yes, cond-no}
 use Rattle.rules.specs.declared.Settings.{Settings}
-use Rattle.rules.specs.Rules.{Given, gives, startNumber, settingsNumber, defaults, cdRate}
-use Rattle.rules.specs.Local.{after-agree}
-use Rattle.history.specs.History.{Event, sample, new-settings, byte, Course, freshCourse, givenBy}
-use Rattle.history.specs.Courses.{givenBy-append, given-samples, given-bytes, course-force}
-use Rattle.answers.specs.declared.Answer.{Answer}
-use Rattle.answers.specs.Numbering.{plain}
-use Rattle.tuner.specs.declared.Tuner.{Tuner}
-use Rattle.tuner.specs.Tuners.{takeOf, forceOf, freshTuner, defaultTuner, Took, Started, withSettings, ChangeVerdict, record-out-of-range, by-settings, Changed, NineOnly, record-good, Reset, withBytes, Keyed}
-use Rattle.staying.specs.Staying.{untaken-unchanged}
-use Rattle.account.specs.Account.{Call, start, change, block, midi, reset, Leaves, by-start, by-change, by-block, by-midi, by-reset, Series, fresh-start, and-then, Received, begun, courseOf, withEvents, withBlock, ifTaken, plus, received}
-use Rattle.account.specs.Cutting.{tunerAfter}
-use Rattle.account.specs.Following.{course-agree}
-use Rattle.account.specs.Calls.{refused-change-unchanged, refused-reset-unchanged, refused-bytes-unchanged}
-use Rattle.account.specs.Holds.{holds, tuner-holds, series-course}
-use Rattle.lines.specs.Lines as lines
-use Rattle.lines.specs.Lines.{Line, read, numberLine, blockLine, withFour, withMode, withChannel, Said, begun as said-begun, not-begun, changed, taken, begun-again, mode-changed, channel-changed, keyed, not-read}
+use Rattle.rules.specs.Rules.{Given, gives, defaults, cdRate}
+use Rattle.history.specs.History.{Event, sample, new-settings, byte, freshCourse, givenBy}
+use Rattle.history.specs.Courses.{givenBy-append, given-bytes}
+use Rattle.one.specs.declared.Tuner.{Tuner}
+use Rattle.one.specs.declared.Answer.{Answer}
+use Rattle.one.specs.Tuners.{takeOf, forceOf, defaultTuner, Took, Done, Changed}
+use Rattle.onestaying.specs.Staying.{took-keeps, untaken-unchanged}
+use Rattle.oneaccount.specs.Account.{Call, Leaves, by-start, by-change, by-block, by-midi, by-reset, Series, fresh-start, and-then, Received, begun, courseOf, withEvents, withSamples, countedBy, plus, received}
+use Rattle.oneaccount.specs.Following.{block-gives}
+use Rattle.oneaccount.specs.Keeps.{course-right, series-keeps}
+use Rattle.oneaccount.specs.Holds.{holds}
+use Rattle.lines.specs.Lines.{Line, withFour, withMode, withChannel, Desk, desk, numbered, begins, Said, begun as said-begun, not-begun, changed, taken, begun-again, mode-changed, channel-changed, keyed, not-read}
 use Rattle.reports.specs.Reports.{reportOf}
-use Rattle.telling.specs.Tellings.{Doing, nothing, begins, goes-on, isZero, doingOf, takesAfter}
-use Rattle.telling.specs.Doings.{number-zero, block-zero, took-small, start-small, settings-small, nine-small, plain-number}
-use Rattle.reporting.specs.Reporting.{Takes, Through, Reported, no-more, last-line, one-byte, line-ends, Report}
+use Rattle.reporting.specs.Reporting.{Takes, broughtBy, withGiven, takesAfter, Through, Reported, no-more, last-line, one-byte, line-ends, Report}
 use Rattle.reckoned.specs.Reckoned.{Past, fresh, givenIn, withMore, pastsBy, pastsAfter, Reckoned, ReportTheorem}
 
 -- what was received in a take, as its history
@@ -45,19 +41,22 @@ record Follows (t : Tuner) (takes : Takes) (ps : List Past) : Type 0 where
 
 -- ---- what a block gives, over all that was received
 block-given : {cs : List Call} {t : Tuner} → Series cs t → (xs : List ℤ) → givenBy (courseOf (received cs)) (map sample xs) ≡ gives (forceOf t) (takeOf t) xs
-unfolding tunerAfter
-block-given {cs} {t} h xs =
-    given-samples (courseOf (received cs)) xs
-    ∙ after-agree (course-force (series-course h)) (series-course h .take) (course-agree (series-course h) (t .last)) xs .1
-    ∙ ap (λ (u : Tuner). gives (forceOf u) (takeOf u) xs) (sym (tuner-holds cs t h))
+block-given {t = t} h xs = let k = series-keeps h in sym (ap (λ (u : Tuner). gives (forceOf u) (takeOf u) xs) (k .is) ∙ block-gives (course-right k) t xs)
+
+-- what was received of a block that is taken is all of it
+block-past : {t t′ : Tuner} {k : ℕ} {xs : List ℤ} {os os′ : List (List ℤ)} {store store′ : List ℕ} {a : Answer} (r : Received) → Took t k xs os store t′ a os′ store′ → a .number ≡ 0
+    → pastOf (withSamples r 0 (a .written) xs (countedBy a)) ≡ pastOf (withEvents r (map sample xs))
+block-past {xs = xs} {a = a} r p z =
+    let all : take (a .written) xs ≡ xs = ap (λ (b : Answer). take (b .written) xs) (took-keeps p (omega arith) .0) ∙ take-length xs in
+    ap (λ (l : List ℤ). record { hertz = r .hertz; settings = r .settings; events = r .events ++ map sample l }) all
 
 -- ---- a take goes on, or begins
 module _ {t t′ : Tuner} {takes : Takes} {ps : List Past} (f : Follows t takes ps) {c : Call} (leaves : Leaves t c t′) where
   abbrev r : Received
   r = received (f .calls)
 
-  goes : (es : List Event) {gs : List Given} → pastOf (received (c ∷ f .calls)) ≡ pastOf (withEvents r es) → givenBy (courseOf r) es ≡ gs → Follows t′ (takesAfter (goes-on gs) takes) (withMore es ps)
-  unfolding takesAfter withMore
+  goes : (es : List Event) {gs : List Given} → pastOf (received (c ∷ f .calls)) ≡ pastOf (withEvents r es) → givenBy (courseOf r) es ≡ gs → Follows t′ (withGiven gs takes) (withMore es ps)
+  unfolding withGiven withMore
   goes es {gs} e g =
       record {
         calls = c ∷ f .calls;
@@ -65,19 +64,10 @@ module _ {t t′ : Tuner} {takes : Takes} {ps : List Past} (f : Follows t takes 
         older = f .older;
         pasts = ap (withMore es) (f .pasts) ∙ ap (λ (p : Past). p ∷ f .older) (sym e);
         given =
-            ap (takesAfter (goes-on gs)) (f .given ∙ ap (map givenIn) (f .pasts))
+            ap (withGiven gs) (f .given ∙ ap (map givenIn) (f .pasts))
             ∙ ap (λ (l : List Given). l ∷ map givenIn (f .older)) (ap (λ (l : List Given). givenIn (pastOf r) ++ l) (sym g) ∙ sym (givenBy-append (freshCourse (r .hertz) (r .settings)) (r .events) es))
             ∙ sym (ap (λ (l : List Past). map givenIn (withMore es l)) (f .pasts));
       }
-
-  -- no sample among it
-  stays : (es : List Event) → pastOf (received (c ∷ f .calls)) ≡ pastOf (withEvents r es) → givenBy (courseOf r) es ≡ [] → Follows t′ takes (withMore es ps)
-  unfolding takesAfter
-  stays es e g = subst (λ (ts : Takes). Follows t′ ts (withMore es ps)) (nothing-more takes) (goes es e g)
-    where
-      nothing-more : (ts : Takes) → takesAfter (goes-on []) ts ≡ ts
-      nothing-more [] = refl
-      nothing-more (newest ∷ older) = ap (λ (l : List Given). l ∷ older) (append-nil newest)
 
   anew : (hertz : ℕ) (s : Settings) → pastOf (received (c ∷ f .calls)) ≡ fresh hertz s → Follows t′ ([] ∷ takes) (fresh hertz s ∷ ps)
   unfolding givenBy
@@ -90,100 +80,58 @@ module _ {t t′ : Tuner} {takes : Takes} {ps : List Past} (f : Follows t takes 
         given = ap (λ (ts : Takes). [] ∷ ts) (f .given);
       }
 
--- ---- one line
-
--- what it does, by whether it is answered 0
-doingBy : Tuner → Line → Bool → Doing
-doingBy t (lines.start hertz s) b = cond b begins nothing
-doingBy t (lines.change s) b = nothing
-doingBy t (lines.block k xs) b = cond b (goes-on (gives (forceOf t) (takeOf t) xs)) nothing
-doingBy t lines.reset b = cond b begins nothing
-doingBy t (lines.mode m) b = nothing
-doingBy t (lines.channel c) b = nothing
-doingBy t (lines.midi bytes) b = nothing
-doingBy t lines.unreadable b = nothing
-
-doing-by : (t : Tuner) (l : Line) (text : List ℕ) → doingOf t l text ≡ doingBy t l (isZero text)
-unfolding doingOf doingBy
-doing-by t (lines.start hertz s) text = refl
-doing-by t (lines.change s) text = refl
-doing-by t (lines.block k xs) text = refl
-doing-by t lines.reset text = refl
-doing-by t (lines.mode m) text = refl
-doing-by t (lines.channel c) text = refl
-doing-by t (lines.midi bytes) text = refl
-doing-by t lines.unreadable text = refl
-
--- refused it does nothing
-doing-none : (t : Tuner) (l : Line) → doingBy t l false ≡ nothing
-unfolding doingBy
-doing-none t (lines.start hertz s) = refl
-doing-none t (lines.change s) = refl
-doing-none t (lines.block k xs) = refl
-doing-none t lines.reset = refl
-doing-none t (lines.mode m) = refl
-doing-none t (lines.channel c) = refl
-doing-none t (lines.midi bytes) = refl
-doing-none t lines.unreadable = refl
-
-abbrev Then : (t t′ : Tuner) → Takes → List Past → Line → Bool → Type 0
-Then t t′ takes ps l b = Follows t′ (takesAfter (doingBy t l b) takes) (cond b (pastsBy t l ps) ps)
+-- ---- a line that is refused, or taken
+nothing-more : (ts : Takes) → withGiven [] ts ≡ ts
+unfolding withGiven
+nothing-more [] = refl
+nothing-more (newest ∷ older) = ap (λ (l : List Given). l ∷ older) (append-nil newest)
 
 module _ {t t′ : Tuner} {takes : Takes} {ps : List Past} (f : Follows t takes ps) where
-  refused : (l : Line) → t′ ≡ t → Then t t′ takes ps l false
-  unfolding takesAfter
-  refused l e = subst (λ (d : Doing). Follows t′ (takesAfter d takes) ps) (sym (doing-none t l)) (subst (λ (u : Tuner). Follows u takes ps) (sym e) f)
+  refused : t′ ≡ t → Follows t′ (withGiven [] takes) ps
+  refused e = subst (λ (ts : Takes). Follows t′ ts ps) (sym (nothing-more takes)) (subst (λ (u : Tuner). Follows u takes ps) (sym e) f)
 
   -- by the number of the answer
-  by-number : (l : Line) (text : List ℕ) (v : ℕ) → isZero text ≡ eqb v 0 → (v ≡ 0 → Then t t′ takes ps l true) → (0 < v → t′ ≡ t) → Follows t′ (takesAfter (doingOf t l text) takes) (cond (isZero text) (pastsBy t l ps) ps)
-  by-number l text v e done left =
-      let then = Then t t′ takes ps l in
-      subst (λ (d : Doing). Follows t′ (takesAfter d takes) (cond (isZero text) (pastsBy t l ps) ps)) (sym (doing-by t l text))
-      (subst then (sym e) (by (eqb v 0) (λ z. subst then (sym z) (done (eqb-true v 0 z))) (λ z. let n = eqb-false v 0 z in subst then (sym z) (refused l (left (omega arith))))))
+  by-number : {qs : List Past} (v : ℕ) → (v ≡ 0 → Follows t′ (withGiven [] takes) qs) → (0 < v → t′ ≡ t) → Follows t′ (withGiven [] takes) (cond (eqb v 0) qs ps)
+  by-number v done left = by (eqb v 0) (λ z. rw z (done (eqb-true v 0 z))) (λ z. let n = eqb-false v 0 z in rw z (refused (left (omega arith))))
 
--- the number of a change is small
-change-small : {t : Tuner} {s : Settings} {v : ℕ} → ChangeVerdict t s v → v < 100
-change-small (record-out-of-range n) = omega arith
-change-small {s = s} (by-settings g) = settings-small s
-
-changed-zero : {t t′ : Tuner} {s : Settings} {a : Answer} → Changed t s t′ a → isZero (numberLine (a .number)) ≡ eqb (a .number) 0
-changed-zero {a = a} p = number-zero (a .number) (omega (arith, plain-number (p .answer), change-small (p .verdict)))
+left-as : {own v : ℕ} {t taken t′ : Tuner} → Done own t taken t′ v → 0 < v → t′ ≡ t
+left-as {v = v} {t} {taken} p h = p .tuner ∙ cond-no taken t (ne-eqb v 0 (λ z. omega arith))
 
 -- a change that is taken
-change-then : {t t′ : Tuner} {takes : Takes} {ps : List Past} {s : Settings} {a : Answer} → Follows t takes ps → Changed t s t′ a → a .number ≡ 0 → Follows t′ takes (withMore (new-settings s ∷ []) ps)
+change-then : {t t′ : Tuner} {takes : Takes} {ps : List Past} (s : Settings) {v : ℕ} → Follows t takes ps → Changed t s t′ v → v ≡ 0 → Follows t′ (withGiven [] takes) (withMore (new-settings s ∷ []) ps)
 unfolding received plus givenBy
-change-then {s = s} {a} f p z =
+change-then s {v} f p z =
     let r = received (f .calls) in
-    stays f (by-change p) (new-settings s ∷ []) (ap pastOf (cond-yes (withEvents r (new-settings s ∷ [])) r (eq-eqb (a .number) 0 z))) refl
+    goes f (by-change p) (new-settings s ∷ []) (ap pastOf (cond-yes (withEvents r (new-settings s ∷ [])) r (eq-eqb v 0 z))) refl
 
-line-follows : {t t′ : Tuner} {takes : Takes} {ps : List Past} {l : Line} {text : List ℕ} → Follows t takes ps → Said t l t′ text → Follows t′ (takesAfter (doingOf t l text) takes) (cond (isZero text) (pastsBy t l ps) ps)
-unfolding takesAfter pastsBy received plus doingBy
-line-follows f (said-begun {hertz = hertz} {s = s} {a = a} p e) =
-    by-number f (lines.start hertz s) (numberLine (a .number)) (a .number) (number-zero (a .number) (omega arith))
-    (λ z. anew f (by-start p) hertz s (ap pastOf (cond-yes (begun hertz s) (begun cdRate defaults) (eq-eqb (a .number) 0 z))))
-    (λ h. absurd (omega arith))
-line-follows f (not-begun {hertz = hertz} {s = s} {a = a} p n) =
-    by-number f (lines.start hertz s) (numberLine (a .number)) (a .number) (number-zero (a .number) (omega (arith, plain-number (p .answer), start-small hertz s))) (λ z. absurd (n z)) (λ h. refl)
-line-follows f (changed {s = s} {a = a} p) = by-number f (lines.change s) (numberLine (a .number)) (a .number) (changed-zero p) (λ z. change-then f p z) (λ h. refused-change-unchanged p h)
-line-follows f (taken {k = k} {xs = xs} {ys = ys} {a = a} p) =
+-- ---- one line
+line-follows : {d d′ : Desk} {takes : Takes} {ps : List Past} {l : Line} {text : List ℕ} {a : Answer} → Follows (d .tuner) takes ps → Said d l d′ text a → Follows (d′ .tuner) (takesAfter (d .tuner) l a takes) (pastsAfter (d .tuner) l a ps)
+unfolding begins broughtBy pastsBy received plus
+line-follows f (said-begun {hertz = hertz} {s = s} {v = v} p e) =
+    let z = eq-eqb v 0 e in
+    rw z (anew f (by-start p) hertz s (ap pastOf (cond-yes (begun hertz s _ _) (begun cdRate defaults 0 []) z)))
+line-follows f (not-begun {v = v} p n) = rw (ne-eqb v 0 n) (refused f refl)
+line-follows {d} f (changed {s = s} {v = v} p) = by-number f v (change-then (withFour (d .tuner) s) f p) (left-as p)
+line-follows {d} f (taken {xs = xs} {a = a} p) =
     let r = received (f .calls) in
-    by-number f (lines.block k xs) (blockLine a ys) (a .number) (block-zero a ys (took-small p))
-    (λ z. goes f (by-block p) (map sample xs) (ap pastOf (cond-yes (withBlock r xs a ys) r (eq-eqb (a .number) 0 z))) (block-given (f .series) xs))
-    (λ h. untaken-unchanged p h)
-line-follows {t} f (begun-again {a = a} p) =
+    by (eqb (a .number) 0)
+    (λ z. let e = eqb-true (a .number) 0 z in
+    rw z (goes f (by-block p) (map sample xs) (ap pastOf (cond-yes (withSamples r 0 (a .written) xs (countedBy a)) r z) ∙ block-past r p e) (block-given (f .series) xs)))
+    (λ z. let n = eqb-false (a .number) 0 z in rw z (refused f (untaken-unchanged p (omega arith) .0)))
+line-follows {d} f (begun-again {v = v} p) =
     let r = received (f .calls) in
-    let h = holds (f .calls) t (f .series) in
-    by-number f lines.reset (numberLine (a .number)) (a .number) (number-zero (a .number) (omega (arith, plain-number (p .answer), nine-small (p .verdict))))
-    (λ z. anew f (by-reset p) (t .hertz) (t .settings) (ap pastOf (cond-yes (begun (r .hertz) (courseOf r .settings)) r (eq-eqb (a .number) 0 z)) ∙ sym (λ i. fresh (h .hertz i) (h .settings i))))
-    (λ n. refused-reset-unchanged p n)
-line-follows f (mode-changed {m = m} {a = a} p) = by-number f (lines.mode m) (numberLine (a .number)) (a .number) (changed-zero p) (λ z. change-then f p z) (λ h. refused-change-unchanged p h)
-line-follows f (channel-changed {c = c} {a = a} p) = by-number f (lines.channel c) (numberLine (a .number)) (a .number) (changed-zero p) (λ z. change-then f p z) (λ h. refused-change-unchanged p h)
-line-follows f (keyed {bytes = bytes} {a = a} p) =
+    let h = holds (f .calls) (d .tuner) (f .series) in
+    by (eqb v 0)
+    (λ z. rw z
+    (anew f (by-reset {store = d .store} p) (d .tuner .numbers .hertz) (d .tuner .numbers .settings)
+    (ap pastOf (cond-yes (begun (r .hertz) (courseOf r .settings) (r .listed) (r .intervals)) r z) ∙ sym (λ i. fresh (h .hertz i) (h .settings i)))))
+    (λ z. let n = eqb-false v 0 z in rw z (refused f (left-as p (omega arith))))
+line-follows {d} f (mode-changed {m = m} {v = v} p) = by-number f v (change-then (withMode (d .tuner) m) f p) (left-as p)
+line-follows {d} f (channel-changed {c = c} {v = v} p) = by-number f v (change-then (withChannel (d .tuner) c) f p) (left-as p)
+line-follows f (keyed {bytes = bytes} {v = v} p) =
     let r = received (f .calls) in
-    by-number f (lines.midi bytes) (numberLine (a .number)) (a .number) (number-zero (a .number) (omega (arith, plain-number (p .answer), nine-small (p .verdict))))
-    (λ z. stays f (by-midi p) (map byte bytes) (ap pastOf (cond-yes (withEvents r (map byte bytes)) r (eq-eqb (a .number) 0 z))) (given-bytes (courseOf r) bytes))
-    (λ h. refused-bytes-unchanged p h)
-line-follows f not-read = by-number f lines.unreadable (numberLine 10) 10 (number-zero 10 (omega arith)) (λ z. absurd (omega arith)) (λ h. refl)
+    by-number f v (λ z. goes f (by-midi p) (map byte bytes) (ap pastOf (cond-yes (withEvents r (map byte bytes)) r (eq-eqb v 0 z))) (given-bytes (courseOf r) bytes)) (left-as p)
+line-follows f not-read = refused f refl
 
 -- ---- all of the input
 record Ends (t : Tuner) (ps : List Past) (line input : List ℕ) (final : Takes) : Type 0 where

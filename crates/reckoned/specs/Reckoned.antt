@@ -3,14 +3,15 @@ use mathlib.Core.Path.{_≡_}
 use mathlib.Core.Bool.{cond}
 use mathlib.Core.List.{List, [], _∷_, _++_, map}
 use Prim.Native.Nat.{ℕ}
+use lib.Dec.{eqb}
 use Rattle.rules.specs.declared.Settings.{Settings}
 use Rattle.rules.specs.Rules.{Given, defaults, cdRate}
 use Rattle.history.specs.History.{Event, sample, new-settings, byte, freshCourse, givenBy}
-use Rattle.tuner.specs.declared.Tuner.{Tuner}
-use Rattle.tuner.specs.Tuners.{defaultTuner}
-use Rattle.lines.specs.Lines.{Line, start, change, block, reset, mode, channel, midi, unreadable, read, withFour, withMode, withChannel}
+use Rattle.one.specs.declared.Tuner.{Tuner}
+use Rattle.one.specs.declared.Answer.{Answer}
+use Rattle.one.specs.Tuners.{defaultTuner}
+use Rattle.lines.specs.Lines.{Line, start, change, block, reset, mode, channel, midi, unreadable, withFour, withMode, withChannel}
 use Rattle.reports.specs.Reports.{reportOf}
-use Rattle.telling.specs.Tellings.{isZero}
 use Rattle.reporting.specs.Reporting.{Through, Report}
 
 -- a take: the sample rate and the settings with which it began, and what happened in it
@@ -37,15 +38,15 @@ unfoldable pub pastsBy : Tuner → Line → List Past → List Past
 pastsBy t (start hertz s) ps = fresh hertz s ∷ ps
 pastsBy t (change s) ps = withMore (new-settings (withFour t s) ∷ []) ps
 pastsBy t (block k xs) ps = withMore (map sample xs) ps
-pastsBy t reset ps = fresh (t .hertz) (t .settings) ∷ ps
+pastsBy t reset ps = fresh (t .numbers .hertz) (t .numbers .settings) ∷ ps
 pastsBy t (mode m) ps = withMore (new-settings (withMode t m) ∷ []) ps
 pastsBy t (channel c) ps = withMore (new-settings (withChannel t c) ∷ []) ps
 pastsBy t (midi bytes) ps = withMore (map byte bytes) ps
 pastsBy t unreadable ps = ps
 
 -- it is taken where it is answered 0
-abbrev pub pastsAfter : Tuner → List ℕ → (text : List ℕ) → List Past → List Past
-pastsAfter t line text ps = cond (isZero text) (pastsBy t (read line) ps) ps
+abbrev pub pastsAfter : Tuner → Line → Answer → List Past → List Past
+pastsAfter t line a ps = cond (eqb (a .number) 0) (pastsBy t line ps) ps
 
 -- the report of an input over the histories of its takes: every figure is counted over what the rules give for each sample of a take, from its beginning on
 pub record Reckoned (input printed : List ℕ) : Type 0 where

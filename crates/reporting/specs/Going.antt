@@ -10,32 +10,31 @@ use lib.ListN.{length, take, getD, set, length-append}
 use lib.Seq.{take-suc, take-all, take-suc-set, length-take-le}
 use Rattle.whole.specs.Tests.{cond-case, cond-yes, cond-no}
 use Rattle.rules.specs.Rules.{takeLimit}
-use Rattle.record.specs.Records.{freshHeard}
-use Rattle.tuner.specs.declared.Tuner.{Tuner}
-use Rattle.tuner.specs.Tuners.{freshTuner, defaultTuner}
-use Rattle.lines.specs.Lines.{Line, read, Said}
+use Rattle.one.specs.declared.Tuner.{Tuner}
+use Rattle.one.specs.declared.Answer.{Answer}
+use Rattle.one.specs.Tuners.{freshNumbers, silentTuner, defaultTuner}
+use Rattle.lines.specs.Lines.{Line, read, desk, Desk, Said}
 use Rattle.lines.specs.Laws.{read-long}
 use Rattle.lines.specs.Ones.{said-one}
 use Rattle.reports.specs.declared.Figures.{Figures}
 use Rattle.reports.specs.Reports.{noFigures, takesLines, totalOf, reportOf}
 use Rattle.reports.specs.Counting.{within-none, figures-none}
-use Rattle.telling.specs.Tellings.{doingOf, takesAfter}
 use Rattle.reporting.specs.declared.Reporting.{Reporting}
-use Rattle.reporting.specs.Reporting.{Takes, afterLine, Through, Reported, no-more, last-line, one-byte, line-ends, Report}
+use Rattle.reporting.specs.Reporting.{Takes, takesAfter, Through, Reported, no-more, last-line, one-byte, line-ends, Report}
 use Rattle.reporting.specs.Keeping.{reporting, Few, Keeps, few, LineReported, SoFar}
 use Rattle.reporting.specs.Steps.{heldAfter}
 
 -- ---- no second report
 
-pub through-one : {A : Type 0} {more : Tuner → (line text : List ℕ) → A → A} {t : Tuner} {a : A} {line input : List ℕ} {b c : A} → Through more t a line input b → Through more t a line input c → b ≡ c
+pub through-one : {A : Type 0} {more : Tuner → Line → Answer → A → A} {t : Tuner} {a : A} {line input : List ℕ} {b c : A} → Through more t a line input b → Through more t a line input c → b ≡ c
 through-one no-more no-more = refl
-through-one {more = more} {t} {a} (last-line {b = b} {line = line} s) (last-line s′) = ap (λ (x : List ℕ). more t (b ∷ line) x a) (said-one s s′ .1)
+through-one {more = more} {t} {a} (last-line {b = b} {line = line} s) (last-line s′) = ap (λ (x : Answer). more t (read (b ∷ line)) x a) (said-one s s′ .2)
 through-one (one-byte n p) (one-byte m q) = through-one p q
 through-one (one-byte n p) (line-ends s q) = absurd (n refl)
 through-one (line-ends s p) (one-byte n q) = absurd (n refl)
-through-one {more = more} {t} {a} {c = final} (line-ends {line = line} {input = input} {text = text} s p) (line-ends {t′ = t′} s′ q) =
+through-one {more = more} {t} {a} {c = final} (line-ends {line = line} {input = input} {answer = answer} s p) (line-ends {t′ = t′} s′ q) =
     let o = said-one s′ s in
-    through-one p (subst (λ (u : Tuner). Through more u (more t line text a) [] input final) (o .0) (subst (λ (x : List ℕ). Through more t′ (more t line x a) [] input final) (o .1) q))
+    through-one p (subst (λ (d : Desk). Through more (d .tuner) (more t (read line) answer a) [] input final) (o .0) (subst (λ (x : Answer). Through more t′ (more t (read line) x a) [] input final) (o .2) q))
 
 -- every byte of a report is determined by the input
 pub report-one : {input a b : List ℕ} → Report input a → Report input b → a ≡ b
@@ -49,17 +48,17 @@ read-alike a b h l = read-long a h ∙ sym (read-long b l)
 alike : {t : Tuner} {takes : Takes} {a b input : List ℕ} {final : Takes} → 8192 < length a → 8192 < length b → Reported t takes a input final → Reported t takes b input final
 alike h l no-more = absurd (omega arith)
 alike {b = []} h l (last-line s) = absurd (omega arith)
-alike {t} {takes} {b = c ∷ cs} h l (last-line {b = b} {line = line} {t′ = t′} {text = text} s) =
+alike {t} {takes} {b = c ∷ cs} h l (last-line {b = b} {line = line} {t′ = t′} {text = text} {answer = answer} s) =
     let e = read-alike (b ∷ line) (c ∷ cs) h l in
-    subst (λ (x : Line). Reported t takes (c ∷ cs) [] (takesAfter (doingOf t x text) takes)) (sym e) (last-line (subst (λ (x : Line). Said t x t′ text) e s))
+    subst (λ (x : Line). Reported t takes (c ∷ cs) [] (takesAfter t x answer takes)) (sym e) (last-line (subst (λ (x : Line). Said (desk t []) x (desk t′ []) text answer) e s))
 alike {a} {b} h l (one-byte {b = x} n p) = one-byte {line = b} n (alike (omega (arith, length-append a (x ∷ []))) (omega (arith, length-append b (x ∷ []))) p)
-alike {t} {takes} {a} {b} {final = final} h l (line-ends {input = input} {t′ = t′} {text = text} s p) =
+alike {t} {takes} {a} {b} {final = final} h l (line-ends {input = input} {t′ = t′} {text = text} {answer = answer} s p) =
     let e = read-alike a b h l in
-    line-ends (subst (λ (x : Line). Said t x t′ text) e s) (subst (λ (x : Line). Reported t′ (takesAfter (doingOf t x text) takes) [] input final) e p)
+    line-ends (subst (λ (x : Line). Said (desk t []) x (desk t′ []) text answer) e s) (subst (λ (x : Line). Reported t′ (takesAfter t x answer takes) [] input final) e p)
 
 -- ---- the opening
 pub so-far-none : {r : Reporting} (out : List ℕ) → r ≡ reporting defaultTuner 1 noFigures noFigures 0 → SoFar [] r [] out
-unfolding freshTuner freshHeard takesLines totalOf
+unfolding silentTuner freshNumbers takesLines totalOf
 so-far-none out e =
     subst (λ (x : Reporting). SoFar [] x [] out) (sym e)
     (record {
@@ -108,7 +107,7 @@ module _ {input : List ℕ} {r : Reporting} {held out : List ℕ} (s : SoFar inp
   pub line-ended : {q : Reporting} {out′ : List ℕ} → LineReported (r .tuner) held (s .takes) q out′ → SoFar (input ++ (10 ∷ [])) q [] out′
   line-ended l =
       record {
-        takes = afterLine (r .tuner) held (l .text) (s .takes);
+        takes = takesAfter (r .tuner) (read held) (l .answer) (s .takes);
         keeps = l .keeps;
         goes = λ more final p. subst (λ (x : List ℕ). Reported defaultTuner ([] ∷ []) [] x final) (sym (then-byte 10 more)) (s .goes (10 ∷ more) final (line-ends (l .said) p));
       }
@@ -126,15 +125,15 @@ module _ {input : List ℕ} {r : Reporting} {held out : List ℕ} (s : SoFar inp
       go [] z = no-more
       go (b ∷ h) z = absurd (omega arith)
 
-  pub ended-line : {q : Reporting} {out′ text : List ℕ} → (length held ≡ 0 → ⊥) → (l : LineReported (r .tuner) held (s .takes) q out′) → text ≡ reportOf (afterLine (r .tuner) held (l .text) (s .takes)) → Report input text
+  pub ended-line : {q : Reporting} {out′ text : List ℕ} → (length held ≡ 0 → ⊥) → (l : LineReported (r .tuner) held (s .takes) q out′) → text ≡ reportOf (takesAfter (r .tuner) (read held) (l .answer) (s .takes)) → Report input text
   ended-line n l t =
       record {
-        takes = afterLine (r .tuner) held (l .text) (s .takes);
-        reported = subst (λ (x : List ℕ). Reported defaultTuner ([] ∷ []) [] x (afterLine (r .tuner) held (l .text) (s .takes))) (append-nil input) (s .goes [] _ (go held n (l .said)));
+        takes = takesAfter (r .tuner) (read held) (l .answer) (s .takes);
+        reported = subst (λ (x : List ℕ). Reported defaultTuner ([] ∷ []) [] x (takesAfter (r .tuner) (read held) (l .answer) (s .takes))) (append-nil input) (s .goes [] _ (go held n (l .said)));
         text = t;
       }
     where
-      go : (h : List ℕ) → (length h ≡ 0 → ⊥) → {t′ : Tuner} {x : List ℕ} → Said (r .tuner) (read h) t′ x → Reported (r .tuner) (s .takes) h [] (afterLine (r .tuner) h x (s .takes))
+      go : (h : List ℕ) → (length h ≡ 0 → ⊥) → {t′ : Tuner} {x : List ℕ} {a : Answer} → Said (desk (r .tuner) []) (read h) (desk t′ []) x a → Reported (r .tuner) (s .takes) h [] (takesAfter (r .tuner) (read h) a (s .takes))
       go [] z p = absurd (z refl)
       go (b ∷ h) z p = last-line p
 

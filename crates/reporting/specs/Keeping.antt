@@ -1,6 +1,6 @@
 -- What a report keeps while its input comes: the newest take's figures, those of the takes before it added up, and their lines at the front of the output.
 use mathlib.Core.Path.{_≡_, refl, sym, ap, subst, _∙_}
-use mathlib.Core.Bool.{cond}
+use mathlib.Core.Bool.{true, false, cond}
 use mathlib.Core.List.{List, [], _∷_, _++_, append-nil, append-assoc}
 use Prim.Native.Nat.{ℕ, zero, suc, _+_, _*_, _≤_, _<_}
 use native.Mathlib.Omega.{arith}
@@ -9,21 +9,22 @@ use lib.ListN.{length, take, drop, length-append}
 use lib.Seq.{take-at, length-take-le}
 use Rattle.whole.specs.Tests.{cond-yes, cond-no}
 use Rattle.rules.specs.Rules.{Given, takeLimit}
-use Rattle.tuner.specs.declared.Tuner.{Tuner}
-use Rattle.tuner.specs.Tuners.{defaultTuner}
+use Rattle.one.specs.declared.Tuner.{Tuner}
+use Rattle.one.specs.declared.Answer.{Answer}
+use Rattle.one.specs.Tuners.{defaultTuner}
 use Rattle.text.specs.Text.{decimal, Put}
 use Rattle.text.specs.Places.{put-then, put-length}
 use Rattle.text.specs.Spelling.{decimal-short}
-use Rattle.lines.specs.Lines.{read, Said}
+use Rattle.lines.specs.declared.Reply.{Reply}
+use Rattle.lines.specs.Laws.{no-places}
+use Rattle.lines.specs.Lines.{read, desk, begins, Said, Answered, answered, no-room}
 use Rattle.reports.specs.declared.Figures.{Figures}
 use Rattle.reports.specs.Reports.{figuresOf, added, noFigures, figuresLine, takesLines, totalOf, tooMany, reportOf}
 use Rattle.reports.specs.Counting.{Within, most, within-none, within-more, within-added, figures-none, figures-append}
 use Rattle.reports.specs.Writing.{line-short}
-use Rattle.telling.specs.declared.Telling.{Telling}
-use Rattle.telling.specs.Tellings.{Doing, nothing, begins, goes-on, doingOf, takesAfter, whatOf, figuresIn, Tells}
-use Rattle.telling.specs.Doings.{Counts, as-before, from-none, and-more, said-counts}
 use Rattle.reporting.specs.declared.Reporting.{Reporting}
-use Rattle.reporting.specs.Reporting.{Takes, afterLine, Reported, Report}
+use Rattle.reporting.specs.Reporting.{Takes, broughtBy, withGiven, takesAfter, Reported, Report}
+use Rattle.reporting.specs.Counts.{On, countedOf, said-counts}
 
 abbrev pub reporting : Tuner → ℕ → Figures → Figures → ℕ → Reporting
 reporting t n now before length = record { tuner = t; takes = n; now = now; before = before; length = length }
@@ -34,7 +35,7 @@ pub record Few (r : Reporting) (out : List ℕ) (newest : List Given) (older : T
   pub now : r .now ≡ figuresOf newest
   pub before : r .before ≡ totalOf older
   pub text : take (r .length) out ≡ takesLines older
-  pub count : r .tuner .heard .count ≡ length newest
+  pub count : r .tuner .numbers .count ≡ length newest
   pub small : length newest ≤ takeLimit
   pub now-within : Within (length newest) (r .now)
   pub before-within : Within (takeLimit * length older) (r .before)
@@ -69,38 +70,6 @@ keeps-room (few h k) h′ =
     }
 keeps-room (many e h) h′ = absurd (omega arith)
 
--- ---- what a line is: nothing, a beginning, or a block
-
-what-begins : (d : Doing) → whatOf d ≡ 1 → d ≡ begins
-unfolding whatOf
-what-begins nothing e = absurd (omega arith)
-what-begins begins e = refl
-what-begins (goes-on gs) e = absurd (omega arith)
-
-what-nothing : (d : Doing) → (whatOf d ≡ 1 → ⊥) → (whatOf d ≡ 2 → ⊥) → d ≡ nothing
-unfolding whatOf
-what-nothing nothing f g = refl
-what-nothing begins f g = absurd (f refl)
-what-nothing (goes-on gs) f g = absurd (g refl)
-
--- ---- the same takes
-
-pub keeps-same : {r : Reporting} {out : List ℕ} {takes : Takes} {u : Tuner} → u .heard .count ≡ r .tuner .heard .count → Keeps r out takes → Keeps (reporting u (r .takes) (r .now) (r .before) (r .length)) out takes
-keeps-same e (few h k) =
-    few h
-    (record {
-      takes = k .takes;
-      now = k .now;
-      before = k .before;
-      text = k .text;
-      count = e ∙ k .count;
-      small = k .small;
-      now-within = k .now-within;
-      before-within = k .before-within;
-      short = k .short;
-    })
-keeps-same e (many h k) = many h k
-
 -- ---- a take begins
 
 -- a text after what stands at the front
@@ -110,7 +79,7 @@ put-front {out} {text} {at = at} {n} h p =
     ap (take n) (p .text) ∙ take-at (take at out ++ text) (drop (at + length text) out) n long
 
 module _ {r : Reporting} {out : List ℕ} {u : Tuner} (long : 147147 ≤ length out) where
-  pub keeps-begun : {takes : Takes} {out′ : List ℕ} {n : ℕ} {b none : Figures} → u .heard .count ≡ 0 → r .takes < 1000 → none ≡ noFigures → Put out (r .length) (figuresLine (r .now)) out′ n → b ≡ added (r .before) (r .now) → Keeps r out takes
+  pub keeps-begun : {takes : Takes} {out′ : List ℕ} {n : ℕ} {b none : Figures} → u .numbers .count ≡ 0 → r .takes < 1000 → none ≡ noFigures → Put out (r .length) (figuresLine (r .now)) out′ n → b ≡ added (r .before) (r .now) → Keeps r out takes
       → Keeps (reporting u (r .takes + 1) none b n) out′ ([] ∷ takes)
   unfolding takesLines totalOf
   keeps-begun c l z p e (few {newest = newest} {older = older} h k) =
@@ -134,93 +103,69 @@ keeps-too-many l (many {takes = takes} h k) = many {takes = [] ∷ takes} refl (
 
 -- ---- the newest take goes on
 module _ {r : Reporting} {out : List ℕ} {u : Tuner} (gs : List Given) where
-  pub keeps-on : {takes : Takes} {f n : Figures} → u .heard .count ≡ r .tuner .heard .count + length gs → u .heard .count ≤ takeLimit → Within (length gs) f → f ≡ figuresOf gs → n ≡ added (r .now) f → r .takes ≤ 1000 → Keeps r out takes
-      → Keeps (reporting u (r .takes) n (r .before) (r .length)) out (takesAfter (goes-on gs) takes)
-  unfolding takesAfter
-  keeps-on {f} c l w e s h (few {newest = newest} g k) =
+  pub keeps-on : {takes : Takes} {f n : Figures} → On (r .tuner) u gs f → n ≡ added (r .now) f → r .takes ≤ 1000 → Keeps r out takes → Keeps (reporting u (r .takes) n (r .before) (r .length)) out (withGiven gs takes)
+  unfolding withGiven
+  keeps-on {f} o s h (few {newest = newest} g k) =
       let many = length-append newest gs in
+      let upto = o .limit (omega (arith, k .count, k .small)) in
       few g
       (record {
         takes = k .takes;
-        now = s ∙ (λ i. added (k .now i) (e i)) ∙ sym (figures-append newest gs);
+        now = s ∙ (λ i. added (k .now i) (o .figures i)) ∙ sym (figures-append newest gs);
         before = k .before;
         text = k .text;
-        count = omega (arith, c, k .count, many);
-        small = omega (arith, c, l, k .count, many);
-        now-within = subst (Within (length (newest ++ gs))) (sym s) (within-more (omega (arith, many)) (within-added (r .now) f (k .now-within) w));
+        count = omega (arith, o .count, k .count, many);
+        small = omega (arith, o .count, upto, k .count, many);
+        now-within = subst (Within (length (newest ++ gs))) (sym s) (within-more (omega (arith, many)) (within-added (r .now) f (k .now-within) (o .within)));
         before-within = k .before-within;
         short = k .short;
       })
-  keeps-on c l w e s h (many g k) = absurd (omega arith)
+  keeps-on o s h (many g k) = absurd (omega arith)
 
-  pub keeps-on-many : {takes : Takes} {now before : Figures} {n : ℕ} → 1000 < r .takes → Keeps r out takes → Keeps (reporting u (r .takes) now before n) out (takesAfter (goes-on gs) takes)
-  unfolding takesAfter
+  pub keeps-on-many : {takes : Takes} {now before : Figures} {n : ℕ} → 1000 < r .takes → Keeps r out takes → Keeps (reporting u (r .takes) now before n) out (withGiven gs takes)
+  unfolding withGiven
   keeps-on-many l (few g k) = absurd (omega arith)
-  keeps-on-many l (many {takes = takes} g k) = many {takes = takesAfter (goes-on gs) takes} g (go takes k)
+  keeps-on-many l (many {takes = takes} g k) = many {takes = withGiven gs takes} g (go takes k)
     where
-      go : (ts : Takes) → 1000 < length ts → 1000 < length (takesAfter (goes-on gs) ts)
+      go : (ts : Takes) → 1000 < length ts → 1000 < length (withGiven gs ts)
       go [] h = h
       go (newest ∷ older) h = h
 
--- ---- a line, by what is told of it
+-- ---- a line
 
 pub record LineReported (t : Tuner) (line : List ℕ) (takes : Takes) (q : Reporting) (out : List ℕ) : Type 0 where
   pub text : List ℕ
-  pub said : Said t (read line) (q .tuner) text
-  pub keeps : Keeps q out (afterLine t line text takes)
+  pub answer : Answer
+  pub said : Said (desk t []) (read line) (desk (q .tuner) []) text answer
+  pub keeps : Keeps q out (takesAfter t (read line) answer takes)
 
--- it goes on with what the rules gave for the samples of a block
-pub record On (t u : Tuner) (f : Figures) (d : Doing) : Type 0 where
-  pub given : List Given
-  pub is : d ≡ goes-on given
-  pub count : u .heard .count ≡ t .heard .count + length given
-  pub limit : u .heard .count ≤ takeLimit
-  pub figures : f ≡ figuresOf given
-  pub within : Within (length given) f
+-- it was answered, and whether a take began
+pub record LineSaid (t : Tuner) (line : List ℕ) (d : Reply) : Type 0 where
+  pub text : List ℕ
+  pub said : Said (desk t []) (read line) (desk (d .tuner) []) text (d .answer)
+  pub begun : d .begins ≡ begins (read line) (d .answer)
 
-on-counts : {t u : Tuner} {f : Figures} {d : Doing} → Counts t u d → whatOf d ≡ 2 → f ≡ figuresIn d → On t u f d
-unfolding whatOf figuresIn
-on-counts (as-before e) w f = absurd (omega arith)
-on-counts (from-none e) w f = absurd (omega arith)
-on-counts (and-more {gs = gs} e h n) w f = record { given = gs; is = refl; count = e; limit = h; figures = f; within = subst (Within (length gs)) (sym f) n }
+-- an empty store stays empty
+pub line-said : {t : Tuner} {line out out′ store : List ℕ} {d : Reply} → length store ≡ 0 → 4096 ≤ length out → Answered (desk t []) line out (desk (d .tuner) store) (d .answer) (d .length) out′ → d .begins ≡ begins (read line) (d .answer) → LineSaid t line d
+line-said {t} {line} {store = store} {d = d} e room (answered {text = text} r s p) b =
+    record { text = text; said = subst (λ (l : List ℕ). Said (desk t []) (read line) (desk (d .tuner) l) text (d .answer)) (no-places store e) s; begun = b }
+line-said e room (no-room r z v n o) b = absurd (omega arith)
 
-begun-counts : {t u : Tuner} → Counts t u begins → u .heard .count ≡ 0
-begun-counts (from-none e) = e
+module _ {t : Tuner} (line : List ℕ) {d : Reply} (p : LineSaid t line d) where
+  line-is : {takes : Takes} {q : Reporting} {out : List ℕ} → q .tuner ≡ d .tuner → Keeps q out (takesAfter t (read line) (d .answer) takes) → LineReported t line takes q out
+  line-is same k = record { text = p .text; answer = d .answer; said = subst (λ (u : Tuner). Said (desk t []) (read line) (desk u []) (p .text) (d .answer)) (sym same) (p .said); keeps = k }
 
-same-counts : {t u : Tuner} → Counts t u nothing → u .heard .count ≡ t .heard .count
-same-counts (as-before e) = e
+  pub begun-count : d .begins ≡ true → d .tuner .numbers .count ≡ 0
+  begun-count e = said-counts (p .said) .from-none (sym (p .begun) ∙ e)
 
-module _ {t : Tuner} (line : List ℕ) {d : Telling} (p : Tells t (read line) d) where
-  abbrev doing : Doing
-  doing = doingOf t (read line) (p .text)
+  pub line-begun : {takes : Takes} {q : Reporting} {out : List ℕ} → d .begins ≡ true → q .tuner ≡ d .tuner → Keeps q out ([] ∷ takes) → LineReported t line takes q out
+  line-begun {takes} {q} {out} e same k = line-is same (subst (Keeps q out) (sym (cond-yes ([] ∷ takes) (withGiven (broughtBy t (read line) (d .answer)) takes) (sym (p .begun) ∙ e))) k)
 
-  line-is : {takes : Takes} {q : Reporting} {out : List ℕ} {e : Doing} → q .tuner ≡ d .tuner → doing ≡ e → Keeps q out (takesAfter e takes) → LineReported t line takes q out
-  line-is {takes} {q} {out} same e k =
-      record {
-        text = p .text;
-        said = subst (λ (u : Tuner). Said t (read line) u (p .text)) (sym same) (p .said);
-        keeps = subst (λ (x : Doing). Keeps q out (takesAfter x takes)) (sym e) k;
-      }
+  pub line-on : d .begins ≡ false → On t (d .tuner) (broughtBy t (read line) (d .answer)) (countedOf (d .answer))
+  line-on e = said-counts (p .said) .on (sym (p .begun) ∙ e)
 
-  pub begun-count : d .what ≡ 1 → d .tuner .heard .count ≡ 0
-  begun-count e = begun-counts (subst (Counts t (d .tuner)) (what-begins doing (sym (p .what) ∙ e)) (said-counts (p .said)))
-
-  pub line-begun : {takes : Takes} {q : Reporting} {out : List ℕ} → d .what ≡ 1 → q .tuner ≡ d .tuner → Keeps q out ([] ∷ takes) → LineReported t line takes q out
-  unfolding takesAfter
-  line-begun e same k = line-is same (what-begins doing (sym (p .what) ∙ e)) k
-
-  pub line-on : d .what ≡ 2 → On t (d .tuner) (d .figures) doing
-  line-on e = on-counts (said-counts (p .said)) (sym (p .what) ∙ e) (p .figures)
-
-  pub line-went-on : {takes : Takes} {q : Reporting} {out : List ℕ} (o : On t (d .tuner) (d .figures) doing) → q .tuner ≡ d .tuner → Keeps q out (takesAfter (goes-on (o .given)) takes) → LineReported t line takes q out
-  line-went-on o same k = line-is same (o .is) k
-
-  pub line-same : {takes : Takes} {q r : Reporting} {out : List ℕ} → r .tuner ≡ t → (d .what ≡ 1 → ⊥) → (d .what ≡ 2 → ⊥) → q ≡ reporting (d .tuner) (r .takes) (r .now) (r .before) (r .length) → Keeps r out takes → LineReported t line takes q out
-  unfolding takesAfter
-  line-same {takes} {q} {r} {out} e n m is k =
-      let none = what-nothing doing (λ z. n (p .what ∙ z)) (λ z. m (p .what ∙ z)) in
-      let count = same-counts (subst (Counts t (d .tuner)) none (said-counts (p .said))) in
-      line-is (ap (λ (x : Reporting). x .tuner) is) none (subst (λ (x : Reporting). Keeps x out takes) (sym is) (keeps-same (count ∙ ap (λ (x : Tuner). x .heard .count) (sym e)) k))
+  pub line-went-on : {takes : Takes} {q : Reporting} {out : List ℕ} → d .begins ≡ false → q .tuner ≡ d .tuner → Keeps q out (withGiven (broughtBy t (read line) (d .answer)) takes) → LineReported t line takes q out
+  line-went-on {takes} {q} {out} e same k = line-is same (subst (Keeps q out) (sym (cond-no ([] ∷ takes) (withGiven (broughtBy t (read line) (d .answer)) takes) (sym (p .begun) ∙ e))) k)
 
 -- ---- the end: the report is written
 

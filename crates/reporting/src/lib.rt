@@ -1,6 +1,7 @@
 // A report over the bytes of an input, in pieces of any length: what is kept while they come, and the report at their end.
+use one::Answer;
+use one::Tuner;
 use reports::Figures;
-use tuner::Tuner;
 ghost use mathlib.Core.Path.{_≡_};
 ghost use mathlib.Core.List.{List, [], _∷_, _++_};
 ghost use Prim.Native.Nat.{ℕ, _≤_};
@@ -8,7 +9,8 @@ ghost use lib.ListN.{length, take};
 ghost use Rattle.reports.specs.Reports.{reportOf};
 ghost use Rattle.reports.specs.Counting.{Within, most};
 ghost use Rattle.reporting.specs.Reporting.{Takes, Report};
-ghost use Rattle.reporting.specs.Keeping.{reporting, Keeps, Kept, LineReported, SoFar};
+ghost use Rattle.reporting.specs.Keeping.{Keeps, Kept, LineReported, SoFar};
+ghost use Rattle.reporting.specs.Counts.{countedOf};
 ghost use Rattle.reporting.specs.Steps.{GoesOn, heldAfter};
 
 // The tuner; how many takes began, 1,001 for more than 1,000; the newest one's figures, those of all before it added up, and how many bytes of the output
@@ -31,8 +33,7 @@ pub struct Reads {
 pub fn begin() -> Reporting
     ensures { λ r. ⌜ ((out : List ℕ) → SoFar [] r [] out) ⌝ }
 {
-    let d = tuner::start_default();
-    let t = d.tuner;
+    let t = lines::opening();
     let now = reports::none();
     let before = reports::none();
     Reporting {
@@ -46,7 +47,7 @@ pub fn begin() -> Reporting
 
 // A take begins: the line of the one before it is written, unless there are too many.
 fn begin_take(r: Reporting, u: Tuner, out: &mut [u8]) -> Reporting
-    requires { ⌜ Kept r (now out) × (147147 ≤ length (now out)) × (u .heard .count ≡ 0) ⌝ }
+    requires { ⌜ Kept r (now out) × (147147 ≤ length (now out)) × (u .numbers .count ≡ 0) ⌝ }
     ensures { λ q. ⌜ (q .tuner ≡ u) × ((takes : Takes) → Keeps r (now (out .entry)) takes → Keeps q (now (out .exit)) ([] ∷ takes)) ⌝ }
 {
     let before = r.before;
@@ -98,37 +99,38 @@ fn go_on(r: Reporting, u: Tuner, f: Figures) -> Reporting
     }
 }
 
-// The takes stay as they are.
-fn stay(r: Reporting, u: Tuner) -> Reporting
-    ensures { λ q. ⌜ q ≡ reporting u (r .takes) (r .now) (r .before) (r .length) ⌝ }
+// What an answer counts: nothing where it is refused or given again.
+fn counted(a: Answer) -> Figures
+    ensures { λ r. ⌜ r ≡ countedOf a ⌝ }
 {
-    let before = r.before;
-    let now = r.now;
-    Reporting {
-        tuner: u,
-        takes: r.takes,
-        now: now,
-        before: before,
-        length: r.length,
+    if a.number != 0 {
+        return reports::none();
+    }
+    Figures {
+        samples: a.written as u64,
+        pitched: a.pitched as u64,
+        repeated: a.repeated as u64,
+        dropped: a.dropped as u64,
+        sum: a.strayed as u64,
     }
 }
 
-// One line, given without its end.
+// One line, given without its end: the line program answers it, and what it answers is not printed.
 fn report_line(r: Reporting, line: &[u8], out: &mut [u8]) -> Reporting
     requires { ⌜ Kept r (now out) × (147147 ≤ length (now out)) ⌝ }
     ensures { λ q. ⌜ ((takes : Takes) → Keeps r (now (out .entry)) takes → LineReported (r .tuner) (now (line .entry)) takes q (now (out .exit))) ⌝ }
 {
     let t = r.tuner;
-    let d = telling::tell_line(t, line);
+    let mut said = [0u8; 4096];
+    let mut store = [0u32; 0];
+    let d = lines::answer_line(t, line, &mut said, &mut store);
     let u = d.tuner;
-    if d.what == 1 {
+    if d.begins {
         return begin_take(r, u, out);
     }
-    if d.what == 2 {
-        let f = d.figures;
-        return go_on(r, u, f);
-    }
-    stay(r, u)
+    let a = d.answer;
+    let f = counted(a);
+    go_on(r, u, f)
 }
 
 // Holds a byte of a line. Of a line that is too long one byte too many is enough.

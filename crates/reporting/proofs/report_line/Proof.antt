@@ -1,29 +1,38 @@
--- `reporting::report_line` meets its contract: what is told of the line is done to the takes.
+-- `reporting::report_line` meets its contract: a line that begins a take leaves a tuner without samples, and what any other counts is added to the newest take.
 -- Assumes nothing.
-use mathlib.Core.Path.{_≡_, refl}
+use mathlib.Core.Path.{_≡_, sym, subst}
 use mathlib.Core.List.{List}
 use Prim.Native.Nat.{ℕ}
 use native.Mathlib.Omega.{arith}
 use borrow.Author.Needs.{needs}
-use Rattle.reports.specs.Counting.{within-more}
-use Rattle.reporting.specs.Keeping.{keeps-room, begun-count, line-begun, line-on, line-went-on, line-same}
+use Rattle.reports.specs.Counting.{Within, most, within-more}
+use Rattle.reporting.specs.Counts.{On}
+use Rattle.reporting.specs.Keeping.{keeps-room, LineSaid, line-said, begun-count, line-begun, line-on, line-went-on}
 use Rattle.reporting.proofs.report_line.Statement.{statement}
 use Rattle.reporting.proofs.report_line.Tie as tie
 
-abbrev start : tie.After-tell-line → tie.Start
-start c = c .before .before .before .before
+-- the line was answered
+module _ (c : tie.After-answer-line) where
+  abbrev start : tie.Start
+  start = c .before .before .before .before .before .before
 
-abbrev line : tie.After-tell-line → List ℕ
-line c = start c .args .line .now
+  abbrev line : List ℕ
+  line = start .args .line .now
 
-tell-line-requires : tie.Need-tell-line-requires
-tell-line-requires c κs = search needs
+  said : LineSaid (start .args .r .tuner) line (c .answer-line .result)
+  said = line-said (c .answer-line .kept .1 .1 .1 .0) (omega arith) (c .answer-line .ensures .0) (c .answer-line .ensures .1)
+
+slice-aggregate-answer-line : tie.Need-slice-aggregate-answer-line
+slice-aggregate-answer-line c = search needs
+
+slice-aggregate-answer-line-2 : tie.Need-slice-aggregate-answer-line-2
+slice-aggregate-answer-line-2 c = search needs
+
+answer-line-requires : tie.Need-answer-line-requires
+answer-line-requires c κs = search needs
 
 begin-take-requires : tie.Need-begin-take-requires
-begin-take-requires c κs =
-    let d = c .before .before .before .before in
-    let s = start d in
-    (s .pre .0, s .pre .1, begun-count (line d) (d .tell-line .ensures) (c .before .if1 .taken))
+begin-take-requires c κs = let a = c .before .before .before .before .before in (start a .pre .0, start a .pre .1, begun-count (line a) (said a) (c .before .if1 .taken))
 
 same-length : tie.Need-same-length
 same-length c = search needs
@@ -31,43 +40,37 @@ same-length c = search needs
 returns : tie.Need-returns
 returns c takes k =
     let b = c .before .before in
-    let i = b .before .before in
-    let d = i .before .before .before in
-    line-begun (line d) (d .tell-line .ensures) (i .if1 .taken) (b .begin-take .ensures .0) (b .begin-take .ensures .1 takes k)
+    let a = b .before .before .before .before .before .before in
+    line-begun (line a) (said a) (b .before .before .if1 .taken) (b .begin-take .ensures .0) (b .begin-take .ensures .1 takes k)
+
+counted-requires : tie.Need-counted-requires
+counted-requires c κs = search needs
 
 go-on-requires : tie.Need-go-on-requires
 go-on-requires c κs =
-    let i = c .before in
-    let d = i .before .before .before .before .before in
-    let o = line-on (line d) (d .tell-line .ensures) (i .if2 .taken) in
-    ((λ h. keeps-room (start d .pre .0 .keeps) h .now), within-more (omega (arith, o .count, o .limit)) (o .within))
+    let a = c .before .before .before .before .before .before in
+    let o = line-on (line a) (said a) (c .before .before .if1 .left) in
+    ((λ h. keeps-room (start a .pre .0 .keeps) h .now), subst (Within most) (sym (c .counted .ensures)) (within-more (omega (arith, o .few)) (o .within)))
 
 returns-2 : tie.Need-returns-2
 returns-2 c takes k =
-    let i = c .before .before in
-    let d = i .before .before .before .before .before in
-    let o = line-on (line d) (d .tell-line .ensures) (i .if2 .taken) in
+    let q = c .before in
+    let a = q .before .before .before .before .before .before in
+    let e = q .before .before .if1 .left in
+    let o = line-on (line a) (said a) e in
     let g = c .go-on .ensures in
-    line-went-on (line d) (d .tell-line .ensures) o (g .tuner) (g .keeps _ takes (o .given) (o .count) (o .limit) (o .within) (o .figures) k)
-
-stay-requires : tie.Need-stay-requires
-stay-requires c κs = search needs
-
-returns-3 : tie.Need-returns-3
-returns-3 c takes k =
-    let i = c .before in
-    let d = i .before .before .before .before .before in
-    line-same (line d) (d .tell-line .ensures) refl (i .before .before .if1 .left) (i .if2 .left) (c .stay .ensures) k
+    line-went-on (line a) (said a) e (g .tuner) (g .keeps _ takes _ (subst (On _ _ _) (sym (q .counted .ensures)) o) k)
 
 pub report-line-spec : {M : Type 1} → statement M
 report-line-spec =
     tie.close
     (tie.spec
-    tell-line-requires
+    slice-aggregate-answer-line
+    slice-aggregate-answer-line-2
+    answer-line-requires
     begin-take-requires
     same-length
     returns
+    counted-requires
     go-on-requires
-    returns-2
-    stay-requires
-    returns-3)
+    returns-2)

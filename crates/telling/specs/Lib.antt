@@ -1,3 +1,0 @@
-pub mod Doings
-pub mod Tellings
-pub mod Ways
