@@ -1,20 +1,19 @@
 // Plays a scripted take through the tuner's calls: records of 1054 bytes in, a line for each out.
 // Byte 0 is the call; 2, 4 and 6 a block's number, length and room, low byte first; from 8 on a start's sample rate, then scale, eps, decay and floor;
 // from 28 on the samples. Where settings are given, 2 and 6 are mode and channel. Keyboard bytes stand from 28 on, as many as the length says.
-// A night has the length of its blocks from 8 on, in the place of the sample rate.
-ghost use mathlib.Core.Path.{_≡_};
-ghost use Prim.Native.Nat.{_≤_, _<_, _*_, _+_};
-ghost use Rattle.tuner.specs.Tuners.{Took};
-ghost use Rattle.nights.specs.Nights.{Nighted};
+// A night has the length of its blocks from 8 on, in the place of the sample rate. No list is kept and no voice is chosen: nothing is lent for them.
+ghost use Prim.Native.Nat.{_≤_, _<_};
 use libc::STDIN_FILENO;
 use libc::STDOUT_FILENO;
-use nights::NightAnswer;
-use nights::NightTaken;
-use tuner::Answer;
-use tuner::Meter;
-use tuner::Settings;
-use tuner::Taken;
-use tuner::Tuner;
+use meters::Meter;
+use one::Answer;
+use one::Done;
+use one::Taken;
+use one::Tuner;
+use onenight::NightAnswer;
+use onenight::NightTaken;
+use rules::CD_RATE;
+use rules::Settings;
 
 fn wide(b: u8) -> u32
     ensures { λ r. ⌜ r < 256 ⌝ }
@@ -98,50 +97,50 @@ fn show(xs: &[i16; 513], n: usize)
     }
 }
 
-// The block call over the record lent: the same promise as that of the call by value.
-fn block_lent(mut t: Tuner, number: u16, samples: &[i16], out: &mut [i16]) -> Taken
-    ensures { λ r. ⌜ Took t number (now (samples .entry)) (now (out .entry)) (r .tuner) (r .answer) (now (out .exit)) ⌝ }
-{
-    let answer = tuner::block_in_place(&mut t, number, samples, out);
-    Taken {
-        tuner: t,
-        answer: answer,
-    }
+// A block that lends nothing but its samples and the lead's output.
+fn given(t: Tuner, number: u16, samples: &[i16], out: &mut [i16]) -> Taken {
+    let mut first = [0i16; 1];
+    let mut second = [0i16; 1];
+    let mut third = [0i16; 1];
+    let mut store = [0u32; 1];
+    t.block(
+        number,
+        samples,
+        out,
+        &mut first[..0],
+        &mut second[..0],
+        &mut third[..0],
+        &mut store[..0],
+    )
 }
 
-// A night over the record lent.
-fn night_lent(
-    mut t: Tuner,
-    number: u16,
-    size: usize,
-    samples: &[i16],
-    out: &mut [i16],
-) -> NightTaken
-    ensures { λ r. ⌜ Nighted t number size (now (samples .entry)) (now (out .entry)) (r .tuner) (r .answer) (now (out .exit)) ⌝ }
-{
-    let answer = nights::night_in_place(&mut t, number, size, samples, out);
-    NightTaken {
-        tuner: t,
-        answer: answer,
-    }
-}
-
-// A block by the call that the record names: by value, or over the record lent.
-fn given(op: u8, t: Tuner, number: u16, samples: &[i16], out: &mut [i16]) -> Taken {
-    if op == 4 {
-        return t.block(number, samples, out);
-    }
-    block_lent(t, number, samples, out)
+// A night that lends no more.
+fn nighted(t: Tuner, number: u16, size: usize, samples: &[i16], out: &mut [i16]) -> NightTaken {
+    let mut first = [0i16; 1];
+    let mut second = [0i16; 1];
+    let mut third = [0i16; 1];
+    let mut store = [0u32; 1];
+    onenight::night(
+        t,
+        number,
+        size,
+        samples,
+        out,
+        &mut first[..0],
+        &mut second[..0],
+        &mut third[..0],
+        &mut store[..0],
+    )
 }
 
 // A block, with an output of so much room; all of the output is shown, what is not written too.
-fn block(op: u8, t: Tuner, b: &[u8; 1054]) -> Tuner {
+fn block(t: Tuner, b: &[u8; 1054]) -> Tuner {
     let n = most(word(b, 4));
     let room = most(word(b, 6));
     let number = word(b, 2) as u16;
     let xs = samples(b, n);
     let mut out = [7i16; 513];
-    let r = given(op, t, number, &xs[..n], &mut out[..room]);
+    let r = given(t, number, &xs[..n], &mut out[..room]);
     say(r.answer);
     show(&out, room);
     r.tuner
@@ -165,7 +164,7 @@ fn night(t: Tuner, b: &[u8; 1054]) -> Tuner {
     let size = long(b, 8) as usize;
     let xs = samples(b, n);
     let mut out = [7i16; 513];
-    let r = night_lent(t, number, size, &xs[..n], &mut out[..room]);
+    let r = nighted(t, number, size, &xs[..n], &mut out[..room]);
     tell(r.answer);
     show(&out, room);
     r.tuner
@@ -185,40 +184,57 @@ fn metered(t: Tuner) {
 fn stretch(b: &[u8; 1054]) {
     let xs = samples(b, 513);
     let k = word(b, 2) as usize;
-    let s = tuner::cut(&xs, k);
+    let s = cutting::cut(&xs, k);
     put(s.len() as u64);
     if 0 < s.len() {
         put(level(s[0]));
     }
 }
 
-// The record with its position too far behind, and mended again.
-fn spoilt(t: Tuner) -> Tuner {
+// The record with its position so far behind.
+fn behind(t: Tuner, far: u64) -> Tuner {
+    let mut n = t.numbers;
+    n.behind = far;
     let mut u = t;
-    u.head.behind = 65536001;
+    u.numbers = n;
     u
 }
 
 // The record with its count near the take's limit, its phases kept.
 fn aged(t: Tuner) -> Tuner {
-    let mut u = t;
-    let n = u.heard.count;
-    if n < 999999990 {
-        let near = n + 40 * ((999999990 - n) / 40);
-        u.heard.count = near;
+    let mut n = t.numbers;
+    if n.count < 999999990 {
+        let near = n.count + 40 * ((999999990 - n.count) / 40);
+        n.count = near;
     }
-    u
-}
-
-fn mended(t: Tuner) -> Tuner {
     let mut u = t;
-    u.head.behind = 0;
+    u.numbers = n;
     u
 }
 
-fn took(r: Taken) -> Tuner {
-    say(r.answer);
+// What a start, a change, keyboard bytes and a reset answer: a number, and counts 0.
+fn took(r: Done) -> Tuner {
+    put(r.number as u64);
+    put(0);
+    put(0);
+    put(0);
     r.tuner
+}
+
+// A start without a list and without voices.
+fn started(hertz: u32, s: Settings) -> Done {
+    let intervals = [0i32; 1];
+    let store = [0u32; 1];
+    one::start(hertz, s, 0, &intervals[..0], &store[..0])
+}
+
+fn started_default() -> Done {
+    started(CD_RATE, record::default_settings())
+}
+
+fn reset(t: Tuner) -> Done {
+    let store = [0u32; 1];
+    t.reset(&store[..0])
 }
 
 fn keys(b: &[u8; 1054], n: usize) -> [u8; 513]
@@ -239,6 +255,7 @@ fn midi(t: Tuner, b: &[u8; 1054]) -> Tuner {
     took(t.midi(&ks[..n]))
 }
 
+// Calls from 5 on. 11 is a block too: the script names one over a record lent apart.
 fn other(op: u8, t: Tuner, b: &[u8; 1054]) -> Tuner {
     if op == 5 {
         metered(t);
@@ -249,45 +266,45 @@ fn other(op: u8, t: Tuner, b: &[u8; 1054]) -> Tuner {
         return t;
     }
     if op == 7 {
-        return spoilt(t);
+        return behind(t, 65536001);
     }
     if op == 8 {
         return aged(t);
     }
     if op == 9 {
-        return mended(t);
+        return behind(t, 0);
     }
     if op == 10 {
         return midi(t, b);
     }
     if op == 11 {
-        return block(op, t, b);
+        return block(t, b);
     }
     night(t, b)
 }
 
-fn one(t: Tuner, b: &[u8; 1054]) -> Tuner {
+fn played(t: Tuner, b: &[u8; 1054]) -> Tuner {
     let op = b[0];
     if op == 0 {
-        return took(tuner::start(long(b, 8), settings(b)));
+        return took(started(long(b, 8), settings(b)));
     }
     if op == 1 {
-        return took(tuner::start_default());
+        return took(started_default());
     }
     if op == 2 {
         return took(t.change(settings(b)));
     }
     if op == 3 {
-        return took(t.reset());
+        return took(reset(t));
     }
     if op == 4 {
-        return block(op, t, b);
+        return block(t, b);
     }
     other(op, t, b)
 }
 
 fn main() {
-    let mut t = tuner::start_default().tuner;
+    let mut t = started_default().tuner;
     let mut turns = u64::MAX;
     while turns > 0 {
         let mut b = [0u8; 1054];
@@ -295,7 +312,7 @@ fn main() {
         if got < 1054 {
             return;
         }
-        t = one(t, &b);
+        t = played(t, &b);
         io::write_all(STDOUT_FILENO, b"\n");
         turns = turns - 1;
     }

@@ -8,8 +8,7 @@ use Rattle.play.proofs.main.Reads as reads
 use Rattle.play.proofs.main.Lts as lts
 use Rattle.io.proofs.read_full.Reads as read-full-reads
 use Rattle.io.proofs.write_all.Reads as write-all-reads
-use Rattle.play.proofs.one.Reads as one-reads
-use Rattle.tuner.proofs.start_default.Reads as start-default-reads
+use Rattle.play.proofs.played.Reads as played-reads
 
 abbrev Inv-loop : tie.InvT-loop
 Inv-loop t₀ turns₀ t5 t turns = turns ≤ turns₀
@@ -17,8 +16,8 @@ Inv-loop t₀ turns₀ t5 t turns = turns ≤ turns₀
 abbrev μ-loop : tie.MeasureT-loop
 μ-loop t₀ turns₀ t5 t turns = turns
 
-start-default-requires : tie.Need-start-default-requires Inv-loop μ-loop
-start-default-requires c κs = search needs
+started-default-requires : tie.Need-started-default-requires Inv-loop μ-loop
+started-default-requires c κs = search needs
 
 loop-holds : tie.Need-loop-holds Inv-loop μ-loop
 loop-holds c = search needs
@@ -32,8 +31,8 @@ read-full-requires c κs = search needs
 returns : tie.Need-returns Inv-loop μ-loop
 returns c = search needs
 
-one-requires : tie.Need-one-requires Inv-loop μ-loop
-one-requires c κs = search needs
+played-requires : tie.Need-played-requires Inv-loop μ-loop
+played-requires c κs = search needs
 
 slice-aggregate-write-all : tie.Need-slice-aggregate-write-all Inv-loop μ-loop
 slice-aggregate-write-all c = search needs
@@ -59,12 +58,12 @@ main-spec =
     (tie.spec
     Inv-loop
     μ-loop
-    start-default-requires
+    started-default-requires
     loop-holds
     slice-aggregate-read-full
     read-full-requires
     returns
-    one-requires
+    played-requires
     slice-aggregate-write-all
     write-all-requires
     sub-turns

@@ -13,7 +13,6 @@ use Rattle.play.proofs.keys.Reads as keys-reads
 use Rattle.play.proofs.most.Reads as most-reads
 use Rattle.play.proofs.took.Reads as took-reads
 use Rattle.play.proofs.word.Reads as word-reads
-use Rattle.tuner.proofs.Tuner.midi.Reads as midi-reads
 
 word-requires : tie.Need-word-requires
 word-requires c κs = search needs

@@ -12,7 +12,7 @@ use Rattle.play.proofs.night.Reads as reads
 use Rattle.play.proofs.night.Lts as lts
 use Rattle.play.proofs.long.Reads as long-reads
 use Rattle.play.proofs.most.Reads as most-reads
-use Rattle.play.proofs.night_lent.Reads as night-lent-reads
+use Rattle.play.proofs.nighted.Reads as nighted-reads
 use Rattle.play.proofs.samples.Reads as samples-reads
 use Rattle.play.proofs.show.Reads as show-reads
 use Rattle.play.proofs.tell.Reads as tell-reads
@@ -51,21 +51,21 @@ array-share-prefix-xs c = search needs
 full : (c : tie.After-xs) → length (c .before .samples .result) ≡ 513
 full c = search needs
 
-slice-aggregate-night-lent : tie.Need-slice-aggregate-night-lent
-slice-aggregate-night-lent c =
+slice-aggregate-nighted : tie.Need-slice-aggregate-nighted
+slice-aggregate-nighted c =
     let n = c .before .before .before .before .before .before .most in
     sym (length-take-le (n .result) (c .before .samples .result) (omega (arith, full c, n .ensures)))
 
 array-borrow-prefix-out : tie.Need-array-borrow-prefix-out
 array-borrow-prefix-out c = search needs
 
-slice-aggregate-night-lent-2 : tie.Need-slice-aggregate-night-lent-2
-slice-aggregate-night-lent-2 c =
+slice-aggregate-nighted-2 : tie.Need-slice-aggregate-nighted-2
+slice-aggregate-nighted-2 c =
     let n = c .before .before .before .before .before .most2 in
     sym (length-take-le (n .result) (replicate 513 (pos 7)) (omega (arith, n .ensures)))
 
-night-lent-requires : tie.Need-night-lent-requires
-night-lent-requires c κs = search needs
+nighted-requires : tie.Need-nighted-requires
+nighted-requires c κs = search needs
 
 tell-requires : tie.Need-tell-requires
 tell-requires c κs = search needs
@@ -90,10 +90,10 @@ night-spec =
     cast-size
     samples-requires
     array-share-prefix-xs
-    slice-aggregate-night-lent
+    slice-aggregate-nighted
     array-borrow-prefix-out
-    slice-aggregate-night-lent-2
-    night-lent-requires
+    slice-aggregate-nighted-2
+    nighted-requires
     tell-requires
     show-requires
     returns)
