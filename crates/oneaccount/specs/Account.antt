@@ -74,7 +74,7 @@ courseOf r = courseAfter (freshCourse (r .hertz) (r .settings)) (r .events)
 abbrev pub withEvents : Received → List Event → Received
 withEvents r es = record { hertz = r .hertz; settings = r .settings; listed = r .listed; intervals = r .intervals; events = r .events ++ es; figures = r .figures; wrote = r .wrote }
 
--- what was written of each output before, and behind it n of the samples that the output now holds, from a place on; a further output is not looked at
+-- what was written of each output before, and behind it n of the samples that the output now holds, from a place on; further outputs are not looked at
 unfoldable pub onward : (from n : ℕ) → List (List ℤ) → List (List ℤ) → List (List ℤ)
 onward from n [] os = []
 onward from n (w ∷ ws) [] = w ∷ ws
@@ -274,7 +274,7 @@ SentAgain =
 abbrev pub through : NightAnswer → ℕ
 through a = a .taken + a .again .number
 
--- refused with 5 at the first block, number k: nothing is taken, and tuner, outputs and store are as they were
+-- refused with 5 at its first block: the answer names 5 and the block's number k, nothing is taken, and tuner, outputs and store are as they were
 pub record NightRefused (k : ℕ) (w w′ : Tuner) (b : NightAnswer) (os os′ : List (List ℤ)) (store store′ : List ℕ) : Type 0 where
   pub answer : b ≡ Night.added (noNight 0 (w .numbers)) k (plain 5 (w .numbers))
   pub unchanged : w′ ≡ w
