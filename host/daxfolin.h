@@ -206,61 +206,43 @@ typedef struct daxfolin_stretch {
 #else
 #define DAXFOLIN_SAME(a, b) _Static_assert((a) == (b), "layout")
 #endif
+#define DAXFOLIN_AT(type, field, place) DAXFOLIN_SAME(offsetof(daxfolin_##type, field), place)
+#define DAXFOLIN_SIZE(type, size) DAXFOLIN_SAME(sizeof(daxfolin_##type), size)
 /* A tuner's numbers lie one after the other: no padding. */
-DAXFOLIN_SAME(sizeof(daxfolin_settings), 6 * 4);
-DAXFOLIN_SAME(sizeof(daxfolin_keyboard), 4 + 2 * 2);
-DAXFOLIN_SAME(sizeof(daxfolin_tracker), 4 + 4 + 8 * 8 + 8 * 8);
-DAXFOLIN_SAME(sizeof(daxfolin_tone), 4 * 4);
-DAXFOLIN_SAME(sizeof(daxfolin_pitch), 136 + 16 + 8);
-DAXFOLIN_SAME(sizeof(daxfolin_last), 4 * 2 + 2 * 4);
-DAXFOLIN_SAME(sizeof(daxfolin_listing), 4 * 4);
-DAXFOLIN_SAME(sizeof(daxfolin_voice), 2 * 4);
-DAXFOLIN_SAME(offsetof(daxfolin_numbers, layout), 0);
-DAXFOLIN_SAME(offsetof(daxfolin_numbers, settings), 8);
-DAXFOLIN_SAME(offsetof(daxfolin_numbers, hertz), 32);
-DAXFOLIN_SAME(offsetof(daxfolin_numbers, keyboard), 40);
-DAXFOLIN_SAME(offsetof(daxfolin_numbers, count), 48);
-DAXFOLIN_SAME(offsetof(daxfolin_numbers, pitch), 56);
-DAXFOLIN_SAME(offsetof(daxfolin_numbers, behind), 216);
-DAXFOLIN_SAME(offsetof(daxfolin_numbers, last), 224);
-DAXFOLIN_SAME(offsetof(daxfolin_numbers, listed), 240);
-DAXFOLIN_SAME(offsetof(daxfolin_numbers, chosen), 244);
-DAXFOLIN_SAME(offsetof(daxfolin_numbers, list), 248);
-DAXFOLIN_SAME(offsetof(daxfolin_numbers, voices), 264);
-DAXFOLIN_SAME(sizeof(daxfolin_numbers), 288);
-DAXFOLIN_SAME(offsetof(daxfolin_tuner, numbers), 0);
-DAXFOLIN_SAME(offsetof(daxfolin_tuner, energies), 288);
-DAXFOLIN_SAME(offsetof(daxfolin_tuner, correlations), 1160);
-DAXFOLIN_SAME(offsetof(daxfolin_tuner, heard), 2032);
-DAXFOLIN_SAME(offsetof(daxfolin_tuner, eighths), 5560);
-DAXFOLIN_SAME(offsetof(daxfolin_tuner, outs), 6008);
-DAXFOLIN_SAME(sizeof(daxfolin_tuner), 10104);
-/* The answers have some. */
-DAXFOLIN_SAME(offsetof(daxfolin_answer, number), 0);
-DAXFOLIN_SAME(offsetof(daxfolin_answer, written), 4);
-DAXFOLIN_SAME(offsetof(daxfolin_answer, repeated), 6);
-DAXFOLIN_SAME(offsetof(daxfolin_answer, dropped), 8);
-DAXFOLIN_SAME(offsetof(daxfolin_answer, pitched), 12);
-DAXFOLIN_SAME(offsetof(daxfolin_answer, strayed), 16);
-DAXFOLIN_SAME(offsetof(daxfolin_answer, rows), 20);
-DAXFOLIN_SAME(offsetof(daxfolin_answer, left), 24);
-DAXFOLIN_SAME(sizeof(daxfolin_answer), 28);
-DAXFOLIN_SAME(offsetof(daxfolin_night_answer, number), 0);
-DAXFOLIN_SAME(offsetof(daxfolin_night_answer, refused), 4);
-DAXFOLIN_SAME(offsetof(daxfolin_night_answer, taken), 8);
-DAXFOLIN_SAME(offsetof(daxfolin_night_answer, written), 16);
-DAXFOLIN_SAME(offsetof(daxfolin_night_answer, repeated), 24);
-DAXFOLIN_SAME(offsetof(daxfolin_night_answer, dropped), 32);
-DAXFOLIN_SAME(offsetof(daxfolin_night_answer, pitched), 40);
-DAXFOLIN_SAME(offsetof(daxfolin_night_answer, strayed), 48);
-DAXFOLIN_SAME(offsetof(daxfolin_night_answer, again), 56);
-DAXFOLIN_SAME(offsetof(daxfolin_night_answer, rows), 84);
-DAXFOLIN_SAME(offsetof(daxfolin_night_answer, left), 88);
-DAXFOLIN_SAME(sizeof(daxfolin_night_answer), 96);
-DAXFOLIN_SAME(sizeof(daxfolin_shown), 20);
-DAXFOLIN_SAME(sizeof(daxfolin_stretch), 16);
+DAXFOLIN_AT(settings, scale, 0); DAXFOLIN_AT(settings, eps, 4); DAXFOLIN_AT(settings, decay, 8); DAXFOLIN_AT(settings, floor, 12);
+DAXFOLIN_AT(settings, mode, 16); DAXFOLIN_AT(settings, channel, 20); DAXFOLIN_SIZE(settings, 24);
+DAXFOLIN_AT(keyboard, key, 0); DAXFOLIN_AT(keyboard, status, 4); DAXFOLIN_AT(keyboard, half, 6); DAXFOLIN_SIZE(keyboard, 8);
+DAXFOLIN_AT(tracker, low, 0); DAXFOLIN_AT(tracker, last, 4); DAXFOLIN_AT(tracker, e, 8); DAXFOLIN_AT(tracker, h, 72);
+DAXFOLIN_SIZE(tracker, 136);
+DAXFOLIN_AT(tone, period, 0); DAXFOLIN_AT(tone, note, 4); DAXFOLIN_AT(tone, rate, 8); DAXFOLIN_AT(tone, kept, 12);
+DAXFOLIN_SIZE(tone, 16);
+DAXFOLIN_AT(pitch, tracker, 0); DAXFOLIN_AT(pitch, tone, 136); DAXFOLIN_AT(pitch, tracking, 152); DAXFOLIN_SIZE(pitch, 160);
+DAXFOLIN_AT(last, number, 0); DAXFOLIN_AT(last, length, 2); DAXFOLIN_AT(last, repeated, 4); DAXFOLIN_AT(last, dropped, 6);
+DAXFOLIN_AT(last, pitched, 8); DAXFOLIN_AT(last, strayed, 12); DAXFOLIN_SIZE(last, 16);
+DAXFOLIN_AT(listing, rows, 0); DAXFOLIN_AT(listing, left, 4); DAXFOLIN_AT(listing, place, 8); DAXFOLIN_AT(listing, first, 12);
+DAXFOLIN_SIZE(listing, 16);
+DAXFOLIN_AT(voice, interval, 0); DAXFOLIN_AT(voice, behind, 4); DAXFOLIN_SIZE(voice, 8);
+DAXFOLIN_AT(numbers, layout, 0); DAXFOLIN_AT(numbers, settings, 8); DAXFOLIN_AT(numbers, hertz, 32); DAXFOLIN_AT(numbers, keyboard, 40);
+DAXFOLIN_AT(numbers, count, 48); DAXFOLIN_AT(numbers, pitch, 56); DAXFOLIN_AT(numbers, behind, 216); DAXFOLIN_AT(numbers, last, 224);
+DAXFOLIN_AT(numbers, listed, 240); DAXFOLIN_AT(numbers, chosen, 244); DAXFOLIN_AT(numbers, list, 248); DAXFOLIN_AT(numbers, voices, 264);
+DAXFOLIN_SIZE(numbers, 288);
+DAXFOLIN_AT(tuner, numbers, 0); DAXFOLIN_AT(tuner, energies, 288); DAXFOLIN_AT(tuner, correlations, 1160);
+DAXFOLIN_AT(tuner, heard, 2032); DAXFOLIN_AT(tuner, eighths, 5560); DAXFOLIN_AT(tuner, outs, 6008); DAXFOLIN_SIZE(tuner, 10104);
+/* The answers have some, which is never looked at. */
+DAXFOLIN_AT(answer, number, 0); DAXFOLIN_AT(answer, written, 4); DAXFOLIN_AT(answer, repeated, 6); DAXFOLIN_AT(answer, dropped, 8);
+DAXFOLIN_AT(answer, pitched, 12); DAXFOLIN_AT(answer, strayed, 16); DAXFOLIN_AT(answer, rows, 20); DAXFOLIN_AT(answer, left, 24);
+DAXFOLIN_SIZE(answer, 28);
+DAXFOLIN_AT(night_answer, number, 0); DAXFOLIN_AT(night_answer, refused, 4); DAXFOLIN_AT(night_answer, taken, 8);
+DAXFOLIN_AT(night_answer, written, 16); DAXFOLIN_AT(night_answer, repeated, 24); DAXFOLIN_AT(night_answer, dropped, 32);
+DAXFOLIN_AT(night_answer, pitched, 40); DAXFOLIN_AT(night_answer, strayed, 48); DAXFOLIN_AT(night_answer, again, 56);
+DAXFOLIN_AT(night_answer, rows, 84); DAXFOLIN_AT(night_answer, left, 88); DAXFOLIN_SIZE(night_answer, 96);
+DAXFOLIN_AT(shown, state, 0); DAXFOLIN_AT(shown, lag, 4); DAXFOLIN_AT(shown, period, 8); DAXFOLIN_AT(shown, wanted, 12);
+DAXFOLIN_AT(shown, rate, 16); DAXFOLIN_SIZE(shown, 20);
+DAXFOLIN_AT(stretch, from, 0); DAXFOLIN_AT(stretch, count, 8); DAXFOLIN_SIZE(stretch, 16);
 DAXFOLIN_SAME(sizeof(size_t), 8);
 #undef DAXFOLIN_SAME
+#undef DAXFOLIN_AT
+#undef DAXFOLIN_SIZE
 
 /* The version of these calls: DAXFOLIN_VERSION. */
 uint32_t daxfolin_version(void);

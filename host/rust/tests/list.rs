@@ -240,3 +240,28 @@ fn another_store_meanwhile() {
     let said = (answer.rows as usize, answer.left as usize);
     assert_eq!(said, (0, list.rows.len()));
 }
+
+/// A host that moves whole rows out of a short store has the rows of the whole take, none left out.
+#[test]
+fn rows_moved_out_of_the_store() {
+    let take = sung();
+    let list = right(CD, &take, MOST_ROWS);
+    let mut store = vec![FILL; 2 * ROW];
+    let (mut tuner, mut moved) = (begun(CD, &store), Vec::new());
+    for (number, samples) in (0u16..).zip(take.chunks(64)) {
+        let answer = block(&mut tuner, number, samples, &mut [0; 64], &mut store);
+        assert_eq!(tuner.rows(), (answer.rows, 0));
+        if answer.rows == 2 {
+            moved.extend_from_slice(&store[..ROW]);
+            store.copy_within(ROW.., 0);
+            tuner.keep_last_row();
+            assert_eq!(tuner.rows(), (1, 0));
+        }
+    }
+    assert!(moved.len() > 2 * ROW);
+    moved.extend_from_slice(&store[..ROW]);
+    assert_eq!(moved, list.numbers());
+    let mut fresh = begun(CD, &store);
+    fresh.keep_last_row();
+    assert_eq!(fresh, begun(CD, &store));
+}
