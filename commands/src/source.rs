@@ -106,8 +106,14 @@ impl Source {
     pub fn walk(&self, mut seek: Seek) -> Result<Seek, End> {
         let mut window = BufReader::with_capacity(WINDOW, &self.file);
         io::Seek::rewind(&mut window).map_err(|error| self.unread(&error))?;
-        let (mut at, mut bytes) = (0, [0; 16]);
+        let mut progress = Progress::of(self.shown(), self.was.len());
+        let (mut at, mut bytes, mut pieces) = (0, [0; 16], 0);
         while let Some((place, count)) = seek.wanted() {
+            // a clock is slower than a piece
+            if pieces % 4096 == 0 {
+                progress.show(place);
+            }
+            pieces += 1;
             let part = &mut bytes[..count];
             let moved = window.seek_relative(place as i64 - at);
             moved
