@@ -20,7 +20,7 @@ use heard::{Heard, Started};
 use page::Sheet;
 use std::path::{Path, PathBuf};
 use words::end::{no, shown, End};
-use words::request::{Page, Picture, Take};
+use words::request::{Page, Picture};
 use words::signals::note_all;
 use words::standard::print;
 
@@ -61,23 +61,12 @@ pub fn write(program: &'static str, request: &Picture) -> Result<String, End> {
 }
 
 /// A page, and what it says in a line.
-pub struct Drawn {
-    pub svg: String,
-    pub says: String,
+struct Drawn {
+    svg: String,
+    says: String,
 }
 
-/// The page of the take in a file, by these settings and to these keys, for a command that writes it itself.
-pub fn drawn(
-    program: &'static str,
-    source: &Source,
-    how: &Take,
-    song: Option<&Song>,
-    page: &Page,
-) -> Result<Drawn, End> {
-    let started = Started::of(source, how, song)?;
-    draw(program, source, started, song, page)
-}
-
+/// The page of a take that is started.
 fn draw(
     program: &'static str,
     source: &Source,
