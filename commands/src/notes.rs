@@ -3,7 +3,7 @@
 
 use crate::apart::lines_only;
 use crate::lines::{each, Takes};
-use crate::place::{places, put, Output};
+use crate::place::{finish, places, Output};
 use crate::rows::rows;
 use crate::score::score;
 use crate::source::Source;
@@ -15,7 +15,7 @@ use std::path::Path;
 use words::end::{say, End};
 use words::request::{Form, Notes};
 use words::scales::name;
-use words::signals::{ended, note_all};
+use words::signals::note_all;
 use words::standard::{self, print, unread};
 
 pub const PROGRAM: &str = "daxfolin notes";
@@ -73,12 +73,7 @@ fn midi(file: &Path, request: &Notes, to: &Path, over: bool) -> Result<(), End> 
     source.unchanged()?;
     let score = score(&rows, take.count, take.hertz);
     let outputs = places.drain(..).map(|place| Output::at(place, &score));
-    let mut outputs = outputs.collect::<Result<Vec<_>, _>>()?;
-    outputs.iter_mut().try_for_each(Output::flush)?;
-    ended()?;
-    let lost: Vec<String> = outputs.iter().filter_map(Output::owner_lost).collect();
-    put(outputs)?;
-    lost.iter().for_each(|lost| say(PROGRAM, lost));
+    finish(PROGRAM, outputs.collect::<Result<_, _>>()?)?;
     print(&format!("{} notes\n", rows.len()))
 }
 

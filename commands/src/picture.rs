@@ -3,6 +3,7 @@
 //! the proved calls (`heard`), figures for the eye are taken over that
 //! (`figures`), and the rest is paper and ink.
 
+mod charts;
 mod figures;
 mod head;
 mod heard;
@@ -11,16 +12,16 @@ mod png;
 mod strip;
 mod svg;
 
-use crate::place::{places_of, put, Output};
+use crate::place::{finish, places_of, Output};
 use crate::song::Song;
 use crate::source::Source;
 use figures::Figures;
 use heard::{Heard, Started};
 use page::Sheet;
 use std::path::{Path, PathBuf};
-use words::end::{no, say, shown, End};
-use words::request::{Page, Picture, Take};
-use words::signals::{ended, note_all};
+use words::end::{no, shown, End};
+use words::request::{Page, Picture};
+use words::signals::note_all;
 use words::standard::print;
 
 pub const PROGRAM: &str = "daxfolin picture";
@@ -42,20 +43,16 @@ pub fn write(program: &'static str, request: &Picture) -> Result<String, End> {
         .collect();
     let beside = request.png.then(|| request.to.with_extension("png"));
     let converter = beside.as_deref().map(png::converter).transpose()?;
-    let names = [Some(request.to.clone()), beside].into_iter().flatten();
-    let places = places_of(names, &read, request.force)?;
+    let names = [Some(request.to.clone()), beside.clone()];
+    let places = places_of(names.into_iter().flatten(), &read, request.force)?;
     let drawn = draw(program, &source, started, song.as_ref(), &request.page)?;
-    let picture = converter.map(|converter| converter.picture(&drawn.svg));
+    let picture = converter.zip(beside.as_deref());
+    let picture = picture.map(|(converter, to)| converter.picture(&drawn.svg, to));
     let picture = picture.transpose()?;
     let pages = [Some(drawn.svg.as_bytes()), picture.as_deref()];
     let outputs = places.into_iter().zip(pages.into_iter().flatten());
     let outputs = outputs.map(|(place, page)| Output::at(place, page));
-    let mut outputs = outputs.collect::<Result<Vec<_>, _>>()?;
-    outputs.iter_mut().try_for_each(Output::flush)?;
-    ended()?;
-    let lost: Vec<String> = outputs.iter().filter_map(Output::owner_lost).collect();
-    put(outputs)?;
-    lost.iter().for_each(|lost| say(program, lost));
+    finish(program, outputs.collect::<Result<_, _>>()?)?;
     Ok(format!(
         "{}: {}\n",
         shown(request.to.as_os_str()),
@@ -64,23 +61,12 @@ pub fn write(program: &'static str, request: &Picture) -> Result<String, End> {
 }
 
 /// A page, and what it says in a line.
-pub struct Drawn {
-    pub svg: String,
-    pub says: String,
+struct Drawn {
+    svg: String,
+    says: String,
 }
 
-/// The page of the take in a file, by these settings and to these keys, for a command that writes it itself.
-pub fn drawn(
-    program: &'static str,
-    source: &Source,
-    how: &Take,
-    song: Option<&Song>,
-    page: &Page,
-) -> Result<Drawn, End> {
-    let started = Started::of(source, how, song)?;
-    draw(program, source, started, song, page)
-}
-
+/// The page of a take that is started.
 fn draw(
     program: &'static str,
     source: &Source,

@@ -9,7 +9,8 @@ use std::os::fd::AsRawFd;
 use std::os::unix::ffi::OsStrExt;
 use std::os::unix::fs::{fchown, MetadataExt, OpenOptionsExt, PermissionsExt};
 use std::path::{Path, PathBuf};
-use words::end::{failed, no, reason, shown, End};
+use words::end::{failed, no, reason, say, shown, End};
+use words::signals::ended;
 
 extern "C" {
     fn flock(file: c_int, how: c_int) -> c_int;
@@ -189,13 +190,13 @@ impl Output {
     }
 
     /// All that was written is on the disk.
-    pub fn flush(&mut self) -> Result<(), End> {
+    fn flush(&mut self) -> Result<(), End> {
         let flushed = self.part.flush();
         flushed.map_err(|error| failed(&self.place.name, &error))
     }
 
     /// Where the file that is written over was somebody else's, and the new one cannot be.
-    pub fn owner_lost(&self) -> Option<String> {
+    fn owner_lost(&self) -> Option<String> {
         let owner = self.place.over.as_ref()?.uid();
         let name = shown(self.place.name.as_os_str());
         let lost = || format!("{name}: it was user {owner}'s, and is yours now");
@@ -226,8 +227,18 @@ impl Output {
     }
 }
 
+/// All outputs are made whole, and take their places. Whose owner could not be kept is said.
+pub fn finish(program: &str, mut outputs: Vec<Output>) -> Result<(), End> {
+    outputs.iter_mut().try_for_each(Output::flush)?;
+    ended()?;
+    let lost: Vec<String> = outputs.iter().filter_map(Output::owner_lost).collect();
+    put(outputs)?;
+    lost.iter().for_each(|lost| say(program, lost));
+    Ok(())
+}
+
 /// All outputs take their places, now that each is whole: the voices, and then OUT. Where one cannot, the others leave theirs again.
-pub fn put(mut outputs: Vec<Output>) -> Result<(), End> {
+fn put(mut outputs: Vec<Output>) -> Result<(), End> {
     let set = outputs.len() > 1;
     for at in (0..outputs.len()).rev() {
         if let Err(error) = outputs[at].put(set) {

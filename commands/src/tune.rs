@@ -3,7 +3,7 @@
 
 use crate::delivery::{Delivery, Part};
 use crate::midi::by_keys;
-use crate::place::{named, places, put, unnamed, Output, Place};
+use crate::place::{finish, named, places, unnamed, Output, Place};
 use crate::song::Song;
 use crate::source::{Source, WINDOW};
 use crate::{chunks, grouped, seconds, settings, started};
@@ -255,14 +255,7 @@ impl Outputs {
         match self {
             Outputs::Places(_) => Ok(()),
             Outputs::Standard(mut output) => output.flush().map_err(|error| unwritten(&error)),
-            Outputs::Files(mut outputs) => {
-                outputs.iter_mut().try_for_each(Output::flush)?;
-                ended()?;
-                let lost: Vec<String> = outputs.iter().filter_map(Output::owner_lost).collect();
-                put(outputs)?;
-                lost.iter().for_each(|lost| say(PROGRAM, lost));
-                Ok(())
-            }
+            Outputs::Files(outputs) => finish(PROGRAM, outputs),
         }
     }
 

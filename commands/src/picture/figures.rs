@@ -121,12 +121,12 @@ pub struct Best {
 
 impl Best {
     fn words(&self) -> String {
-        let names = self.names.join(", ");
+        let (names, least) = (self.names.join(", "), format!("At least {HOLDS} %"));
         match self.holding.checked_sub(self.names.len()) {
-            None => format!("No scale holds {HOLDS} % of it; {names} comes nearest."),
-            Some(0) => format!("At least {HOLDS} % of it is in {names}."),
+            None => format!("No scale holds {HOLDS} % of what was sung; {names} comes nearest."),
+            Some(0) => format!("{least} of what was sung is in {names}."),
             Some(more) => {
-                format!("At least {HOLDS} % of it is in {names}, and in {more} scales more.")
+                format!("{least} of what was sung is in {names}, and in {more} scales more.")
             }
         }
     }
@@ -149,10 +149,7 @@ impl Verdict {
         match self {
             Verdict::Silent => "No pitch was found.".to_string(),
             Verdict::Keys => "The keys of the line are wanted, and no scale.".to_string(),
-            Verdict::All(best) => format!(
-                "All twelve notes are wanted. {}",
-                best.words().replace("of it", "of what was sung")
-            ),
+            Verdict::All(best) => format!("All twelve notes are wanted. {}", best.words()),
             Verdict::Right(percent) => {
                 format!("{percent} % was sung nearest to notes of the scale.")
             }
@@ -234,7 +231,7 @@ mod tests {
         let best = sung([10, 0, 10, 0, 10, 10, 4, 10, 0, 10, 0, 10]).best();
         assert_eq!(
             best.words(),
-            "No scale holds 95 % of it; C-major / A-minor (94.6 %) comes nearest."
+            "No scale holds 95 % of what was sung; C-major / A-minor (94.6 %) comes nearest."
         );
         let best = sung([10, 0, 10, 0, 10, 0, 0, 10, 0, 10, 0, 0]).best();
         let majors = [

@@ -1,26 +1,22 @@
 //! The head of a page: the take, its settings and figures, whether the scale
-//! fits, the twelve notes, and how far the singing was from the wanted note.
+//! fits, the charts, and what each mark on the page is.
 
-use super::figures::{percent, Figures, Verdict, FAR};
-use super::heard::Heard;
-use super::page::{clock, Sheet, BLUE, FAINT, INK, LEFT, RED, RIGHT, SOFT};
+use super::charts::{self, BARS, CENTS};
+use super::figures::{percent, Figures, Verdict};
+use super::page::{clock, Sheet, INK, LEFT, RED, RIGHT, SOFT};
 use super::strip::Mark;
-use super::svg::{Path, Rect, Svg};
+use super::svg::{Rect, Svg};
 use crate::tune::late;
 use crate::{grouped, seconds};
 use words::scales::{sets, NAMES};
 
-/// The left of the text, the room for the word before it, and the pixels of a letter and of a line.
+/// The left of the text, the room for the word before it, and the pixels of a letter, of a large one and of a line.
 const TEXT: f64 = 16.0;
 const WORD: f64 = 66.0;
 const LETTER: f64 = 6.9;
+const LARGE: f64 = 11.5;
 const LINE: f64 = 18.0;
-/// The two charts: their widths, and the height of their words and of what is drawn in them.
-const BARS: f64 = 12.0 * BAR;
-const BAR: f64 = 26.0;
-const CENTS: f64 = 250.0;
-const OVER: f64 = 22.0;
-const TALL: f64 = 88.0;
+/// Between the charts, and beside them.
 const GAP: f64 = 34.0;
 /// The charts stand beside the text on a page as wide as this, and otherwise below it.
 const WIDE: f64 = 1100.0;
@@ -39,9 +35,23 @@ pub fn draw(svg: &mut Svg, sheet: &Sheet) -> f64 {
         true => (sheet.width - RIGHT - GAP / 2.0 - charts, 14.0),
         false => (LEFT, y + 14.0),
     };
-    let bottom = twelve(svg, sheet, left, top);
-    cents(svg, sheet.heard, left + BARS + GAP, top);
+    charts::twelve(svg, sheet, left, top);
+    charts::cents(svg, sheet.heard, left + BARS + GAP, top);
+    let bottom = top + charts::HEIGHT;
     legend(svg, sheet, y.max(bottom) + 8.0)
+}
+
+/// A name of so many letters at most: the middle of a longer one is left out.
+fn fitted(name: &str, most: f64) -> String {
+    let letters: Vec<char> = name.chars().collect();
+    let (most, all) = (most as usize, letters.len());
+    if all <= most {
+        return name.to_string();
+    }
+    let (first, last) = (most / 2, most - most / 2 - 1);
+    let [first, last] =
+        [&letters[..first], &letters[all - last..]].map(|part| part.iter().collect::<String>());
+    format!("{first}\u{2026}{last}")
 }
 
 /// Lines of words, as wide as there is room.
@@ -63,7 +73,7 @@ fn wrapped(text: &str, room: f64) -> Vec<String> {
 /// The take's name, and under it what is said of it, each with a word before it.
 fn texts(svg: &mut Svg, sheet: &Sheet, room: f64) -> f64 {
     let large = " font-size=\"17\" font-weight=\"bold\"";
-    svg.words(TEXT, 28.0, large, &sheet.file);
+    svg.words(TEXT, 28.0, large, &fitted(&sheet.file, room / LARGE));
     let soft = format!(" fill=\"{SOFT}\"");
     let mut y = 34.0;
     for (word, text) in said(sheet) {
@@ -178,129 +188,6 @@ fn verdict(svg: &mut Svg, sheet: &Sheet, mut y: f64, room: f64) -> f64 {
     y + 4.0 + inside
 }
 
-/// A bar for each of the twelve notes.
-fn twelve(svg: &mut Svg, sheet: &Sheet, left: f64, top: f64) -> f64 {
-    let (heard, figures) = (sheet.heard, sheet.figures);
-    let (base, most) = (
-        top + OVER + TALL,
-        figures.twelve.iter().max().copied().unwrap_or(0),
-    );
-    let not = match heard.keys.is_some() {
-        true => "seconds sung at each note; striped, ×: not a key",
-        false => "seconds sung at each note; striped, ×: not in the scale",
-    };
-    svg.words(
-        left,
-        top + 4.0,
-        &format!(" font-size=\"11\" fill=\"{SOFT}\""),
-        not,
-    );
-    svg.group("font-size=\"11\" text-anchor=\"middle\"", |svg| {
-        for (note, sung) in figures.twelve.iter().enumerate() {
-            let x = left + BAR * note as f64;
-            bar(
-                svg,
-                heard,
-                note,
-                *sung,
-                x,
-                base,
-                TALL * *sung as f64 / most.max(1) as f64,
-            );
-        }
-    });
-    base + 34.0
-}
-
-fn bar(svg: &mut Svg, heard: &Heard, note: usize, sung: u64, x: f64, base: f64, tall: f64) {
-    let (name, middle) = (NAMES[note], x + BAR / 2.0);
-    let wanted = heard.wants(note as i64);
-    let title = format!("{name}: {} s, {sung} samples", seconds(sung, heard.hertz));
-    let paint = match wanted {
-        true => format!(" fill=\"{BLUE}\""),
-        false => format!(" fill=\"url(#not) {RED}\" stroke=\"{RED}\""),
-    };
-    svg.titled(Rect(x + 3.0, base - tall, BAR - 6.0, tall), &paint, &title);
-    if tall > 1.0 {
-        let long = sung as f64 / f64::from(heard.hertz);
-        let long = if long < 1.0 {
-            format!("{long:.2}")
-        } else {
-            format!("{long:.1}")
-        };
-        svg.words(middle, base - tall - 3.0, " font-size=\"9\"", &long);
-    }
-    match wanted {
-        true => svg.words(middle, base + 14.0, " font-weight=\"bold\"", name),
-        false => {
-            svg.words(middle, base + 14.0, &format!(" fill=\"{SOFT}\""), name);
-            svg.words(
-                middle,
-                base + 27.0,
-                &format!(" fill=\"{RED}\" font-weight=\"bold\""),
-                "×",
-            );
-        }
-    }
-}
-
-/// Bins of so many cents, from this far below the wanted note to as far above it.
-const BIN: f64 = 10.0;
-const FARTHEST: f64 = 100.0;
-const BINS: usize = 20;
-
-/// How often the singing was how far from the wanted note.
-fn cents(svg: &mut Svg, heard: &Heard, left: f64, top: f64) {
-    let base = top + OVER + TALL;
-    let mut bins = [0u64; BINS];
-    for cents in heard.points.iter().filter_map(|point| point.cents()) {
-        let bin = ((cents + FARTHEST) / BIN).floor();
-        bins[bin.clamp(0.0, BINS as f64 - 1.0) as usize] += 1;
-    }
-    let x = |cents: f64| left + CENTS * (cents + FARTHEST) / (2.0 * FARTHEST);
-    let most = bins.iter().max().copied().unwrap_or(0).max(1);
-    svg.words(
-        left,
-        top + 4.0,
-        &format!(" font-size=\"11\" fill=\"{SOFT}\""),
-        "cents from the wanted note",
-    );
-    for (at, count) in bins.iter().enumerate().filter(|bin| *bin.1 > 0) {
-        let from = BIN * at as f64 - FARTHEST;
-        let far = (from + BIN / 2.0).abs() > FAR;
-        let tall = TALL * *count as f64 / most as f64;
-        let paint = format!(" fill=\"{}\"", if far { RED } else { BLUE });
-        svg.rect(
-            Rect(x(from) + 1.0, base - tall, CENTS / BINS as f64 - 2.0, tall),
-            &paint,
-        );
-    }
-    let mut fars = Path::default();
-    for cents in [-FAR, FAR] {
-        fars.go(x(cents), base);
-        fars.line(x(cents), base - TALL);
-    }
-    svg.path(
-        &fars,
-        &format!(" fill=\"none\" stroke=\"{SOFT}\" stroke-dasharray=\"3\""),
-    );
-    svg.rect(Rect(left, base, CENTS, 1.0), &format!(" fill=\"{FAINT}\""));
-    svg.group(
-        &format!("font-size=\"11\" text-anchor=\"middle\" fill=\"{SOFT}\""),
-        |svg| {
-            for (cents, name) in [
-                (-FARTHEST, "≤ -100"),
-                (-FAR, "-60"),
-                (0.0, "0"),
-                (FAR, "+60"),
-                (FARTHEST, "≥ +100"),
-            ] {
-                svg.words(x(cents), base + 14.0, "", name);
-            }
-        },
-    );
-}
-
 /// What the marks on the page are called.
 const MARKS: [(Mark, &str); 9] = [
     (Mark::Band, "note of the scale"),
@@ -340,4 +227,24 @@ fn legend(svg: &mut Svg, sheet: &Sheet, y: f64) -> f64 {
         x += wide;
     }
     y + 20.0
+}
+
+#[cfg(test)]
+mod tests {
+    use super::*;
+
+    #[test]
+    fn words_fill_lines() {
+        let room = 10.0 * LETTER;
+        assert_eq!(wrapped("one two three", room), ["one two", "three"]);
+        assert_eq!(wrapped("one two th", room), ["one two th"]);
+        assert_eq!(wrapped("aVeryLongWord b", room), ["aVeryLongWord", "b"]);
+    }
+
+    #[test]
+    fn a_long_name_loses_its_middle() {
+        assert_eq!(fitted("take.wav", 8.9), "take.wav");
+        assert_eq!(fitted("a-long-take.wav", 9.0), "a-lo\u{2026}.wav");
+        assert_eq!(fitted("a-long-take.wav", 9.0).chars().count(), 9);
+    }
 }

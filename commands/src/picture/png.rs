@@ -1,17 +1,32 @@
 //! A page as a PNG, by a program that is installed.
 
 use std::io::{ErrorKind, Write};
-use std::path::{Path, PathBuf};
+use std::path::Path;
 use std::process::{Command, Stdio};
 use std::thread;
 use words::end::{no, reason, End};
 
-/// Programs that read an SVG from standard input and write a PNG to standard output, the better ones first.
-const CONVERTERS: [(&str, &[&str]); 3] = [
-    ("rsvg-convert", &["--format=png"]),
-    ("magick", &["svg:-", "png:-"]),
-    ("convert", &["svg:-", "png:-"]),
+/// Programs that read an SVG from standard input and write a PNG to standard output, the better ones first; and what helps where they do
+/// not.
+const CONVERTERS: [Converter; 3] = [
+    Converter {
+        program: "rsvg-convert",
+        words: &["--format=png"],
+        remedy: "a long take is drawn in parts by --from and --to",
+    },
+    Converter {
+        program: "magick",
+        words: MAGICK,
+        remedy: RSVG,
+    },
+    Converter {
+        program: "convert",
+        words: MAGICK,
+        remedy: RSVG,
+    },
 ];
+const MAGICK: &[&str] = &["svg:-", "png:-"];
+const RSVG: &str = "rsvg-convert does it better (Debian: librsvg2-bin)";
 /// What a PNG begins with.
 const BEGINS: &[u8] = b"\x89PNG\r\n\x1a\n";
 
@@ -19,19 +34,16 @@ const BEGINS: &[u8] = b"\x89PNG\r\n\x1a\n";
 pub struct Converter {
     program: &'static str,
     words: &'static [&'static str],
-    to: PathBuf,
+    remedy: &'static str,
 }
 
-/// The first of them that can be started; none is said of the file that it was for.
+/// The first of them that can be started; none is said of the file that it is for.
 pub fn converter(to: &Path) -> Result<Converter, End> {
-    for (program, words) in CONVERTERS {
-        let asked = Command::new(program)
-            .arg("--version")
-            .stdin(Stdio::null())
-            .output();
+    for converter in CONVERTERS {
+        let mut asked = Command::new(converter.program);
+        let asked = asked.arg("--version").stdin(Stdio::null()).output();
         if !matches!(asked, Err(error) if error.kind() == ErrorKind::NotFound) {
-            let to = to.to_path_buf();
-            return Ok(Converter { program, words, to });
+            return Ok(converter);
         }
     }
     Err(no(
@@ -41,9 +53,9 @@ pub fn converter(to: &Path) -> Result<Converter, End> {
 }
 
 impl Converter {
-    /// The PNG of a page.
-    pub fn picture(&self, svg: &str) -> Result<Vec<u8>, End> {
-        let failed = |why: &str| no(&self.to, &format!("{}: {why}", self.program));
+    /// The PNG of a page, for a file.
+    pub fn picture(&self, svg: &str, to: &Path) -> Result<Vec<u8>, End> {
+        let failed = |why: &str| no(to, &format!("{}: {why}", self.program));
         let mut command = Command::new(self.program);
         command
             .args(self.words)
@@ -63,9 +75,7 @@ impl Converter {
             false => {
                 let said = String::from_utf8_lossy(&output.stderr);
                 let said = said.lines().next().unwrap_or("it wrote no PNG");
-                Err(failed(&format!(
-                    "{said}; a long take is drawn in parts by --from and --to"
-                )))
+                Err(failed(&format!("{said}; {}", self.remedy)))
             }
         }
     }
