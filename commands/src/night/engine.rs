@@ -222,7 +222,11 @@ impl<'a> Engine<'a> {
         command.args(["--jobs", &jobs, "--retries", &retries, "--line-buffer"]);
         command.args(["--termseq", "TERM,5000,KILL,500"]);
         if !self.machines.is_empty() {
-            command.args(["--sshlogin", &self.machines.join(","), "--filter-hosts"]);
+            command.args(["--sshlogin", &self.machines.join(",")]);
+        }
+        // with a folder for each job it fails itself; here machines that do not answer are left out already
+        if !self.machines.is_empty() && !self.request.transfer {
+            command.arg("--filter-hosts");
         }
         command.arg("--arg-file").arg(list);
         command.current_dir(&self.room.to);

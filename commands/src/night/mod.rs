@@ -24,6 +24,7 @@ use std::os::unix::process::CommandExt;
 use std::path::{Path, PathBuf};
 use std::process::{Command, Stdio};
 use std::time::Instant;
+use summary::Report;
 use takes::{jobs, Listed};
 use words::coded::coded;
 use words::end::{failed, say, shown, End, DIFFERS, FILE, REFUSED};
@@ -99,16 +100,14 @@ pub fn run(request: &Night) -> Result<(), End> {
 
 fn night(request: &Night) -> Result<(), End> {
     note_all();
+    let begun = Instant::now();
     let room = Room::real(request)?;
     refused_settings(request)?;
-    let begun = Instant::now();
     let all = found(&room)?;
     if request.dry {
-        let waiting = waiting(request, &room, &all);
-        let lines = waiting
-            .iter()
-            .map(|take| shown(take.name.as_os_str()) + "\n");
-        return print(&lines.collect::<String>());
+        let names = waiting(request, &room, &all);
+        let names = names.iter().map(|take| shown(take.name.as_os_str()) + "\n");
+        return print(&names.collect::<String>());
     }
     let lock = room::lock(&room)?;
     if request.again {
@@ -116,49 +115,44 @@ fn night(request: &Night) -> Result<(), End> {
     }
     room::settle(&room, request, &version())?;
     let waiting = waiting(request, &room, &all);
-    let jobs = jobs(&waiting, request.transfer);
+    let jobs = jobs(&waiting, request);
     takes::write(&room, &jobs)?;
     if request.list {
         return print(&format!("{}\n", jobs.len()));
     }
     let mut engine = Engine::new(request, &room, &lock);
-    let mut whole = true;
     if !jobs.is_empty() || request.check {
         engine::is_there()?;
         engine.machines()?;
     }
-    if !jobs.is_empty() {
-        let passed = all.takes.len() - waiting.len();
-        whole = engine.tune(&jobs, passed)?;
-    }
-    let report = summary::Report::of(&room, &all, begun.elapsed());
-    let stored = room::write(&room.kept("report.txt"), &report.text())
-        .and_then(|()| room::write(&room.kept("report.tsv"), &report.tsv()));
-    if !request.quiet {
-        let text = if request.tsv {
-            report.tsv()
-        } else {
-            report.head(&room)
-        };
-        print(&text)?;
-    }
-    // it is printed all the same where the disk is full
-    stored?;
+    let passed = all.takes.len() - waiting.len();
+    let well = jobs.is_empty() || engine.tune(&jobs, passed)?;
+    let report = Report::of(&room, &all, begun.elapsed());
+    told(request, &room, &report)?;
     let checked = match request.check {
         true => check(request, &room, &mut engine, &all)?,
         false => 0,
     };
-    let unread = !all.unread.is_empty();
-    let status = [
-        (report.failed() || unread || !whole, FILE),
-        (checked == FILE, FILE),
+    let failed = report.failed() || !all.unread.is_empty() || !well;
+    let statuses = [
+        (failed || checked == FILE, FILE),
         (checked == DIFFERS, DIFFERS),
         (report.refused(), REFUSED),
     ];
-    match status.iter().find(|status| status.0) {
-        Some((_, status)) => Err(End::Said(*status)),
-        None => Ok(()),
+    let status = statuses.iter().find(|status| status.0);
+    status.map_or(Ok(()), |status| Err(End::Said(status.1)))
+}
+
+/// The report is printed, also where the disk has no room for it.
+fn told(request: &Night, room: &Room, report: &Report) -> Result<(), End> {
+    let stored = room::write(&room.kept("report.txt"), &report.text())
+        .and_then(|()| room::write(&room.kept("report.tsv"), &report.tsv()));
+    match (request.quiet, request.tsv) {
+        (true, _) => {}
+        (false, true) => print(&report.tsv())?,
+        (false, false) => print(&report.head(room))?,
     }
+    stored
 }
 
 /// Settings and lines that no take could have are refused before the first.
@@ -251,7 +245,7 @@ fn check(request: &Night, room: &Room, engine: &mut Engine, all: &Listed) -> Res
         Record::read(&room.said(&take.name)).is_some_and(|said| said.state == State::Done)
     };
     let takes: Vec<takes::Take> = all.takes.iter().filter(done).cloned().collect();
-    let found: HashMap<String, String> = engine.check(&jobs(&takes, false))?;
+    let found: HashMap<String, String> = engine.check(&jobs(&takes, request))?;
     let mut equal = 0;
     let (mut lines, mut status) = (String::new(), 0);
     for take in &takes {

@@ -4,7 +4,7 @@
 use crate::place::{lock_alone, named};
 use std::ffi::{OsStr, OsString};
 use std::fs::{self, File, OpenOptions};
-use std::io::{ErrorKind, Read, Write};
+use std::io::{self, ErrorKind, Read, Write};
 use std::os::unix::ffi::OsStrExt;
 use std::path::{Path, PathBuf};
 use words::end::{failed, no, reason, shown, End};
@@ -32,20 +32,14 @@ impl Room {
         }
     }
 
-    /// The same folders by their own names, OUT_DIR made where it is not there. Neither lies within the other.
+    /// The same folders by their own names. Neither lies within the other. OUT_DIR need not be there yet.
     pub fn real(request: &Night) -> Result<Room, End> {
-        let real = |name: &Path| fs::canonicalize(name).map_err(|error| failed(name, &error));
-        let from = real(&request.from)?;
+        let from =
+            fs::canonicalize(&request.from).map_err(|error| failed(&request.from, &error))?;
         if !from.is_dir() {
             return Err(no(&request.from, "it is no folder"));
         }
-        if !request.dry {
-            made(&request.to)?;
-        }
-        let to = match request.dry {
-            true => real(&request.to).unwrap_or_else(|_| request.to.clone()),
-            false => real(&request.to)?,
-        };
+        let to = real_or_new(&request.to).map_err(|error| failed(&request.to, &error))?;
         for (one, other, why) in [
             (
                 &to,
@@ -85,6 +79,21 @@ impl Room {
     /// The copy of a take that is mended.
     pub fn mended(&self, take: &Path) -> PathBuf {
         self.kept("mended").join(take)
+    }
+}
+
+/// The own name of a folder, of which the last parts need not be there.
+fn real_or_new(name: &Path) -> io::Result<PathBuf> {
+    match (fs::canonicalize(name), name.parent(), name.file_name()) {
+        (Err(error), Some(above), Some(last)) if error.kind() == ErrorKind::NotFound => {
+            let above = if above == Path::new("") {
+                Path::new(".")
+            } else {
+                above
+            };
+            Ok(real_or_new(above)?.join(last))
+        }
+        (real, _, _) => real,
     }
 }
 

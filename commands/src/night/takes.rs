@@ -3,13 +3,15 @@
 use super::room::{self, below, Room};
 use std::fs;
 use std::path::{Path, PathBuf};
+use std::thread::available_parallelism;
 use words::coded::coded;
 use words::end::End;
+use words::request::Night;
 
-/// A job has so many takes or bytes at most, unless it has one take alone: an engine takes some milliseconds for each job. Of few takes
-/// there are many jobs all the same, so that every processor has some.
+/// A job has so many takes or bytes at most, unless it has one take alone: an engine takes some milliseconds for each job. So many jobs
+/// there are for each processor, where there are as many takes, so that all processors end at about the same time.
 const MOST_TAKES: usize = 64;
-const MOST_JOBS: usize = 64;
+const JOBS_EACH: usize = 16;
 const MOST_BYTES: u64 = 4 << 20;
 /// The longest line of the list: less than a command line can have.
 const LONGEST_LINE: usize = 16_384;
@@ -65,13 +67,23 @@ impl Job {
     }
 }
 
-/// Long takes have a job each, and short ones go together.
-pub fn jobs(takes: &[Take], each_alone: bool) -> Vec<Job> {
-    let mut jobs: Vec<Job> = Vec::new();
-    let most = match each_alone {
+/// Takes of a job, at most. One that is sent goes alone.
+fn most(takes: usize, request: &Night) -> usize {
+    let processors = available_parallelism().map_or(1, |count| count.get());
+    let machines = request.machines.len().max(1);
+    match request.transfer && !request.check {
         true => 1,
-        false => (takes.len() / MOST_JOBS).clamp(1, MOST_TAKES),
-    };
+        false => (takes / (JOBS_EACH * processors * machines)).clamp(1, MOST_TAKES),
+    }
+}
+
+pub fn jobs(takes: &[Take], request: &Night) -> Vec<Job> {
+    together(takes, most(takes.len(), request))
+}
+
+/// Long takes have a job each, and short ones go together.
+fn together(takes: &[Take], most: usize) -> Vec<Job> {
+    let mut jobs: Vec<Job> = Vec::new();
     let (mut bytes, mut width) = (0, 0);
     for take in takes {
         let (length, wide) = (take.length, coded(&take.name).len() + 1);
@@ -108,22 +120,22 @@ mod tests {
             name: name.into(),
             length,
         };
-        let lines = |takes: &[Take], each_alone| {
-            let jobs = jobs(takes, each_alone);
+        let takes = [
+            take("a", 9 << 20),
+            take("b", 3 << 20),
+            take("c d", 1 << 20),
+            take("e", 1),
+        ];
+        let lines = |most| {
+            let jobs = together(&takes, most);
             jobs.iter().map(Job::line).collect::<Vec<_>>()
         };
-        let mut takes = vec![take("a", 9 << 20), take("b", 3 << 20), take("c d", 1 << 20)];
-        assert_eq!(lines(&takes, false), ["a", "b", "c%20d"]);
-        takes.extend((0..197).map(|k| take(&k.to_string(), 100)));
-        let together = lines(&takes, false);
-        assert_eq!(together[..2], ["a", "b,c%20d"]);
-        assert_eq!(together[2], "0,1,2");
-        assert_eq!(together.len(), 2 + 66);
-        assert_eq!(lines(&takes, true).len(), 200);
-        let many: Vec<Take> = (0..10_000).map(|k| take(&k.to_string(), 100)).collect();
-        assert_eq!(jobs(&many, false).len(), 157);
-        let long: Vec<Take> = (0..640).map(|_| take(&"x".repeat(4000), 100)).collect();
-        assert_eq!(jobs(&long, false).len(), 160);
+        assert_eq!(lines(64), ["a", "b,c%20d", "e"]);
+        assert_eq!(lines(1), ["a", "b", "c%20d", "e"]);
+        let many: Vec<Take> = (0..200).map(|k| take(&k.to_string(), 100)).collect();
+        assert_eq!(together(&many, 64).len(), 4);
+        let long: Vec<Take> = (0..9).map(|_| take(&"x".repeat(4000), 100)).collect();
+        assert_eq!(together(&long, 64).len(), 3);
     }
 
     #[test]

@@ -508,7 +508,10 @@ pub const COMMANDS: &[Command] = &[
         statuses: &[
             (0, "every take is tuned"),
             (1, "usage error, or OUT_DIR was begun with other settings"),
-            (2, "takes are refused, and all others are tuned"),
+            (
+                2,
+                "a setting is refused, or takes are, and all others are tuned",
+            ),
             (
                 3,
                 "takes failed, another night is at work there, or GNU parallel is missing",
