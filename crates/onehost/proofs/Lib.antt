@@ -1,0 +1,5 @@
+pub mod Borrowed
+pub mod Lent
+pub mod Loans
+pub mod Locals
+pub mod Through
