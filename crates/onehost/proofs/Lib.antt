@@ -2,4 +2,5 @@ pub mod Borrowed
 pub mod Lent
 pub mod Loans
 pub mod Locals
+pub mod Meeting
 pub mod Through
