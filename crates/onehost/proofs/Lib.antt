@@ -3,4 +3,5 @@ pub mod Lent
 pub mod Loans
 pub mod Locals
 pub mod Meeting
+pub mod Results
 pub mod Through

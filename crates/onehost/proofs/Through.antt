@@ -47,16 +47,19 @@ use Rattle.onehost.proofs.Locals.{Holds, Room, setAt, locals, holds, ho
 -- ---- the walk begins: the locals are allocated, the parameters passed, and the borrow is opened
 
 module _ {M : Type 1} (𝓤 : URA M) (H : Heap 𝓤) (A : Atoms 𝓤) (W : Given 𝓤 H A) (C : Calls 𝓤 H) (Λ : Loops 𝓤 H) (κ : Lft) (q : Share) (b o : ℕ) (γ : GName) (t : Tuner) where
-  pub begins : (f : Fn) (ps : List Val) (own : Fml) (onward : Item 𝓤) (Post : Val → SProp 𝓤) → ((ns : Homes (f .locals)) → Passes (lying (f .locals) ns) (nones (f .locals)) (vptr b o ∷ ps))
+  -- of what the further parameters own, `kept` is kept beside what the callee is to have
+  pub begins : (f : Fn) (ps : List Val) (owned own : Fml) (onward kept : Item 𝓤) → ent 𝓤 (sem 𝓤 H A owned) (mean 𝓤 H A (‵ own ⊛ kept)) → (Post : Val → SProp 𝓤) → ((ns : Homes (f .locals)) → Passes (lying (f .locals) ns) (nones (f .locals)) (vptr b o ∷ ps))
       → ((ns : Homes (f .locals)) → Is T.the-row t (mach t ∷ [])
-      → Seq (Go {0}) W (locals 𝓤 H A (lying (f .locals) ns) (first (nones (f .locals)) ∷ over (others (nones (f .locals))) (vptr b o ∷ ps)) ∷ ‵ (held fullShare b o t) ∷ ‵ (fobor κ q (behind b o γ)) ∷ ‵ (fobs γ (T.the-row .coded .code t)) ∷ ‵ (fauth γ (T.the-row .coded .code t)) ∷ ‵ own ∷ onward ∷ [])
+      → Seq (Go {0}) W (locals 𝓤 H A (lying (f .locals) ns) (first (nones (f .locals)) ∷ over (others (nones (f .locals))) (vptr b o ∷ ps)) ∷ ‵ (held fullShare b o t) ∷ ‵ (fobor κ q (behind b o γ)) ∷ ‵ (fobs γ (T.the-row .coded .code t)) ∷ ‵ (fauth γ (T.the-row .coded .code t)) ∷ ‵ own ∷ onward ∷ kept ∷ [])
       (runs C Λ (lying (f .locals) ns) (f .body) (atRet (lying (f .locals) ns) Post)))
-      → ent 𝓤 (⋆ 𝓤 H A ((‵ (flft κ q) ⊛ onward) ∷ ‵ (fsep (MutRef (named 0) κ T.the-row .own (record { ptr = (b, o); name = γ; now = t }) (vptr b o ∷ [])) own) ∷ [])) (WpFn 𝓤 H C Λ f (vptr b o ∷ ps) Post)
-  begins f ps own onward Post pass k =
-      qed W ((‵ (flft κ q) ⊛ onward) ∷ ‵ (fsep (MutRef (named 0) κ T.the-row .own (record { ptr = (b, o); name = γ; now = t }) (vptr b o ∷ [])) own) ∷ []) ∵ enter ! C Λ f (vptr b o ∷ ps) Post $
+      → ent 𝓤 (⋆ 𝓤 H A ((‵ (flft κ q) ⊛ onward) ∷ ‵ (fsep (MutRef (named 0) κ T.the-row .own (record { ptr = (b, o); name = γ; now = t }) (vptr b o ∷ [])) owned) ∷ [])) (WpFn 𝓤 H C Λ f (vptr b o ∷ ps) Post)
+  begins f ps owned own onward kept had Post pass k =
+      qed W ((‵ (flft κ q) ⊛ onward) ∷ ‵ (fsep (MutRef (named 0) κ T.the-row .own (record { ptr = (b, o); name = γ; now = t }) (vptr b o ∷ [])) owned) ∷ []) ∵ enter ! C Λ f (vptr b o ∷ ps) Post $
       allocated ! (f .locals) (λ ns. parameters ! (lying (f .locals) ns) (nones (f .locals)) (vptr b o ∷ ps) (pass ns) $ move ! (2 ∷ []) $ fsplit ! $ move ! (3 ∷ []) $ split ! $
       -- [the token; the other tokens; the reference; own; the locals]
-      move ! (2 ∷ 0 ∷ []) $ opened ! tt t b o (λ is. lowered ! b o t is $ move ! (6 ∷ 0 ∷ 1 ∷ 2 ∷ 3 ∷ 5 ∷ 4 ∷ []) $ k ns is))
+      move ! (3 ∷ []) $ use1 W (‵ own ⊛ kept) had $ split ! $ move ! (4 ∷ 2 ∷ []) $ opened ! tt t b o (λ is. lowered ! b o t is $
+      -- [the tuner; the open borrow; obs; auth; own; kept; the other tokens; the locals]
+      move ! (7 ∷ 0 ∷ 1 ∷ 2 ∷ 3 ∷ 4 ∷ 6 ∷ 5 ∷ []) $ k ns is))
 
 -- ---- a struct D of what is left, of the struct F, and of an answer
 
@@ -117,6 +120,25 @@ module _ (D : Declared) (L : LL.Laws D) where
         step (λ s. landed k e room r w is $
         assigns k (field-read k e r h (res .left-at) (res .left-value)) (from k (hop k (look-in k 0 (holds k 1 h₁)) (stop k))) (store k 1 refl (LL.lawful T.the-type T′.the-laws 𝓤 H A W .typed t _ (res .left-is) .0)) $
         answered k b o t (res .left-is) e r h e₀ h₀ (res .answer-at) (res .answer-value) (res .answer-typed) $ s)
+
+  module _ (τ : Ty) {M : Type 1} (𝓤 : URA M) (H : Heap 𝓤) (A : Atoms 𝓤) (W : Given 𝓤 H A) (C : Calls 𝓤 H) (Λ : Loops 𝓤 H) (fm : FmC 𝓤 H (W .laws) C) (κ : Lft) (q : Share) (b o : ℕ) (γ : GName) (E : List (Ty × ℕ)) (os : List (Option Val)) (d : ℕ) where
+    -- from the call on: the cell holds something, which is overwritten
+    pub keeps : {u v : Gv} {old : Val} → spotOf 𝓤 H E d .0 ≡ layout (shape D) → Room E os d → ((v : Val) → Holds E (setAt os d v) 1 (vptr b o)) → spotOf 𝓤 H E 0 .0 ≡ τ → ((v : Val) → Room E (setAt os d v) 0)
+        → (g : Name) (xs : List Operand) (vs : List Val) (onward kept : Item 𝓤) (own : Fml) (P : SProp 𝓤) (Q : Val → SProp 𝓤)
+        → ent 𝓤 P (C g vs Q) → ent 𝓤 (sep 𝓤 (mean 𝓤 H A onward) (sem 𝓤 H A own)) P → ((Γ : List (Item 𝓤)) → Opds (Go {0}) W (raw P ∷ locals 𝓤 H A E os ∷ Γ) E xs vs)
+        → (Z : Type 0) (left told : Z → Fml) (φ : D .D → Z → Type 0)
+        → ((w : Val) → ent 𝓤 (Q w) (mean 𝓤 H A (later (exists (λ (r : D .D). (onward ⊛ ‵ (row D .own r (w ∷ []))) ⊛ exists (λ (z : Z). ‵ (told z) ⊛ raw (fact 𝓤 (φ r z)))))))) → ((z : Z) → ent 𝓤 (sem 𝓤 H A (told z)) (sem 𝓤 H A (left z)))
+        → (tuner : D .D → Tuner) (answer : D .D → Val) → ((r : D .D) (w : Val) → Is (row D) r (w ∷ []) → Result T.the-type T′.the-laws r (tuner r) τ (answer r))
+        → (Post : Val → SProp 𝓤) → ((r : D .D) (w : Val) → Is (row D) r (w ∷ []) → (z : Z) → φ r z
+        → ent 𝓤 (⋆ 𝓤 H A (‵ (fobs γ (T.the-row .coded .code (tuner r))) ∷ ‵ (fbor κ (behind b o γ)) ∷ ‵ (flft κ q) ∷ onward ∷ ‵ (left z) ∷ kept ∷ [])) (Post (answer r)))
+        → Seq (Go {0}) W (locals 𝓤 H A E os ∷ ‵ (fat fullShare T′.mir b o old) ∷ ‵ (fobor κ q (behind b o γ)) ∷ ‵ (fobs γ u) ∷ ‵ (fauth γ v) ∷ ‵ own ∷ onward ∷ kept ∷ []) (runs C Λ E (seq (call g xs (place d [])) (storing d)) (atRet E Post))
+    keeps e room h₁ e₀ h₀ g xs vs onward kept own P Q known asked opds Z left told φ gives tells tuner answer result Post exits =
+        move ! (6 ∷ 5 ∷ []) $ use2 W (raw P) asked $ calls-from ! fm (raw P) vs Q known (opds _) (λ w.
+        use1 W (later (exists (λ (r : D .D). (onward ⊛ ‵ (row D .own r (w ∷ []))) ⊛ exists (λ (z : Z). ‵ (told z) ⊛ raw (fact 𝓤 (φ r z)))))) (gives w) $ await ! tt $ pick ! (λ r.
+        split ! $ move ! (1 ∷ []) $ pick ! (λ z. split ! $ move ! (1 ∷ []) $ heard ! (φ r z) (λ f. use1 W (‵ (left z)) (tells z) $ move ! (1 ∷ []) $ split ! $ move ! (1 ∷ []) $
+        peeks ! (row D) (Is (row D)) (shows 𝓤 H A (row D)) r (w ∷ []) (λ r-is. drop ! $
+        -- [onward; the last values; the locals; the cell; the open borrow; obs; auth; kept]
+        move ! (2 ∷ 3 ∷ 4 ∷ 5 ∷ 6 ∷ 0 ∷ 1 ∷ []) $ stored ! b o e room r w r-is (tuner r) (result r w r-is) (h₁ (B.mach D L r)) e₀ (h₀ (B.mach D L r)) $ by ! (exits r w r-is z f))))))
 
   -- ---- a callee that leaves numbers, and is lent the arrays
   abbrev calling : Name → List Operand → ℕ → Code

@@ -17,7 +17,7 @@ use ghost.Atoms.{Atoms}
 use contract.Lifetimes.{toks}
 use contract.Monad.{Fun, factI}
 use contract.Running.{givenOf}
-use types.Kit.{Given, Item, ‵, raw, _$_, _∵_, !, qed, move, drop, fsplit, fjoin, done}
+use types.Kit.{Given, Item, ‵, raw, _$_, _∵_, !, qed, move, drop, join, fsplit, fjoin, done}
 use types.Run.{no-more}
 use sound.WpLaws.{FmC}
 use denote.RattleType.{owns}
@@ -54,6 +54,7 @@ use Rattle.onehost.proofs.Lent.{mach, loans}
 use Rattle.onehost.proofs.Loans.{Names, tokens, lifetimes, shares, refs-and, vals-and}
 use Rattle.onehost.proofs.Locals.{arg}
 use Rattle.onehost.proofs.Meeting.{stayed, bound, ends, by-walk}
+use Rattle.onehost.proofs.Results.{number-is, told-result}
 use Rattle.onehost.proofs.Through.{begins, through, lent-own}
 use Rattle.onehost.proofs.daxfolin_change.Key.{name as #self}
 use Rattle.onehost.proofs.daxfolin_change as self
@@ -94,7 +95,7 @@ module _ {M : Type 1} (𝓤 : URA M) (H : Heap 𝓤) (A : Atoms 𝓤) (W : Given
 
     walk : ent 𝓤 (onEntry 𝓤 H A self.signature (κ, tt) (q, tt) (record { ptr = (b, o); name = γ; now = t }, (s, tt)) (vptr b o ∷ [], (LL.vals S.the-type S′.the-laws s, tt))) (WpFn 𝓤 H C Λ code.function (vptr b o ∷ LL.val S.the-type S′.the-laws s ∷ []) Post)
     walk =
-        begins 𝓤 H A W C Λ κ q b o γ t code.function (LL.val S.the-type S′.the-laws s ∷ []) own onward Post (λ ns. ((tt, tt), (LL.lawful S.the-type S′.the-laws 𝓤 H A W .typed s _ s-is .0, tt))) (λ ns is. nothing ! $ move ! (1 ∷ 2 ∷ 3 ∷ 4 ∷ 5 ∷ 6 ∷ 7 ∷ 0 ∷ []) $
+        begins 𝓤 H A W C Λ κ q b o γ t code.function (LL.val S.the-type S′.the-laws s ∷ []) own own onward (‵ ftrue) (qed W (‵ own ∷ []) ∵ nothing ! $ move ! (1 ∷ 0 ∷ []) $ join ! $ done !) Post (λ ns. ((tt, tt), (LL.lawful S.the-type S′.the-laws 𝓤 H A W .typed s _ s-is .0, tt))) (λ ns is.
         through K.the-type K′.the-laws imm (tyInt w32) 𝓤 H A W C Λ fm κ q b o γ t is _ _ 4 3 []
         (refl, refl, refl, (refl, refl, refl, (refl, refl, refl, (refl, refl, refl, (refl, refl, refl, tt)))))
         refl refl (λ v. refl) refl (λ v. refl) #callee _ _ onward (‵ ftrue) own (λ ns. Called 𝓤 H A mem run .pre (to-callee ns)) (λ ns. Called 𝓤 H A mem run .post (to-callee ns)) (λ ns. known (to-callee ns))
@@ -103,8 +104,8 @@ module _ {M : Type 1} (𝓤 : URA M) (H : Heap 𝓤) (A : Atoms 𝓤) (W : Given
         Last (λ ns z. (tt, (tt, (tt, (tt, tt))))) (λ ns z. lasts callee.ended (to-callee ns .0 .0) (to-callee ns .0 .3) z) (λ ns z. fsep ftrue ftrue) (λ ns r z. Said r) (λ ns w. id⊢ 𝓤 _)
         (λ ns z. qed W (‵ (lasts callee.ended (to-callee ns .0 .0) (to-callee ns .0 .3) z) ∷ []) ∵ fsplit ! $ drop ! $ done !)
         (λ r. r .numbers) (λ r. vint w32 (r .number))
-        (λ r w is. let parts = LL.owed K.the-type K′.the-laws r (w ∷ []) is in record { left-is = parts .0; left-at = refl; left-value = refl; offset = 288; answer-at = refl; answer-value = refl; answer-typed = (tt, record { fits = parts .1 .0 .1 }) })
-        Post (λ r w is ns z e. ends 0 (plain (λ _. S.the-row) ∷ []) (yes, tt) Further u32 𝓤 H A W (self.clauses 𝓤 H A mem run) κ tt q tt b o γ t (s, tt) (LL.vals S.the-type S′.the-laws s, tt) tt (uint-makes 𝓤 H A W w32) (r .number) _ (LL.owed K.the-type K′.the-laws r (w ∷ []) is .1 .0)
+        told-result
+        Post (λ r w is ns z e. ends 0 (plain (λ _. S.the-row) ∷ []) (yes, tt) Further u32 𝓤 H A W (self.clauses 𝓤 H A mem run) κ tt q tt b o γ t (s, tt) (LL.vals S.the-type S′.the-laws s, tt) tt (uint-makes 𝓤 H A W w32) (r .number) _ (number-is r w is)
         (withNumbers t (r .numbers)) (tt, tt) (tt, tt) (factI 𝓤 _ _ (e (t .outs))) (‵ (fsep ftrue ftrue)) (‵ ftrue) (qed W (‵ (fsep ftrue ftrue) ∷ ‵ ftrue ∷ []) ∵ drop ! $ owned ! S.the-row (Is S.the-row) (LL.makes S.the-type S′.the-plain 𝓤 H A) s _ s-is $ fjoin ! $ done !)))
 
 pub daxfolin-change-spec : {M : Type 1} → stated.statement M
