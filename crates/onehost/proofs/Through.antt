@@ -1,6 +1,6 @@
 -- The walk of a call that is lent a tuner, once for all of them. The callee returns a struct of two fields, what it leaves and its answer. What it leaves is stored behind the first parameter, which closes the borrow, and its answer is the answer.
 --     through      the tuner's numbers are copied and its arrays lent for the call; the callee leaves other numbers
---     stored       the callee leaves a whole tuner
+--     keeps        the callee leaves a whole tuner
 -- Of the callee, its further parameters and what else is set for them, nothing is known but what the laws ask.
 -- Assumes `Given`.
 use mathlib.Core.Path.{_≡_, refl, sym, ap, subst}
@@ -40,7 +40,7 @@ use Rattle.one.proofs.Numbers.Laws as N′
 use Rattle.one.proofs.Tuner as T
 use Rattle.one.proofs.Tuner.Laws as T′
 use Rattle.onehost.proofs.Borrowed as B
-use Rattle.onehost.proofs.Lent.{mach, numbers-mach, behind, held, at-lowered, lowered, opened, closed, loans, left, numbers-is, arrays-are, left-is, parts, rejoins, handed, numbers-stored}
+use Rattle.onehost.proofs.Lent.{mach, numbers-mach, behind, held, at-lowered, lowered, raised, opened, closed, loans, left, numbers-is, arrays-are, left-is, parts, rejoins, handed, numbers-stored}
 use Rattle.onehost.proofs.Loans.{Names, Lasts, refs, tokens, lasts, lends, come-back}
 use Rattle.onehost.proofs.Locals.{Holds, Room, setAt, locals, holds, holds-as, holds-now, within, sets, lands-in, Source, Ready, setFrom, setting, all-set, given-up, Homes, lying, nones, first, others, over, Passes, allocated, parameters}
 
@@ -110,7 +110,7 @@ module _ (D : Declared) (L : LL.Laws D) where
   storing d = seq (assign (place 1 (deref T′.mir ∷ [])) (rvOpd (copy (place d (field 0 ∷ []))))) (seq (assign (place 0 []) (rvOpd (copy (place d (field 1 ∷ []))))) return)
 
   module _ {M : Type 1} {𝓤 : URA M} {H : Heap 𝓤} {A : Atoms 𝓤} {K : Type 0} {W : Given 𝓤 H A} {E : List (Ty × ℕ)} {os : List (Option Val)} {Γ : List (Item 𝓤)} where
-    pub stored : K → {C : Calls 𝓤 H} {Λ : Loops 𝓤 H} {Post : Val → SProp 𝓤} {κ : Lft} {q : Share} {u v : Gv} {γ : GName} {old : Val} {d : ℕ} {τ : Ty} {answer : Val} (b o : ℕ)
+    stored : K → {C : Calls 𝓤 H} {Λ : Loops 𝓤 H} {Post : Val → SProp 𝓤} {κ : Lft} {q : Share} {u v : Gv} {γ : GName} {old : Val} {d : ℕ} {τ : Ty} {answer : Val} (b o : ℕ)
         → spotOf 𝓤 H E d .0 ≡ layout (shape D) → Room E os d → (r : D .D) (w : Val) → Is (row D) r (w ∷ []) → (t : Tuner) → Result T.the-type T′.the-laws r t τ answer
         → Holds E (setAt os d (B.mach D L r)) 1 (vptr b o) → spotOf 𝓤 H E 0 .0 ≡ τ → Room E (setAt os d (B.mach D L r)) 0
         → Step K W (‵ (fobs γ (T.the-row .coded .code t)) ∷ ‵ (fbor κ (behind b o γ)) ∷ ‵ (flft κ q) ∷ Γ) (prop (Post answer))
@@ -121,23 +121,31 @@ module _ (D : Declared) (L : LL.Laws D) where
         assigns k (field-read k e r h (res .left-at) (res .left-value)) (from k (hop k (look-in k 0 (holds k 1 h₁)) (stop k))) (store k 1 refl (LL.lawful T.the-type T′.the-laws 𝓤 H A W .typed t _ (res .left-is) .0)) $
         answered k b o t (res .left-is) e r h e₀ h₀ (res .answer-at) (res .answer-value) (res .answer-typed) $ s)
 
-  module _ (τ : Ty) {M : Type 1} (𝓤 : URA M) (H : Heap 𝓤) (A : Atoms 𝓤) (W : Given 𝓤 H A) (C : Calls 𝓤 H) (Λ : Loops 𝓤 H) (fm : FmC 𝓤 H (W .laws) C) (κ : Lft) (q : Share) (b o : ℕ) (γ : GName) (E : List (Ty × ℕ)) (os : List (Option Val)) (d : ℕ) where
-    -- from the call on: the cell holds something, which is overwritten
-    pub keeps : {u v : Gv} {old : Val} → spotOf 𝓤 H E d .0 ≡ layout (shape D) → Room E os d → ((v : Val) → Holds E (setAt os d v) 1 (vptr b o)) → spotOf 𝓤 H E 0 .0 ≡ τ → ((v : Val) → Room E (setAt os d v) 0)
+  module _ (τ : Ty) {M : Type 1} (𝓤 : URA M) (H : Heap 𝓤) (A : Atoms 𝓤) (W : Given 𝓤 H A) (C : Calls 𝓤 H) (Λ : Loops 𝓤 H) (fm : FmC 𝓤 H (W .laws) C) (κ : Lft) (q : Share) (b o : ℕ) (γ : GName) (t : Tuner) (is : Is T.the-row t (mach t ∷ []))
+      (E : List (Ty × ℕ)) (os : List (Option Val)) (n d : ℕ) (ss : List (Source (Go {0}) W E (‵ (held fullShare b o t)))) where
+    abbrev ahead : List (Option Val)
+    ahead = setFrom (Go {0}) W E (‵ (held fullShare b o t)) os n ss
+
+    -- what locals need is set, the callee called, and its tuner stored
+    pub keeps : Ready (Go {0}) W E (‵ (held fullShare b o t)) os n ss
+        → spotOf 𝓤 H E d .0 ≡ layout (shape D) → Room E ahead d → ((v : Val) → Holds E (setAt ahead d v) 1 (vptr b o)) → spotOf 𝓤 H E 0 .0 ≡ τ → ((v : Val) → Room E (setAt ahead d v) 0)
         → (g : Name) (xs : List Operand) (vs : List Val) (onward kept : Item 𝓤) (own : Fml) (P : SProp 𝓤) (Q : Val → SProp 𝓤)
-        → ent 𝓤 P (C g vs Q) → ent 𝓤 (sep 𝓤 (mean 𝓤 H A onward) (sem 𝓤 H A own)) P → ((Γ : List (Item 𝓤)) → Opds (Go {0}) W (raw P ∷ locals 𝓤 H A E os ∷ Γ) E xs vs)
-        → (Z : Type 0) (left told : Z → Fml) (φ : D .D → Z → Type 0)
-        → ((w : Val) → ent 𝓤 (Q w) (mean 𝓤 H A (later (exists (λ (r : D .D). (onward ⊛ ‵ (row D .own r (w ∷ []))) ⊛ exists (λ (z : Z). ‵ (told z) ⊛ raw (fact 𝓤 (φ r z)))))))) → ((z : Z) → ent 𝓤 (sem 𝓤 H A (told z)) (sem 𝓤 H A (left z)))
+        → ent 𝓤 P (C g vs Q) → ent 𝓤 (sep 𝓤 (mean 𝓤 H A onward) (sem 𝓤 H A own)) P → ((Γ : List (Item 𝓤)) → Opds (Go {0}) W (raw P ∷ locals 𝓤 H A E ahead ∷ Γ) E xs vs)
+        → (Z : Type 0) (told others : Z → Fml) (φ : D .D → Z → Type 0)
+        → ((w : Val) → ent 𝓤 (Q w) (mean 𝓤 H A (later (exists (λ (r : D .D). (onward ⊛ ‵ (row D .own r (w ∷ []))) ⊛ exists (λ (z : Z). ‵ (told z) ⊛ raw (fact 𝓤 (φ r z)))))))) → ((z : Z) → ent 𝓤 (sem 𝓤 H A (told z)) (sem 𝓤 H A (others z)))
         → (tuner : D .D → Tuner) (answer : D .D → Val) → ((r : D .D) (w : Val) → Is (row D) r (w ∷ []) → Result T.the-type T′.the-laws r (tuner r) τ (answer r))
         → (Post : Val → SProp 𝓤) → ((r : D .D) (w : Val) → Is (row D) r (w ∷ []) → (z : Z) → φ r z
-        → ent 𝓤 (⋆ 𝓤 H A (‵ (fobs γ (T.the-row .coded .code (tuner r))) ∷ ‵ (fbor κ (behind b o γ)) ∷ ‵ (flft κ q) ∷ onward ∷ ‵ (left z) ∷ kept ∷ [])) (Post (answer r)))
-        → Seq (Go {0}) W (locals 𝓤 H A E os ∷ ‵ (fat fullShare T′.mir b o old) ∷ ‵ (fobor κ q (behind b o γ)) ∷ ‵ (fobs γ u) ∷ ‵ (fauth γ v) ∷ ‵ own ∷ onward ∷ kept ∷ []) (runs C Λ E (seq (call g xs (place d [])) (storing d)) (atRet E Post))
-    keeps e room h₁ e₀ h₀ g xs vs onward kept own P Q known asked opds Z left told φ gives tells tuner answer result Post exits =
-        move ! (6 ∷ 5 ∷ []) $ use2 W (raw P) asked $ calls-from ! fm (raw P) vs Q known (opds _) (λ w.
+        → ent 𝓤 (⋆ 𝓤 H A (‵ (fobs γ (T.the-row .coded .code (tuner r))) ∷ ‵ (fbor κ (behind b o γ)) ∷ ‵ (flft κ q) ∷ onward ∷ ‵ (others z) ∷ kept ∷ [])) (Post (answer r)))
+        → Seq (Go {0}) W (locals 𝓤 H A E os ∷ ‵ (held fullShare b o t) ∷ ‵ (fobor κ q (behind b o γ)) ∷ ‵ (fobs γ (T.the-row .coded .code t)) ∷ ‵ (fauth γ (T.the-row .coded .code t)) ∷ ‵ own ∷ onward ∷ kept ∷ [])
+        (runs C Λ E (setting (Go {0}) W E (‵ (held fullShare b o t)) n ss (seq (call g xs (place d [])) (storing d))) (atRet E Post))
+    keeps ready e room h₁ e₀ h₀ g xs vs onward kept own P Q known asked opds Z told others φ gives tells tuner answer result Post exits =
+        all-set (Go {0}) W E (‵ (held fullShare b o t)) ! ss os n ready $ move ! (1 ∷ []) $ raised ! b o t is $
+        -- [the tuner's cell; the locals; the open borrow; obs; auth; own; onward; kept]
+        move ! (6 ∷ 5 ∷ []) $ use2 W (raw P) asked $ move ! (0 ∷ 2 ∷ []) $ calls-from ! fm (raw P) vs Q known (opds _) (λ w.
         use1 W (later (exists (λ (r : D .D). (onward ⊛ ‵ (row D .own r (w ∷ []))) ⊛ exists (λ (z : Z). ‵ (told z) ⊛ raw (fact 𝓤 (φ r z)))))) (gives w) $ await ! tt $ pick ! (λ r.
-        split ! $ move ! (1 ∷ []) $ pick ! (λ z. split ! $ move ! (1 ∷ []) $ heard ! (φ r z) (λ f. use1 W (‵ (left z)) (tells z) $ move ! (1 ∷ []) $ split ! $ move ! (1 ∷ []) $
+        split ! $ move ! (1 ∷ []) $ pick ! (λ z. split ! $ move ! (1 ∷ []) $ heard ! (φ r z) (λ f. use1 W (‵ (others z)) (tells z) $ move ! (1 ∷ []) $ split ! $ move ! (1 ∷ []) $
         peeks ! (row D) (Is (row D)) (shows 𝓤 H A (row D)) r (w ∷ []) (λ r-is. drop ! $
-        -- [onward; the last values; the locals; the cell; the open borrow; obs; auth; kept]
+        -- [onward; the last values; the locals; the tuner's cell; the open borrow; obs; auth; kept]
         move ! (2 ∷ 3 ∷ 4 ∷ 5 ∷ 6 ∷ 0 ∷ 1 ∷ []) $ stored ! b o e room r w r-is (tuner r) (result r w r-is) (h₁ (B.mach D L r)) e₀ (h₀ (B.mach D L r)) $ by ! (exits r w r-is z f))))))
 
   -- ---- a callee that leaves numbers, and is lent the arrays

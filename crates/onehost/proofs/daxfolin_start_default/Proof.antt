@@ -65,9 +65,9 @@ module _ {M : Type 1} (𝓤 : URA M) (H : Heap 𝓤) (A : Atoms 𝓤) (W : Given
     walk : ent 𝓤 (onEntry 𝓤 H A self.signature (κ, tt) (q, tt) (record { ptr = (b, o); name = γ; now = t }, tt) (vptr b o ∷ [], tt)) (WpFn 𝓤 H C Λ code.function (vptr b o ∷ []) Post)
     walk =
         begins 𝓤 H A W C Λ κ q b o γ t code.function [] ftrue ftrue onward (‵ ftrue) (qed W (‵ ftrue ∷ []) ∵ nothing ! $ join ! $ done !) Post (λ ns. ((tt, tt), tt)) (λ ns is.
-        keeps D.the-type D′.the-laws _ 𝓤 H A W C Λ fm κ q b o γ _ _ 2 refl refl (λ v. refl) refl (λ v. refl) #callee [] [] onward (‵ ftrue) ftrue (Called 𝓤 H A mem run .pre to-callee) (Called 𝓤 H A mem run .post to-callee) (known to-callee)
+        keeps D.the-type D′.the-laws _ 𝓤 H A W C Λ fm κ q b o γ t is _ _ 3 2 [] tt refl refl (λ v. refl) refl (λ v. refl) #callee [] [] onward (‵ ftrue) ftrue (Called 𝓤 H A mem run .pre to-callee) (Called 𝓤 H A mem run .post to-callee) (known to-callee)
         (qed W (onward ∷ ‵ ftrue ∷ []) ∵ join ! $ frame ! $ done !) (λ Γ. no-more !)
-        (Lasts callee.ended tt tt) (λ z. ftrue) (λ z. lasts callee.ended tt tt z) (λ r z. Started cdRate defaults 0 [] [] (r .tuner) (r .number)) (λ w. id⊢ 𝓤 _) (λ z. id⊢ 𝓤 _)
+        (Lasts callee.ended tt tt) (λ z. lasts callee.ended tt tt z) (λ z. ftrue) (λ r z. Started cdRate defaults 0 [] [] (r .tuner) (r .number)) (λ w. id⊢ 𝓤 _) (λ z. id⊢ 𝓤 _)
         (λ r. r .tuner) (λ r. vint w32 (r .number)) done-result Post
         (λ r w is z e. ends 0 [] tt tt u32 𝓤 H A W (self.clauses 𝓤 H A mem run) κ tt q tt b o γ t tt tt tt (uint-makes 𝓤 H A W w32) (r .number) _ (done-number-is r w is) (r .tuner) tt tt (factI 𝓤 _ _ e) (‵ ftrue) (‵ ftrue) (qed W (‵ ftrue ∷ ‵ ftrue ∷ []) ∵ drop ! $ done !)))
 

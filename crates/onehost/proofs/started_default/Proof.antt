@@ -28,7 +28,7 @@ start-requires : tie.Need-start-requires
 start-requires c κs = search needs
 
 returns : tie.Need-returns
-returns c = subst (λ (s : Settings). Started cdRate s 0 [] [] _ _) (c .before .before .before .default-settings .ensures) (c .start .ensures)
+returns c = subst (λ (s : Settings). Started cdRate s 0 [] [] (c .start .result .tuner) (c .start .result .number)) (c .before .before .before .default-settings .ensures) (c .start .ensures)
 
 pub started-default-spec : {M : Type 1} → statement M
 started-default-spec =
