@@ -17,7 +17,7 @@ use ghost.Atoms.{Atoms}
 use contract.Lifetimes.{toks}
 use contract.Monad.{Fun, factI}
 use contract.Running.{givenOf}
-use types.Kit.{Given, Item, ‵, raw, _$_, _∵_, !, qed, move, drop, join, fsplit, fjoin, done}
+use types.Kit.{Given, Item, ‵, raw, _$_, _∵_, !, qed, drop, fsplit, done}
 use types.Run.{no-more}
 use sound.WpLaws.{FmC}
 use denote.RattleType.{owns}
@@ -27,7 +27,6 @@ use denote.Builtin.{u32}
 use denote.Exit.{yes}
 use denote.Ref.{ptr-vals, mut-tells}
 use denote.Signature.{plain}
-use denote.Steps.{owned, nothing}
 use denote.Struct.Laws as LL
 use denote.Triple.Entry.{onEntry}
 use denote.Triple.Spec.{tripleOf}
@@ -54,7 +53,7 @@ use Rattle.onehost.proofs.Lent.{mach, loans}
 use Rattle.onehost.proofs.Loans.{Names, tokens, lifetimes, shares, refs-and, vals-and}
 use Rattle.onehost.proofs.Locals.{arg}
 use Rattle.onehost.proofs.Meeting.{stayed, bound, ends, by-walk}
-use Rattle.onehost.proofs.Results.{number-is, told-result}
+use Rattle.onehost.proofs.Results.{number-is, told-result, own-twice}
 use Rattle.onehost.proofs.Through.{begins, through, lent-own}
 use Rattle.onehost.proofs.daxfolin_change.Key.{name as #self}
 use Rattle.onehost.proofs.daxfolin_change as self
@@ -95,10 +94,10 @@ module _ {M : Type 1} (𝓤 : URA M) (H : Heap 𝓤) (A : Atoms 𝓤) (W : Given
 
     walk : ent 𝓤 (onEntry 𝓤 H A self.signature (κ, tt) (q, tt) (record { ptr = (b, o); name = γ; now = t }, (s, tt)) (vptr b o ∷ [], (LL.vals S.the-type S′.the-laws s, tt))) (WpFn 𝓤 H C Λ code.function (vptr b o ∷ LL.val S.the-type S′.the-laws s ∷ []) Post)
     walk =
-        begins 𝓤 H A W C Λ κ q b o γ t code.function (LL.val S.the-type S′.the-laws s ∷ []) own own onward (‵ ftrue) (qed W (‵ own ∷ []) ∵ nothing ! $ move ! (1 ∷ 0 ∷ []) $ join ! $ done !) Post (λ ns. ((tt, tt), (LL.lawful S.the-type S′.the-laws 𝓤 H A W .typed s _ s-is .0, tt))) (λ ns is.
+        begins 𝓤 H A W C Λ κ q b o γ t code.function (LL.val S.the-type S′.the-laws s ∷ []) own own onward (‵ own) (own-twice 𝓤 H A W (S.the-row ∷ []) (LL.copy S.the-type S′.the-copy 𝓤 H A W, tt) (s, tt) (LL.vals S.the-type S′.the-laws s, tt)) Post (λ ns. ((tt, tt), (LL.lawful S.the-type S′.the-laws 𝓤 H A W .typed s _ s-is .0, tt))) (λ ns is.
         through K.the-type K′.the-laws imm (tyInt w32) 𝓤 H A W C Λ fm κ q b o γ t is _ _ 4 3 []
         (refl, refl, refl, (refl, refl, refl, (refl, refl, refl, (refl, refl, refl, (refl, refl, refl, tt)))))
-        refl refl (λ v. refl) refl (λ v. refl) #callee _ _ onward (‵ ftrue) own (λ ns. Called 𝓤 H A mem run .pre (to-callee ns)) (λ ns. Called 𝓤 H A mem run .post (to-callee ns)) (λ ns. known (to-callee ns))
+        refl refl (λ v. refl) refl (λ v. refl) #callee _ _ onward (‵ own) own (λ ns. Called 𝓤 H A mem run .pre (to-callee ns)) (λ ns. Called 𝓤 H A mem run .post (to-callee ns)) (λ ns. known (to-callee ns))
         (λ ns. qed W (tokens b (loans b fullShare o t imm) ns onward ∷ ‵ (lent-own K.the-type K′.the-laws imm (tyInt w32) 𝓤 H A W C Λ fm κ q b o γ t is ns own) ∷ []) ∵ says ! (stores t _ is) $ done !)
         (λ ns Γ. arg ! refl (arg ! refl (arg ! refl (arg ! refl (arg ! refl (arg ! refl (no-more !)))))))
         Last (λ ns z. (tt, (tt, (tt, (tt, tt))))) (λ ns z. lasts callee.ended (to-callee ns .0 .0) (to-callee ns .0 .3) z) (λ ns z. fsep ftrue ftrue) (λ ns r z. Said r) (λ ns w. id⊢ 𝓤 _)
@@ -106,7 +105,7 @@ module _ {M : Type 1} (𝓤 : URA M) (H : Heap 𝓤) (A : Atoms 𝓤) (W : Given
         (λ r. r .numbers) (λ r. vint w32 (r .number))
         told-result
         Post (λ r w is ns z e. ends 0 (plain (λ _. S.the-row) ∷ []) (yes, tt) Further u32 𝓤 H A W (self.clauses 𝓤 H A mem run) κ tt q tt b o γ t (s, tt) (LL.vals S.the-type S′.the-laws s, tt) tt (uint-makes 𝓤 H A W w32) (r .number) _ (number-is r w is)
-        (withNumbers t (r .numbers)) (tt, tt) (tt, tt) (factI 𝓤 _ _ (e (t .outs))) (‵ (fsep ftrue ftrue)) (‵ ftrue) (qed W (‵ (fsep ftrue ftrue) ∷ ‵ ftrue ∷ []) ∵ drop ! $ owned ! S.the-row (Is S.the-row) (LL.makes S.the-type S′.the-plain 𝓤 H A) s _ s-is $ fjoin ! $ done !)))
+        (withNumbers t (r .numbers)) (tt, tt) (tt, tt) (factI 𝓤 _ _ (e (t .outs))) (‵ (fsep ftrue ftrue)) (‵ own) (qed W (‵ (fsep ftrue ftrue) ∷ ‵ own ∷ []) ∵ drop ! $ done !)))
 
 pub daxfolin-change-spec : {M : Type 1} → stated.statement M
 unfolding code.routine

@@ -18,7 +18,7 @@ use ghost.Atoms.{Atoms}
 use contract.Lifetimes.{toks}
 use contract.Monad.{Fun, factI}
 use contract.Running.{givenOf}
-use types.Kit.{Given, Item, ‵, raw, _$_, _∵_, !, qed, move, drop, fsplit, fjoin, done}
+use types.Kit.{Given, Item, ‵, raw, _$_, _∵_, !, qed, drop, fsplit, done}
 use types.Run.{no-more}
 use sound.WpLaws.{FmC}
 use denote.RattleType.{owns}
@@ -26,9 +26,9 @@ use denote.Plain.{uint-makes}
 use denote.Builtin.{u8, u32, SliceRefOf}
 use denote.Exit.{yes}
 use denote.Ref.{RefT, ptr-vals, mut-tells}
-use denote.Slice.{ShrSlice, Room, slice-vals, shr-slice-tells}
+use denote.Slice.{ShrSlice, Room, slice-vals, shr-slice-tells, shr-slice-copy}
 use denote.Signature.{Slot, plain}
-use denote.Steps.{only, nothing}
+use denote.Steps.{only}
 use denote.Triple.Entry.{onEntry}
 use denote.Triple.Spec.{tripleOf}
 use denote.Triple.Statement.{Contract, Triple}
@@ -51,7 +51,7 @@ use Rattle.onehost.proofs.Lent.{mach, loans}
 use Rattle.onehost.proofs.Loans.{Names, tokens, lifetimes, shares, refs-and, vals-and}
 use Rattle.onehost.proofs.Locals.{arg}
 use Rattle.onehost.proofs.Meeting.{stayed, bound, ends, by-walk}
-use Rattle.onehost.proofs.Results.{number-is, told-result, slice-twice}
+use Rattle.onehost.proofs.Results.{number-is, told-result, own-twice}
 use Rattle.onehost.proofs.Through.{begins, through, lent-own}
 use Rattle.onehost.proofs.daxfolin_midi.Key.{name as #self}
 use Rattle.onehost.proofs.daxfolin_midi as self
@@ -78,9 +78,6 @@ module _ {M : Type 1} (𝓤 : URA M) (H : Heap 𝓤) (A : Atoms 𝓤) (W : Given
   abbrev own : Fml
   own = owns (ShrSlice (named 1) κ₁ u8 ∷ []) (x, tt) (slice-vals x, tt)
 
-  abbrev Shr : Fml
-  Shr = ShrSlice (named 1) κ₁ u8 .own x (slice-vals x)
-
   -- what the callee's triple binds outside
   abbrev to-callee : Named → Called 𝓤 H A mem run .Ghost
   to-callee ns =
@@ -99,10 +96,10 @@ module _ {M : Type 1} (𝓤 : URA M) (H : Heap 𝓤) (A : Atoms 𝓤) (W : Given
 
     walk : ent 𝓤 (onEntry 𝓤 H A self.signature (κ, (κ₁, tt)) (q, (q₁, tt)) (record { ptr = (b, o); name = γ; now = t }, (x, tt)) (vptr b o ∷ [], (slice-vals x, tt))) (WpFn 𝓤 H C Λ code.function (vptr b o ∷ only (slice-vals x) ∷ []) Post)
     walk =
-        begins 𝓤 H A W C Λ κ q b o γ t code.function (only (slice-vals x) ∷ []) own own onward (‵ Shr) (slice-twice 𝓤 H A W (named 1) κ₁ u8 x) Post (λ ns. ((tt, tt), ((tt, (tt, (record { fits = room .0 }, tt))), tt))) (λ ns is.
+        begins 𝓤 H A W C Λ κ q b o γ t code.function (only (slice-vals x) ∷ []) own own onward (‵ own) (own-twice 𝓤 H A W (ShrSlice (named 1) κ₁ u8 ∷ []) (shr-slice-copy 𝓤 H A W (named 1) κ₁ u8, tt) (x, tt) (slice-vals x, tt)) Post (λ ns. ((tt, tt), ((tt, (tt, (record { fits = room .0 }, tt))), tt))) (λ ns is.
         through K.the-type K′.the-laws imm (tyInt w32) 𝓤 H A W C Λ fm κ q b o γ t is _ _ 4 3 []
         (refl, refl, refl, (refl, refl, refl, (refl, refl, refl, (refl, refl, refl, (refl, refl, refl, tt)))))
-        refl refl (λ v. refl) refl (λ v. refl) #callee _ _ onward (‵ Shr) own (λ ns. Called 𝓤 H A mem run .pre (to-callee ns)) (λ ns. Called 𝓤 H A mem run .post (to-callee ns)) (λ ns. known (to-callee ns))
+        refl refl (λ v. refl) refl (λ v. refl) #callee _ _ onward (‵ own) own (λ ns. Called 𝓤 H A mem run .pre (to-callee ns)) (λ ns. Called 𝓤 H A mem run .post (to-callee ns)) (λ ns. known (to-callee ns))
         (λ ns. qed W (tokens b (loans b fullShare o t imm) ns onward ∷ ‵ (lent-own K.the-type K′.the-laws imm (tyInt w32) 𝓤 H A W C Λ fm κ q b o γ t is ns own) ∷ []) ∵ says ! (stores t _ is) $ done !)
         (λ ns Γ. arg ! refl (arg ! refl (arg ! refl (arg ! refl (arg ! refl (arg ! refl (no-more !)))))))
         Last (λ ns z. (tt, (tt, (tt, (tt, tt))))) (λ ns z. lasts callee.ended (to-callee ns .0 .0) (to-callee ns .0 .3) z) (λ ns z. fsep ftrue ftrue) (λ ns r z. Said r) (λ ns w. id⊢ 𝓤 _)
@@ -110,7 +107,7 @@ module _ {M : Type 1} (𝓤 : URA M) (H : Heap 𝓤) (A : Atoms 𝓤) (W : Given
         (λ r. r .numbers) (λ r. vint w32 (r .number))
         told-result
         Post (λ r w is ns z e. ends 1 (Bytes ∷ []) (yes, tt) Further u32 𝓤 H A W (self.clauses 𝓤 H A mem run) κ (κ₁, tt) q (q₁, tt) b o γ t (x, tt) (slice-vals x, tt) tt (uint-makes 𝓤 H A W w32) (r .number) _ (number-is r w is)
-        (withNumbers t (r .numbers)) (tt, tt) (tt, tt) (factI 𝓤 _ _ (e (t .outs))) (‵ (fsep ftrue ftrue)) (‵ Shr) (qed W (‵ (fsep ftrue ftrue) ∷ ‵ Shr ∷ []) ∵ drop ! $ nothing ! $ move ! (1 ∷ 0 ∷ []) $ fjoin ! $ done !)))
+        (withNumbers t (r .numbers)) (tt, tt) (tt, tt) (factI 𝓤 _ _ (e (t .outs))) (‵ (fsep ftrue ftrue)) (‵ own) (qed W (‵ (fsep ftrue ftrue) ∷ ‵ own ∷ []) ∵ drop ! $ done !)))
 
 pub daxfolin-midi-spec : {M : Type 1} → stated.statement M
 unfolding code.routine
