@@ -33,6 +33,11 @@ use Rattle.one.proofs.Done as D
 use Rattle.one.proofs.Done.Laws as D′
 use Rattle.one.proofs.Taken as X
 use Rattle.one.proofs.Taken.Laws as X′
+use Rattle.onenight.specs.declared.NightLeft.{NightLeft}
+use Rattle.onenight.proofs.NightAnswer as G
+use Rattle.onenight.proofs.NightAnswer.Laws as G′
+use Rattle.onenight.proofs.NightLeft as Y
+use Rattle.onenight.proofs.NightLeft.Laws as Y′
 use Rattle.onehost.proofs.Through.{Result}
 
 -- numbers and a number
@@ -59,6 +64,14 @@ module _ {M : Type 1} (𝓤 : URA M) (H : Heap 𝓤) (A : Atoms 𝓤) (W : Given
 
     pub left-result : Result J.the-type J′.the-laws N.the-type N′.the-laws r (r .numbers) F′.mir (LL.val F.the-type F′.the-laws (r .answer))
     left-result = record { left-is = LL.owed J.the-type J′.the-laws r (w ∷ []) is .0; left-at = refl; left-value = refl; offset = 288; answer-at = refl; answer-value = refl; answer-typed = LL.lawful F.the-type F′.the-laws 𝓤 H A W .typed (r .answer) _ answer-is .0 }
+
+  -- numbers and a night's answer
+  module _ (r : NightLeft) (w : Val) (is : Is Y.the-row r (w ∷ [])) where
+    pub night-answer-is : Is G.the-row (r .answer) (LL.vals G.the-type G′.the-laws (r .answer))
+    night-answer-is = LL.owed Y.the-type Y′.the-laws r (w ∷ []) is .1 .0
+
+    pub night-result : Result Y.the-type Y′.the-laws N.the-type N′.the-laws r (r .numbers) G′.mir (LL.val G.the-type G′.the-laws (r .answer))
+    night-result = record { left-is = LL.owed Y.the-type Y′.the-laws r (w ∷ []) is .0; left-at = refl; left-value = refl; offset = 288; answer-at = refl; answer-value = refl; answer-typed = LL.lawful G.the-type G′.the-laws 𝓤 H A W .typed (r .answer) _ night-answer-is .0 }
 
   -- a tuner and an answer
   module _ (r : Taken) (w : Val) (is : Is X.the-row r (w ∷ [])) where

@@ -4,6 +4,7 @@ use meters::Meter;
 use one::Answer;
 use one::Done;
 use one::Tuner;
+use onenight::NightAnswer;
 use rules::CD_RATE;
 use rules::Settings;
 ghost use mathlib.Core.Path.{_≡_};
@@ -13,6 +14,7 @@ ghost use Rattle.cutting.specs.Cuts.{Cut};
 ghost use Rattle.meters.specs.declared.Meter.{Meter};
 ghost use Rattle.one.specs.Following.{four};
 ghost use Rattle.one.specs.Tuners.{Took, Started, Changed, Keyed, Reset, Metered};
+ghost use Rattle.onenight.specs.Night.{Nighted};
 ghost use Rattle.onehost.specs.Shows.{bare, shownAs};
 
 // The meter: 0 searching; 1 locking, with the found lag; 2 pitched, with three figures; 9 refused. What is not shown is 0.
@@ -191,6 +193,42 @@ pub extern "C" fn daxfolin_block(
         &mut lent.eighths,
         &mut lent.outs,
         number,
+        samples,
+        out,
+        first,
+        second,
+        third,
+        store,
+    );
+    lent.numbers = d.numbers;
+    d.answer
+}
+
+// A recording's blocks of so many samples, from a block number on, as by the single calls one by one; it stops at the first that is refused.
+#[no_mangle]
+pub extern "C" fn daxfolin_night(
+    lent: &mut Tuner,
+    number: u16,
+    size: usize,
+    samples: &[i16],
+    out: &mut [i16],
+    first: &mut [i16],
+    second: &mut [i16],
+    third: &mut [i16],
+    store: &mut [u32],
+) -> NightAnswer
+    ensures { λ r. ⌜ Nighted (now (lent .entry)) number size (now (samples .entry)) (four (now (out .entry)) (now (first .entry)) (now (second .entry)) (now (third .entry))) (now (store .entry))
+        (now (lent .exit)) r (four (now (out .exit)) (now (first .exit)) (now (second .exit)) (now (third .exit))) (now (store .exit)) ⌝ }
+{
+    let d = onenight::night_lent(
+        lent.numbers,
+        &mut lent.energies,
+        &mut lent.correlations,
+        &mut lent.heard,
+        &mut lent.eighths,
+        &mut lent.outs,
+        number,
+        size,
         samples,
         out,
         first,
