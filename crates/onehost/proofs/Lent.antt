@@ -215,6 +215,9 @@ module _ {M : Type 1} {𝓤 : URA M} {H : Heap 𝓤} {A : Atoms 𝓤} (K : Type 
   pub numbers-typed : DT (hasTy N′.mir (N′.lowered (t .numbers))) × WT (N′.lowered (t .numbers))
   numbers-typed = LL.lawful N.the-type N′.the-laws 𝓤 H A W .typed (t .numbers) _ (at-lowered N.the-type N′.the-laws N′.lowers (t .numbers) (numbers-is t _ is)) .0
 
+  pub whole-typed : DT (hasTy T′.mir (T′.lowered t)) × WT (T′.lowered t)
+  whole-typed = LL.lawful T.the-type T′.the-laws 𝓤 H A W .typed t _ (at-lowered T.the-type T′.the-laws T′.lowers t is) .0
+
   abbrev Set : Type 2
   Set = Source K W E (‵ (held s b o t))
 
@@ -227,6 +230,14 @@ module _ {M : Type 1} {𝓤 : URA M} {H : Heap 𝓤} {A : Atoms 𝓤} (K : Type 
   abbrev four-named : Mutability → List Set → List Set
   four-named μ ss =
       array-named μ (tyArray (tyInt w64) 109) 1 288 refl ∷ array-named μ (tyArray (tyInt w64) 109) 2 1160 refl ∷ array-named μ (tyArray (tyInt w16) 1764) 3 2032 refl ∷ array-named μ (tyArray (tyInt w16) 224) 4 5560 refl ∷ ss
+
+  pub whole-read : (os : List (Option Val)) (Γ : List (Item 𝓤)) → Holds E os 1 (vptr b o) → Rv K W (locals 𝓤 H A E os ∷ ‵ (held s b o t) ∷ Γ) E (rvOpd (copy (place 1 (deref T′.mir ∷ [])))) (T′.lowered t)
+  unfolding held
+  whole-read os Γ h = of-opd k (load k (from k (hop k (look-in k 0 (holds k 1 h)) (stop k))) (look-in k 1 (whole k)))
+
+  -- all of it
+  abbrev pub whole-copied : Set
+  whole-copied = record { type = T′.mir; source = rvOpd (copy (place 1 (deref T′.mir ∷ []))); value = T′.lowered t; need = λ os. Holds E os 1 (vptr b o); makes = whole-read; typed = whole-typed }
 
   -- its numbers, the arrays that are lent, and what else
   abbrev pub handed : Mutability → List Set → List Set

@@ -3,15 +3,22 @@ use cutting::Stretch;
 use meters::Meter;
 use one::Answer;
 use one::Done;
+use one::Numbers;
 use one::Tuner;
 use onenight::NightAnswer;
 use rules::CD_RATE;
+use rules::EIGHTH_LAGS;
+use rules::KEPT_EIGHTHS;
+use rules::KEPT_SAMPLES;
 use rules::Settings;
 ghost use mathlib.Core.Path.{_≡_};
-ghost use mathlib.Core.List.{[]};
+ghost use mathlib.Core.List.{List, []};
+ghost use lib.IntN.{ℤ};
 ghost use Rattle.rules.specs.Rules.{defaults, cdRate};
 ghost use Rattle.cutting.specs.Cuts.{Cut};
 ghost use Rattle.meters.specs.declared.Meter.{Meter};
+ghost use Rattle.record.specs.Parts.{heardOf, Stores};
+ghost use Rattle.one.specs.Parted.{tunerOf};
 ghost use Rattle.one.specs.Following.{four};
 ghost use Rattle.one.specs.Tuners.{Took, Started, Changed, Keyed, Reset, Metered};
 ghost use Rattle.onenight.specs.Night.{Nighted};
@@ -62,6 +69,20 @@ pub fn shown_as(m: Meter) -> Shown
         },
         Meter::Refused => bare(9),
     }
+}
+
+// What the meter shows of a tuner with these numbers; its arrays are lent.
+fn metered(
+    n: Numbers,
+    energies: &[u64; EIGHTH_LAGS],
+    correlations: &[i64; EIGHTH_LAGS],
+    heard: &[i16; KEPT_SAMPLES],
+    eighths: &[i16; KEPT_EIGHTHS],
+) -> Shown
+    requires { ⌜ Stores (heardOf (n .count) (now energies) (now correlations) (now heard) (now eighths)) ⌝ }
+    ensures { λ s. ⌜ ((outs : List ℤ) → (m : Meter) × Metered (tunerOf n (now (energies .entry)) (now (correlations .entry)) (now (heard .entry)) (now (eighths .entry)) outs) m × (s ≡ shownAs m)) ⌝ }
+{
+    shown_as(one::meter_lent(n, energies, correlations, heard, eighths))
 }
 
 // A start with the default settings at 44,100, without a list and without voices.
@@ -264,11 +285,11 @@ pub fn block_in_place(
 pub extern "C" fn daxfolin_meter(lent: &Tuner) -> Shown
     ensures { λ s. ⌜ ((m : Meter) × Metered (now (lent .entry)) m × (s ≡ shownAs m)) ⌝ }
 {
-    shown_as(one::meter_lent(
+    metered(
         lent.numbers,
         &lent.energies,
         &lent.correlations,
         &lent.heard,
         &lent.eighths,
-    ))
+    )
 }

@@ -75,9 +75,22 @@ abbrev Keeps : Kepts Further
 Keeps = (yes, (yes, (yes, (yes, (yes, (yes, (yes, (yes, tt))))))))
 
 abbrev Stay : Stays Further Keeps
-Stay =
-    (stay-none (λ _. u16) yes, (stay-none (λ _. usize) yes, (stay-none-slice (1 ∷ []) tt (plain (λ _. i16)) yes, (gave-slice (2 ∷ []) tt (plain (λ _. i16)), (gave-slice (3 ∷ []) tt (plain (λ _. i16)),
-    (gave-slice (4 ∷ []) tt (plain (λ _. i16)), (gave-slice (5 ∷ []) tt (plain (λ _. i16)), (gave-slice (6 ∷ []) tt (plain (λ _. u32)), tt))))))))
+Stay = (
+  stay-none (λ _. u16) yes,
+  (
+    stay-none (λ _. usize) yes,
+    (
+      stay-none-slice (1 ∷ []) tt (plain (λ _. i16)) yes,
+      (
+        gave-slice (2 ∷ []) tt (plain (λ _. i16)),
+        (
+          gave-slice (3 ∷ []) tt (plain (λ _. i16)),
+          (gave-slice (4 ∷ []) tt (plain (λ _. i16)), (gave-slice (5 ∷ []) tt (plain (λ _. i16)), (gave-slice (6 ∷ []) tt (plain (λ _. u32)), tt))),
+        ),
+      ),
+    ),
+  ),
+)
 
 abbrev Called : {M : Type 1} (𝓤 : URA M) (H : Heap 𝓤) (A : Atoms 𝓤) (mem : Memory → SProp 𝓤) (run : Routine → Fun 𝓤) → Contract 𝓤
 Called 𝓤 H A mem run = tripleOf 𝓤 H A callee.signature (callee.spec 𝓤 H A mem run)
@@ -196,8 +209,25 @@ daxfolin-night-spec 𝓤 H 𝓜 𝓖 𝓡 =
     let A = 𝓖 .A in
     let W = givenOf 𝓤 H 𝓜 𝓖 in
     by-walk 𝓤 H 𝓜 𝓖 𝓡 code.env #callee callee-def.routine code.calls-onenight·night-lent (Called 𝓤 H A (𝓜 .mem) (𝓡 .run)) (callee-thm.met 𝓤 H 𝓜 𝓖 𝓡)
-    self.ended (stayed 6 Further Keeps Stay F.the-row) (goes-ref 𝓤 H A W 7 0 tt (plain (λ _. T.the-row)), (goes-none 𝓤 H A W 7 (λ _. u16) yes (λ κs x f. refl), (goes-none 𝓤 H A W 7 (λ _. usize) yes (λ κs x f. refl), (goes-none-slice 𝓤 H A W 7 (1 ∷ []) tt (plain (λ _. i16)) yes, (goes-gave-slice 𝓤 H A W 7 2 tt (plain (λ _. i16)), (goes-gave-slice 𝓤 H A W 7 3 tt (plain (λ _. i16)),
-    (goes-gave-slice 𝓤 H A W 7 4 tt (plain (λ _. i16)), (goes-gave-slice 𝓤 H A W 7 5 tt (plain (λ _. i16)), (goes-gave-slice 𝓤 H A W 7 6 tt (plain (λ _. u32)), tt))))))))) (self.clauses 𝓤 H A (𝓜 .mem) (𝓡 .run)) #self code.function (code.unfolded 𝓤 H 𝓜 𝓡)
+    self.ended (stayed 6 Further Keeps Stay F.the-row) (
+      goes-ref 𝓤 H A W 7 0 tt (plain (λ _. T.the-row)),
+      (
+        goes-none 𝓤 H A W 7 (λ _. u16) yes (λ κs x f. refl),
+        (
+          goes-none 𝓤 H A W 7 (λ _. usize) yes (λ κs x f. refl),
+          (
+            goes-none-slice 𝓤 H A W 7 (1 ∷ []) tt (plain (λ _. i16)) yes,
+            (
+              goes-gave-slice 𝓤 H A W 7 2 tt (plain (λ _. i16)),
+              (
+                goes-gave-slice 𝓤 H A W 7 3 tt (plain (λ _. i16)),
+                (goes-gave-slice 𝓤 H A W 7 4 tt (plain (λ _. i16)), (goes-gave-slice 𝓤 H A W 7 5 tt (plain (λ _. i16)), (goes-gave-slice 𝓤 H A W 7 6 tt (plain (λ _. u32)), tt))),
+              ),
+            ),
+          ),
+        ),
+      ),
+    ) (self.clauses 𝓤 H A (𝓜 .mem) (𝓡 .run)) #self code.function (code.unfolded 𝓤 H 𝓜 𝓡)
     (λ C Λ fm known. walked 𝓤 H A self.ended (stayed 6 Further Keeps Stay F.the-row) (self.clauses 𝓤 H A (𝓜 .mem) (𝓡 .run)) (WpFn 𝓤 H C Λ code.function)
     (λ κs. (ptr-vals, (uint-vals w16, (uint-vals w64, (slice-vals, (slice-vals, (slice-vals, (slice-vals, (slice-vals, (slice-vals, tt))))))))))
     (λ κs. (mut-tells (named 0) (κs .0) T.the-row, (uint-tells w16, (uint-tells w64, (shr-slice-tells (named 1) (κs .1 .0) i16, (mut-slice-tells (named 2) (κs .1 .1 .0) i16, (mut-slice-tells (named 3) (κs .1 .1 .1 .0) i16, (mut-slice-tells (named 4) (κs .1 .1 .1 .1 .0) i16, (mut-slice-tells (named 5) (κs .1 .1 .1 .1 .1 .0) i16, (mut-slice-tells (named 6) (κs .1 .1 .1 .1 .1 .1 .0) u32, tt))))))))))
