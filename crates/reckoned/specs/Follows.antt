@@ -45,7 +45,7 @@ block-given {t = t} h xs = let k = series-keeps h in sym (ap (λ (u : Tuner). gi
 
 -- what was received of a block that is taken is all of it
 block-past : {t t′ : Tuner} {k : ℕ} {xs : List ℤ} {os os′ : List (List ℤ)} {store store′ : List ℕ} {a : Answer} (r : Received) → Took t k xs os store t′ a os′ store′ → a .number ≡ 0
-    → pastOf (withSamples r 0 (a .written) xs (countedBy a)) ≡ pastOf (withEvents r (map sample xs))
+    → pastOf (withSamples r 0 (a .written) xs (countedBy a) os′) ≡ pastOf (withEvents r (map sample xs))
 block-past {xs = xs} {a = a} r p z =
     let all : take (a .written) xs ≡ xs = ap (λ (b : Answer). take (b .written) xs) (took-keeps p (omega arith) .0) ∙ take-length xs in
     ap (λ (l : List ℤ). record { hertz = r .hertz; settings = r .settings; events = r .events ++ map sample l }) all
@@ -116,7 +116,7 @@ line-follows {d} f (taken {xs = xs} {a = a} p) =
     let r = received (f .calls) in
     by (eqb (a .number) 0)
     (λ z. let e = eqb-true (a .number) 0 z in
-    rw z (goes f (by-block p) (map sample xs) (ap pastOf (cond-yes (withSamples r 0 (a .written) xs (countedBy a)) r z) ∙ block-past r p e) (block-given (f .series) xs)))
+    rw z (goes f (by-block p) (map sample xs) (ap pastOf (cond-yes (withSamples r 0 (a .written) xs (countedBy a) _) r z) ∙ block-past r p e) (block-given (f .series) xs)))
     (λ z. let n = eqb-false (a .number) 0 z in rw z (refused f (untaken-unchanged p (omega arith) .0)))
 line-follows {d} f (begun-again {v = v} p) =
     let r = received (f .calls) in
