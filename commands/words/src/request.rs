@@ -801,6 +801,8 @@ mod tests {
             Ok(Request::Notes(Notes { from: None, .. }))
         ));
         assert_eq!(notes(&["--decay", "7"]), Err("IN.wav is missing".into()));
+        let report = request(&["report", "--tsv"]);
+        assert_eq!(report, Err("IN.wav is missing".into()));
         for (words, why) in [
             (
                 ["--tsv", "--labels"].as_slice(),
@@ -922,6 +924,7 @@ mod tests {
             (&["mend", "a"], &["a"]),
             (&["notes", "a"], &["a"]),
             (&["report", "a"], &["a"]),
+            (&["report"], &[]),
             (&["report", "a", "b"], &[]),
             (&["report", "a", "b", "--midi", "m"], &["m"]),
             (&["night", "a", "b"], &["a"]),
