@@ -354,7 +354,7 @@ impl<'a> Engine<'a> {
         }
         let list = self.room.kept("checking");
         let lines: String = jobs.iter().map(|job| job.line() + "\n").collect();
-        super::room::write(&list, &lines)?;
+        super::room::write(self.room, &list, &lines)?;
         if self.request.transfer {
             self.machines.clear();
         }

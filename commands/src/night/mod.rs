@@ -145,8 +145,8 @@ fn night(request: &Night) -> Result<(), End> {
 
 /// The report is printed, also where the disk has no room for it.
 fn told(request: &Night, room: &Room, report: &Report) -> Result<(), End> {
-    let stored = room::write(&room.kept("report.txt"), &report.text())
-        .and_then(|()| room::write(&room.kept("report.tsv"), &report.tsv()));
+    let stored = room::write(room, &room.kept("report.txt"), &report.text())
+        .and_then(|()| room::write(room, &room.kept("report.tsv"), &report.tsv()));
     match (request.quiet, request.tsv) {
         (true, _) => {}
         (false, true) => print(&report.tsv())?,
@@ -266,7 +266,7 @@ fn check(request: &Night, room: &Room, engine: &mut Engine, all: &Listed) -> Res
         "{equal} {} equal\n",
         if equal == 1 { "take" } else { "takes" }
     );
-    room::write(&room.kept("checked.txt"), &lines)?;
+    room::write(room, &room.kept("checked.txt"), &lines)?;
     if !request.quiet {
         print(&lines)?;
     }

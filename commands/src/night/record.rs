@@ -1,6 +1,7 @@
 //! What was said of a take: a line for each figure, `name value`.
 
-use super::{room, version};
+use super::room::{self, Room};
+use super::version;
 use std::fs::{self, Metadata};
 use std::os::unix::fs::MetadataExt;
 use std::path::Path;
@@ -157,8 +158,8 @@ impl Record {
         Record::of(&fs::read_to_string(name).ok()?)
     }
 
-    pub fn write(&self, name: &Path) -> Result<(), End> {
-        room::write(name, &self.text())
+    pub fn write(&self, room: &Room, take: &Path) -> Result<(), End> {
+        room::write(room, &room.said(take), &self.text())
     }
 
     /// Whether it is of the take as it is now.

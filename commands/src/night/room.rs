@@ -17,6 +17,9 @@ pub const KEPT: &str = ".night";
 pub const NOT_ITS_OWN: &str =
     "it exists, and this night did not make it: move it away, or delete it";
 
+/// What was being written when somebody was killed.
+const PARTS: &str = "parts";
+
 pub struct Room {
     pub from: PathBuf,
     pub to: PathBuf,
@@ -113,12 +116,12 @@ pub fn made(folder: &Path) -> Result<(), End> {
     fs::create_dir_all(folder).map_err(|error| failed(folder, &error))
 }
 
-/// A small file, whole or not there.
-pub fn write(name: &Path, text: &str) -> Result<(), End> {
-    let folder = name.parent().unwrap_or(Path::new("."));
-    made(folder)?;
-    // the name may be as long as names can be: the other one stands by itself
-    let part = folder.join(format!(".night-{}.part", std::process::id()));
+/// A small file, whole or not there. What is not whole stands apart, under the name of the machine and the process that write it.
+pub fn write(room: &Room, name: &Path, text: &str) -> Result<(), End> {
+    made(name.parent().unwrap_or(Path::new(".")))?;
+    let parts = room.kept(PARTS);
+    made(&parts)?;
+    let part = parts.join(format!("{}-{}", machine(), std::process::id()));
     let written = fs::write(&part, text).and_then(|()| fs::rename(&part, name));
     written.map_err(|error| {
         let _ = fs::remove_file(&part);
@@ -147,6 +150,8 @@ pub fn lock(room: &Room) -> Result<Lock, End> {
         let why = format!("{to}: another night is at work there: {}", by.trim_end());
         return Err(End::File(why));
     }
+    // nobody writes there now
+    let _ = fs::remove_dir_all(room.kept(PARTS));
     let text = format!("process {} on {}\n", std::process::id(), machine());
     file.set_len(0).map_err(unmade)?;
     file.write_all(text.as_bytes()).map_err(unmade)?;
@@ -218,7 +223,7 @@ pub fn settle(room: &Room, request: &Night, version: &str) -> Result<(), End> {
     if let Some(bytes) = song {
         fs::write(&kept_song, bytes).map_err(|error| failed(&kept_song, &error))?;
     }
-    write(&name, &now)
+    write(room, &name, &now)
 }
 
 /// Only what differs is said.

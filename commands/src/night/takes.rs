@@ -107,7 +107,7 @@ fn together(takes: &[Take], most: usize) -> Vec<Job> {
 /// The list, a line for each job.
 pub fn write(room: &Room, jobs: &[Job]) -> Result<(), End> {
     let lines: String = jobs.iter().map(|job| job.line() + "\n").collect();
-    room::write(&room.kept("list"), &lines)
+    room::write(room, &room.kept("list"), &lines)
 }
 
 #[cfg(test)]

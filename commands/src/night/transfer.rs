@@ -59,7 +59,7 @@ impl Transfer {
             });
         }
         made(&room.kept("back"))?;
-        write(&room.kept("sent"), &lines)?;
+        write(room, &room.kept("sent"), &lines)?;
         Ok(Transfer { sent })
     }
 
@@ -113,7 +113,7 @@ fn refuse(room: &Room, take: &Path, why: String) -> Result<(), End> {
         said: vec![why],
         ..Record::default()
     };
-    record.write(&room.said(take))
+    record.write(room, take)
 }
 
 /// A take that is back, where all of it is. What was said is stored before OUT has its place, so that OUT is known for the night's own.
@@ -144,7 +144,7 @@ fn one(room: &Room, sent: &Sent, back: &Path, number: usize) -> Option<Record> {
         )];
     }
     let stored = record
-        .write(&room.said(&sent.take))
+        .write(room, &sent.take)
         .and_then(|()| match record.state {
             State::Done => moved(room, &sent.take, &came, &copy, &record),
             _ => Ok(()),
@@ -152,7 +152,7 @@ fn one(room: &Room, sent: &Sent, back: &Path, number: usize) -> Option<Record> {
     if let Err(End::File(why)) = stored {
         record.state = State::Failed;
         record.said = vec![why];
-        let _ = record.write(&room.said(&sent.take));
+        let _ = record.write(room, &sent.take);
     }
     Some(record)
 }

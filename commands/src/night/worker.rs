@@ -17,7 +17,6 @@ use std::time::Instant;
 use words::coded::coded;
 use words::end::{failed, no, shown, End, FILE, REFUSED};
 use words::request::{Night, Take as Settings};
-use words::signals::{ended, note_all};
 use words::standard::print;
 
 /// The scale of all twelve notes.
@@ -26,24 +25,22 @@ const ALL: u32 = 4095;
 const CLIPPED: usize = 3;
 
 /// Tunes these takes, and prints a line when one has ended: its name, coded, and how it stands. One that fails makes the status 3, so that
-/// the engine tries the job once more; what is done by then is passed over.
+/// the engine tries the job once more; what is done by then is passed over. A signal ends it at once, and the command that it has started
+/// with it.
 pub fn run(request: &Night, takes: &[PathBuf]) -> Result<(), End> {
-    note_all();
     super::with_parent();
     let room = Room::of(request);
     let mut worst = None;
     for take in takes {
-        ended()?;
         let record = match one(request, &room, take) {
             Ok(record) => record,
-            Err(end @ End::Signal(_)) => return Err(end),
             Err(end) => failure(&room, take, &end),
         };
         if record.state == State::Failed {
             worst = Some(FILE);
         }
         // what cannot be stored was not said: the next run begins the take anew
-        if let Err(end) = record.write(&room.said(take)) {
+        if let Err(end) = record.write(&room, take) {
             end.say(PROGRAM);
             worst = Some(FILE);
         }
@@ -94,7 +91,7 @@ fn one(request: &Night, room: &Room, take: &Path) -> Result<Record, End> {
     };
     made(out.parent().unwrap_or(Path::new(".")))?;
     // from here on OUT is this night's, whatever ends it before it has said so
-    record.write(&room.said(take))?;
+    record.write(room, take)?;
     let begun = Instant::now();
     let mut tuned = match (there, record.own) {
         (true, false) => passed_over(request, room, take)?,
@@ -182,7 +179,6 @@ fn run_command(words: &[&str], options: &[String], files: &[&Path]) -> Result<Sa
         .arg("--")
         .args(files);
     let done = command.output().map_err(|error| failed(&program, &error))?;
-    ended()?;
     let [printed, said] =
         [&done.stdout, &done.stderr].map(|text| String::from_utf8_lossy(text).into_owned());
     let (rows, said) = (lines(&printed), lines(&said));
@@ -299,7 +295,6 @@ fn mended(from: &Path, copy: &Path) -> Result<Option<String>, End> {
     let program = own_program()?;
     let done = child(&program).args(["mend", "--"]).arg(copy).output();
     let done = done.map_err(|error| failed(&program, &error))?;
-    ended()?;
     let sizes = String::from_utf8_lossy(&done.stdout);
     let sizes = sizes.lines().filter_map(|line| {
         let mut fields = line.split('\t');
@@ -326,7 +321,7 @@ fn look_at(request: &Night, read: &Path, record: &mut Record) -> Result<(), End>
     let mut clipping = Clipping::default();
     source.blocks(PROGRAM, &take, |_, sung| {
         sung.iter().for_each(|sample| clipping.sample(*sample));
-        ended()
+        Ok(())
     })?;
     record.clipped = clipping.clipped;
     source.unchanged()
@@ -376,11 +371,9 @@ impl Clipping {
 
 /// Checks these takes, and prints a line for each: its name, coded, and equal or what differs.
 pub fn check(request: &Night, takes: &[PathBuf]) -> Result<(), End> {
-    note_all();
     super::with_parent();
     let room = Room::of(request);
     for take in takes {
-        ended()?;
         let found = check_one(request, &room, take)?;
         print(&format!("{}\t{found}\n", coded(take)))?;
     }
@@ -402,7 +395,6 @@ fn check_one(request: &Night, room: &Room, take: &Path) -> Result<String, End> {
         .arg(read)
         .arg(room.out(take));
     let done = command.output().map_err(|error| failed(&program, &error))?;
-    ended()?;
     let [printed, said] =
         [&done.stdout, &done.stderr].map(|text| String::from_utf8_lossy(text).into_owned());
     Ok(match done.status.success() {
