@@ -14,7 +14,6 @@ use Rattle.rules.specs.Rules.{scaleMode, cdRate, longestBlock}
 use Rattle.one.specs.declared.Tuner.{Tuner}
 use Rattle.one.specs.declared.Answer.{Answer}
 use Rattle.one.specs.Tuners.{Took, Started, Changed, Reset, Keyed}
-use Rattle.one.specs.Following.{four as outputs}
 use Rattle.text.specs.Text.{fields, number, sample, decimal, sampleFields, Put}
 
 -- ---- what a line says
@@ -178,7 +177,7 @@ StartsAnew d hertz s t′ v = Started hertz s (d .tuner .numbers .listed) [] (d 
 
 -- the lead's output alone is lent to a block, so that a tuner with voices answers 4
 abbrev pub alone : List ℤ → List (List ℤ)
-alone ys = outputs ys [] [] []
+alone ys = ys ∷ [] ∷ [] ∷ [] ∷ []
 
 abbrev pub TookAlone : Desk → ℕ → List ℤ → Desk → Answer → List ℤ → Type 0
 TookAlone d k xs d′ a ys = Took (d .tuner) k xs (alone (replicate longestBlock (pos 0))) (d .store) (d′ .tuner) a (alone ys) (d′ .store)

@@ -34,10 +34,10 @@ pub struct Replies {
 }
 
 // A number read from a field, where ok, and the place after the field.
-pub struct NumberField {
-    pub ok: bool,
-    pub value: u32,
-    pub to: usize,
+struct NumberField {
+    ok: bool,
+    value: u32,
+    to: usize,
 }
 
 // A sample read from a field, where ok, and the place after the field.
@@ -55,13 +55,13 @@ struct FourSettings {
 }
 
 // How many values were read, where ok.
-pub struct Count {
-    pub ok: bool,
-    pub value: usize,
+struct Count {
+    ok: bool,
+    value: usize,
 }
 
 // The number in the field after the tab at a place.
-pub fn number_field(line: &[u8], at: usize, most: u32) -> NumberField
+fn number_field(line: &[u8], at: usize, most: u32) -> NumberField
     requires { ⌜ at ≤ length (now line) ⌝ }
     ensures { λ r. ⌜ NumberRead most (now (line .entry)) at r ⌝ }
 {
@@ -183,7 +183,7 @@ fn rate_setting(line: &[u8], at: usize) -> Number
 }
 
 // The samples in the fields from a place on.
-pub fn samples_from(line: &[u8], at: usize, xs: &mut [i16; 4096]) -> Count
+fn samples_from(line: &[u8], at: usize, xs: &mut [i16; 4096]) -> Count
     requires { ⌜ (at ≤ length (now line)) × (length (now line) ≤ 8192) × (length (now xs) ≡ 4096) ⌝ }
     ensures { λ r. ⌜ FieldsRead sample (now (line .entry)) at r (now (xs .exit)) ⌝ }
 {
@@ -455,7 +455,7 @@ fn keyboard_word(f: &[u8]) -> u32
 }
 
 // The first word: 1 start, 2 change, 3 block, 4 reset, or one of the keyboard's.
-pub fn word(f: &[u8]) -> u32
+fn word(f: &[u8]) -> u32
     ensures { λ r. ⌜ r ≡ wordOf (now (f .entry)) ⌝ }
 {
     if text::same(f, b"start") {
