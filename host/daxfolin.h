@@ -1,12 +1,12 @@
 /* Daxfolin for C: a proved tuner for one sung voice, mono, 16-bit samples, 44,100 or 48,000 a second, with a list of the notes sung and up
  * to three backing voices.
  *
- * Each function below is proved (crates/onehost): for any bytes in the tuner, any settings, any block and any lengths it comes to an end,
+ * Each function below is proved (crates/host): for any bytes in the tuner, any settings, any block and any lengths it comes to an end,
  * does nothing undefined, and answers as said here. It takes no memory of its own but under 16 KB of stack, has no state outside the tuner,
  * and calls nothing but memcpy and memset. The archive is for x86-64 Linux:
  *
- *     tools/library                                 proves it and writes target/staticlib/libonehost.a
- *     cc -std=c11 -Ihost program.c target/staticlib/libonehost.a
+ *     tools/library                                 proves it and writes target/staticlib/libhost.a
+ *     cc -std=c11 -Ihost program.c target/staticlib/libhost.a
  *
  * or host/build program.c OUT, also where the processor is another one (docs/HOST.md).
  *

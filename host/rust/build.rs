@@ -6,7 +6,7 @@ use std::path::PathBuf;
 fn main() {
     println!("cargo:rerun-if-env-changed=DAXFOLIN_LIB");
     let (place, names): (&str, &[&str]) = match std::env::var("CARGO_CFG_TARGET_ARCH").as_deref() {
-        Ok("x86_64") => ("staticlib", &["onehost", "files"]),
+        Ok("x86_64") => ("staticlib", &["host", "files"]),
         _ => ("native", &["daxfolin"]),
     };
     let folder = match std::env::var_os("DAXFOLIN_LIB") {

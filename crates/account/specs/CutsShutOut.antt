@@ -16,19 +16,22 @@ use Rattle.rules.specs.Sane.{fresh-sane}
 use Rattle.rules.specs.Position.{behind-in-bounds, in-bounds-behind}
 use Rattle.keyboard.specs.Playing.{fresh-in}
 use Rattle.history.specs.History.{sample, new-settings, Course, happened, courseAfter}
+use Rattle.lists.specs.Folds.{later-in}
 use Rattle.history.specs.Courses.{CourseIn, happened-in}
 use Rattle.pitch.specs.declared.Pitch.{Pitch as KeptPitch}
 use Rattle.pitch.specs.Pitches.{PitchRight, trackingOf}
 use Rattle.pitch.specs.Keeping.{listed-right, kept-right}
-use Rattle.record.specs.Records.{soundOf, noLast}
-use Rattle.answers.specs.declared.Answer.{Answer}
-use Rattle.tuner.specs.declared.Tuner.{Tuner}
-use Rattle.tuner.specs.Tuners.{Good, withSettings, Verdict, taken, Took}
+use Rattle.record.specs.Records.{soundOf}
 use Rattle.record.specs.Kept.{right-alike}
-use Rattle.account.specs.Cutting.{newest, tunerAfter}
-use Rattle.account.specs.Following.{newest-sound, kept-newest, block-after}
+use Rattle.tuner.specs.declared.Tuner.{Tuner}
+use Rattle.tuner.specs.declared.Answer.{Answer}
+use Rattle.tuner.specs.Tuners.{Good, silentTuner, freshNumbers, defaultTuner, parts, Roomy, Verdict, taken, Took, withKeys}
+use Rattle.staying.specs.Staying.{default-stays}
+use Rattle.account.specs.Cutting.{newest, leadAfter}
+use Rattle.account.specs.Newest.{newest-sound, kept-newest}
+use Rattle.account.specs.Following.{block-after}
 use Rattle.account.specs.Wrong.{Done, Program}
-use Rattle.account.specs.WrongCuts.{StepsByPlace, SearchesAtTheEnd, SettingsLate, wave, toneFor, searchingTone, foundTone, searchingTuner, foundTuner, oneSample, sixSamples, loudOnly, TriedCuts, CutsShutOut}
+use Rattle.account.specs.WrongCuts.{StepsByPlace, SearchesAtTheEnd, SettingsLate, changed, wave, toneFor, searchingTone, foundTone, searchingTuner, foundTuner, oneSample, sixSamples, loudOnly, TriedCuts, CutsShutOut}
 use Rattle.account.specs.ShutOut.{tuner-is, gives-it}
 
 -- ---- what the rules make of the tone: its period, 24 samples; with the other settings it is lost
@@ -74,35 +77,43 @@ softened-in = happened-in (new-settings loudOnly) found-in refl
 
 -- after a take that is longer than what is kept
 module _ {c : Course} (i : CourseIn c) (long : 1792 ≤ c .take .count) (short : c .take .count ≤ 1804) where
-  long-good : Good (tunerAfter c noLast)
-  unfolding tunerAfter noLast
+  long-good : Good (leadAfter c defaultTuner)
+  unfolding leadAfter silentTuner freshNumbers
   long-good =
       let t = c .take in
+      let u = default-stays .0 in
       record {
-        settings = i .settings;
-        hertz = i .hertz;
-        keyboard = i .keyboard;
-        heard =
+        layout = refl;
+        lead =
             record {
-              count = omega arith;
-              before = λ j h. absurd (omega arith);
-              eighthsBefore = λ j h. absurd (omega arith);
-              sums = right-alike (λ k h. sym (newest-sound keptEighths (t .eighths) k (omega arith))) (listed-right (t .eighths) 2 eighthLags);
+              settings = i .settings;
+              hertz = i .hertz;
+              keyboard = i .keyboard;
+              heard =
+                  record {
+                    count = omega arith;
+                    before = λ j h. absurd (omega arith);
+                    eighthsBefore = λ j h. absurd (omega arith);
+                    sums = right-alike (λ k h. sym (newest-sound keptEighths (t .eighths) k (omega arith))) (listed-right (t .eighths) 2 eighthLags);
+                  };
+              pitch = subst (PitchRight (soundOf (newest keptSamples (t .sound)))) (kept-newest (t .pitch) (t .sound) (i .take .pitch)) (kept-right (t .pitch) _ (i .take .pitch));
+              head = record { behind = in-bounds-behind (i .take .bounds) .near };
+              last = record { length = omega arith; within = omega arith };
             };
-        pitch = subst (PitchRight (soundOf (newest keptSamples (t .sound)))) (kept-newest (t .pitch) (t .sound) (i .take .pitch)) (kept-right (t .pitch) _ (i .take .pitch));
-        head = record { behind = in-bounds-behind (i .take .bounds) .near };
-        last = record { length = omega arith; within = omega arith };
+        listed = u .listed;
+        list = later-in (omega arith) (u .list);
+        voices = u .voices;
       }
 
   module _ (xs : List ℤ) (some : 0 < length xs) (few : length xs ≤ 6) where
-    long-taken : Verdict (tunerAfter c noLast) 0 xs (length xs) 0
-    unfolding tunerAfter noLast
-    long-taken = taken (record { good = long-good; nonempty = some; most = omega arith; written = omega arith }) (λ l. omega arith) refl (omega arith)
+    long-taken : Verdict (leadAfter c defaultTuner) 0 xs (xs ∷ []) 0
+    unfolding leadAfter silentTuner freshNumbers Roomy parts
+    long-taken = taken (record { good = long-good; nonempty = some; most = omega arith; room = (omega arith, tt) }) (λ l. omega (arith, l .0)) refl (omega arith)
 
     -- what keeps the promise takes the block, and leaves the period that the rules find
-    long-gives : {t′ : Tuner} {a : Answer} {zs : List ℤ} → Took (tunerAfter c noLast) 0 xs xs t′ a zs → (a .number ≤ 1) × (t′ .pitch .tone .period ≡ periodAfter c xs)
-    unfolding tunerAfter
-    long-gives p = (gives-it long-taken p, ap (λ (u : Tuner). u .pitch .tone .period) (tuner-is long-taken p ∙ block-after i noLast 0 xs))
+    long-gives : {t′ : Tuner} {a : Answer} {zs : List ℤ} → Took (leadAfter c defaultTuner) 0 xs (xs ∷ []) [] t′ a (zs ∷ []) [] → (a .number ≤ 1) × (t′ .numbers .pitch .tone .period ≡ periodAfter c xs)
+    unfolding leadAfter
+    long-gives p = (gives-it long-taken p, ap (λ (u : Tuner). u .numbers .pitch .tone .period) (tuner-is long-taken p ∙ block-after i defaultTuner xs 0 []))
 
 -- ---- each of the list
 module _ {q : Program} (tried : TriedCuts q) where
@@ -113,27 +124,27 @@ module _ {q : Program} (tried : TriedCuts q) where
   one = q foundTuner 0 oneSample oneSample
 
   abbrev soft : Done
-  soft = q (withSettings foundTuner loudOnly) 0 oneSample oneSample
+  soft = q (changed foundTuner loudOnly) 0 oneSample oneSample
 
-  six-gives : (six .answer .number ≤ 1) × (six .tuner .pitch .tone .period ≡ periodAfter searchingTone sixSamples)
+  six-gives : (six .answer .number ≤ 1) × (six .tuner .numbers .pitch .tone .period ≡ periodAfter searchingTone sixSamples)
   unfolding toneFor
   six-gives = long-gives searching-in (omega arith) (omega arith) sixSamples (omega arith) (omega arith) (tried .searches)
 
-  one-gives : (one .answer .number ≤ 1) × (one .tuner .pitch .tone .period ≡ periodAfter foundTone oneSample)
+  one-gives : (one .answer .number ≤ 1) × (one .tuner .numbers .pitch .tone .period ≡ periodAfter foundTone oneSample)
   unfolding toneFor
   one-gives = long-gives found-in (omega arith) (omega arith) oneSample (omega arith) (omega arith) (tried .steps)
 
-  soft-gives : (soft .answer .number ≤ 1) × (soft .tuner .pitch .tone .period ≡ periodAfter softened oneSample)
-  unfolding toneFor courseAfter happened tunerAfter
-  soft-gives = long-gives softened-in (omega arith) (omega arith) oneSample (omega arith) (omega arith) (tried .changed)
+  soft-gives : (soft .answer .number ≤ 1) × (soft .tuner .numbers .pitch .tone .period ≡ periodAfter softened oneSample)
+  unfolding toneFor courseAfter happened leadAfter withKeys
+  soft-gives = long-gives softened-in (omega arith) (omega arith) oneSample (omega arith) (omega arith) (tried .otherwise)
 
   not-by-place : StepsByPlace q → ⊥
-  unfolding toneFor tunerAfter noTone trackingOf
+  unfolding toneFor leadAfter noTone trackingOf
   not-by-place all =
       let kept = ap (λ (o : Tone). o .period) (all foundTuner 0 oneSample oneSample (one-gives .0) (omega arith) refl) in omega (arith, kept, one-gives .1, period-tracked .0)
 
   not-at-the-end : SearchesAtTheEnd q → ⊥
-  unfolding toneFor tunerAfter trackingOf
+  unfolding toneFor leadAfter trackingOf
   not-at-the-end all = omega (arith, all searchingTuner 0 sixSamples sixSamples (six-gives .0) refl, six-gives .1, period-found)
 
   not-late : SettingsLate q → ⊥

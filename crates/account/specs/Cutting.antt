@@ -1,20 +1,18 @@
--- The cutting of a take does not matter: but for its last block, a tuner is what happened in its take. Definitions only, and three statements (`TunerTheorem`, `CuttingTheorem`, `FreshTheorem`); their proofs are `tuner-holds`, `cutting-holds` and `fresh-holds` in Holds.antt.
+-- The cutting of a take does not matter, nor do the voices beside it: but for its last block, the lead of a tuner is what happened in its take. Definitions only, and three statements (`LeadTheorem`, `CuttingTheorem`, `ListCutting`); their proofs are `lead-holds` and `cutting-holds` in Holds.antt, and `list-cutting` in Lists.antt.
 use mathlib.Core.Path.{_≡_}
-use mathlib.Core.List.{List, [], _∷_, map}
-use Prim.Native.Nat.{ℕ, _-_}
-use lib.IntN.{ℤ}
+use mathlib.Core.List.{List, []}
+use Prim.Native.Nat.{ℕ, _+_, _-_, _<_}
+use lib.IntN.{ℤ, natAbs, _-ℤ_}
+use lib.ListN.{getD}
 use Rattle.whole.specs.Numbers.{listOf}
-use Rattle.rules.specs.declared.Settings.{Settings}
-use Rattle.rules.specs.Rules.{Sound, startNumber, keptSamples, keptEighths, eighthLags}
+use Rattle.rules.specs.Rules.{Sound, inputAt, keptSamples, keptEighths, eighthLags}
 use Rattle.rules.specs.Facts.{energiesOf, correlationsOf}
-use Rattle.history.specs.History.{new-settings, byte, Course}
+use Rattle.history.specs.History.{Course}
 use Rattle.pitch.specs.Pitches.{keptOf}
-use Rattle.record.specs.declared.Last.{Last}
-use Rattle.answers.specs.declared.Answer.{Answer}
 use Rattle.meters.specs.declared.Meter.{Meter}
 use Rattle.tuner.specs.declared.Tuner.{Tuner}
-use Rattle.tuner.specs.Tuners.{freshTuner, headOf, Took, Changed, Keyed, Metered}
-use Rattle.account.specs.Account.{Call, Series, Received, begun, courseOf, withEvents, withBlock, received}
+use Rattle.tuner.specs.Tuners.{layoutNumber, voiceAt, standsAt, Metered}
+use Rattle.account.specs.Account.{Call, Series, Received, courseOf, received, Lent}
 
 -- ---- what a tuner is, by what happened in its take
 
@@ -22,68 +20,76 @@ use Rattle.account.specs.Account.{Call, Series, Received, begun, courseO
 abbrev pub newest : ℕ → Sound → List ℤ
 newest n x = listOf (λ (k : ℕ). x (n - 1 - k)) n
 
--- the tuner after a course, with this last block: the stores hold the newest samples, the sums are taken directly, and no other part than the last block knows of blocks
-unfoldable pub tunerAfter : Course → Last → Tuner
-tunerAfter c last =
-    let t = c .take in
+-- the tuner t with the lead of a course: the stores hold the newest samples, the sums are taken directly, and nothing in it knows of blocks; last block, list, voices and outputs are t's
+unfoldable pub leadAfter : Course → Tuner → Tuner
+leadAfter c t =
+    let n = t .numbers in
+    let u = c .take in
     record {
-      settings = c .settings;
-      hertz = c .hertz;
-      keyboard = c .keyboard;
-      heard =
+      numbers =
           record {
-            count = t .count;
-            energies = energiesOf (t .eighths) 2 eighthLags;
-            correlations = correlationsOf (t .eighths) 2 eighthLags;
-            store = newest keptSamples (t .sound);
-            eighths = newest keptEighths (t .eighths);
+            layout = layoutNumber;
+            settings = c .settings;
+            hertz = c .hertz;
+            keyboard = c .keyboard;
+            count = u .count;
+            pitch = keptOf (u .pitch) (u .sound);
+            behind = natAbs (inputAt (u .count) -ℤ u .position);
+            last = n .last;
+            listed = n .listed;
+            chosen = n .chosen;
+            list = n .list;
+            voices = n .voices;
           };
-      pitch = keptOf (t .pitch) (t .sound);
-      head = headOf t;
-      last = last;
+      energies = energiesOf (u .eighths) 2 eighthLags;
+      correlations = correlationsOf (u .eighths) 2 eighthLags;
+      heard = newest keptSamples (u .sound);
+      eighths = newest keptEighths (u .eighths);
+      outs = t .outs;
     }
 
--- after any series of calls
-abbrev pub TunerTheorem : Type 0
-TunerTheorem = (cs : List Call) (t : Tuner) → Series cs t → t ≡ tunerAfter (courseOf (received cs)) (t .last)
+-- after any series of calls the lead is the one that what happened makes, whatever list, voices and last block are beside it
+abbrev pub LeadTheorem : Type 0
+LeadTheorem = (cs : List Call) (t : Tuner) → Series cs t → t ≡ leadAfter (courseOf (received cs)) t
 
 -- ---- two series of calls, cut in two ways
 
--- the same take was received: it began with equal settings at one sample rate, and the same happened in it: the same samples, with changes of settings and keyboard bytes after the same sample and in the same order
+-- the same take was received: it began with equal settings at one sample rate, and the same happened in it: the same samples, with changes of settings and keyboard bytes after the same sample and in the same order. List and voices may differ
 pub record SameTake (r r′ : Received) : Type 0 where
   pub hertz : r .hertz ≡ r′ .hertz
   pub settings : r .settings ≡ r′ .settings
   pub events : r .events ≡ r′ .events
 
--- the same was given: the samples out in total, the summed counts, every reading of the meter, and every part of the record but the last block
-pub record Alike (r r′ : Received) (t t′ : Tuner) : Type 0 where
-  pub written : r .written ≡ r′ .written
-  pub repeated : r .repeated ≡ r′ .repeated
-  pub dropped : r .dropped ≡ r′ .dropped
-  pub meter : {m m′ : Meter} → Metered t m → Metered t′ m′ → m ≡ m′
-  pub settings : t .settings ≡ t′ .settings
-  pub hertz : t .hertz ≡ t′ .hertz
-  pub keyboard : t .keyboard ≡ t′ .keyboard
-  pub heard : t .heard ≡ t′ .heard
-  pub pitch : t .pitch ≡ t′ .pitch
-  pub head : t .head ≡ t′ .head
+-- one of the outputs: 0 is the lead's, 1 the first voice's
+abbrev pub outputAt : List (List ℤ) → ℕ → List ℤ
+outputAt os j = getD os j []
 
--- any two series of calls: blocks of whatever legal lengths, keyboard bytes in whatever calls, with repeats, refused calls and readings of the meter anywhere among them
+-- the same was given: all that was counted, all samples out of the lead, every reading of the meter, and every part of the record but the last block, the list, the voices and the kept outputs
+pub record Alike (r r′ : Received) (t t′ : Tuner) : Type 0 where
+  pub figures : r .figures ≡ r′ .figures
+  pub lead : outputAt (r .wrote) 0 ≡ outputAt (r′ .wrote) 0
+  pub meter : {m m′ : Meter} → Metered t m → Metered t′ m′ → m ≡ m′
+  pub settings : t .numbers .settings ≡ t′ .numbers .settings
+  pub hertz : t .numbers .hertz ≡ t′ .numbers .hertz
+  pub keyboard : t .numbers .keyboard ≡ t′ .numbers .keyboard
+  pub count : t .numbers .count ≡ t′ .numbers .count
+  pub pitch : t .numbers .pitch ≡ t′ .numbers .pitch
+  pub behind : t .numbers .behind ≡ t′ .numbers .behind
+  pub energies : t .energies ≡ t′ .energies
+  pub correlations : t .correlations ≡ t′ .correlations
+  pub heard : t .heard ≡ t′ .heard
+  pub eighths : t .eighths ≡ t′ .eighths
+  -- and wherever the same interval was chosen, the voices wrote the same and stand in one place: a further voice changes nothing
+  pub voices : (i j : ℕ) → i < t .numbers .chosen → j < t′ .numbers .chosen → let v = voiceAt (t .numbers .voices) i in let w = voiceAt (t′ .numbers .voices) j in v .interval ≡ w .interval
+      → (outputAt (r .wrote) (1 + i) ≡ outputAt (r′ .wrote) (1 + j)) × (standsAt t v ≡ standsAt t′ w)
+
+-- any two series of calls that received the same take: in blocks of whatever legal lengths and in nights, with keyboard bytes in whatever calls, repeats, refused calls and readings of the meter anywhere among them, and whatever voices and list there were
 abbrev pub CuttingTheorem : Type 0
 CuttingTheorem = (cs cs′ : List Call) (t t′ : Tuner) → Series cs t → Series cs′ t′ → SameTake (received cs) (received cs′) → Alike (received cs) (received cs′) t t′
 
--- ---- two fresh tuners, all calls taken
-
--- a fresh tuner with these settings at this sample rate, and then any blocks, changes of settings and keyboard bytes, all taken: what it received, and the tuner that it is
-pub data AllTaken (hertz : ℕ) (s : Settings) : Received → Tuner → Type 0 where
-  fresh-tuner : startNumber hertz s ≡ 0 → AllTaken hertz s (begun hertz s) (freshTuner hertz s)
-  then-block : {r : Received} {t t′ : Tuner} {k : ℕ} {xs ys ys′ : List ℤ} {a : Answer}
-      → AllTaken hertz s r t → Took t k xs ys t′ a ys′ → a .number ≡ 0 → AllTaken hertz s (withBlock r xs a ys′) t′
-  then-change : {r : Received} {t t′ : Tuner} {new : Settings} {a : Answer}
-      → AllTaken hertz s r t → Changed t new t′ a → a .number ≡ 0 → AllTaken hertz s (withEvents r (new-settings new ∷ [])) t′
-  then-bytes : {r : Received} {t t′ : Tuner} {bytes : List ℕ} {a : Answer}
-      → AllTaken hertz s r t → Keyed t bytes t′ a → a .number ≡ 0 → AllTaken hertz s (withEvents r (map byte bytes)) t′
-
--- two of them, with the same samples, and with changes and keyboard bytes after the same sample and in the same order, give the same
-abbrev pub FreshTheorem : Type 0
-FreshTheorem = (hertz : ℕ) (s : Settings) (r r′ : Received) (t t′ : Tuner) → AllTaken hertz s r t → AllTaken hertz s r′ t′ → r .events ≡ r′ .events → Alike r r′ t t′
+-- and the list, where both keep one, in equal stores that were lent each time as they were left
+abbrev pub ListCutting : Type 0
+ListCutting =
+    (cs cs′ : List Call) (t t′ : Tuner) (began now now′ : List ℕ)
+    → Series cs t → Series cs′ t′ → SameTake (received cs) (received cs′) → Lent cs began now → Lent cs′ began now′ → (received cs .listed ≡ 0 → ⊥) → (received cs′ .listed ≡ 0 → ⊥)
+    → (t .numbers .list ≡ t′ .numbers .list) × (now ≡ now′)

@@ -5,9 +5,10 @@ use Prim.Native.Nat.{ℕ, _≤_, _<_}
 use lib.IntN.{ℤ, pos, negℤ}
 use lib.ListN.{length, take, replicate}
 use Rattle.pitch.specs.declared.Pitch.{Pitch as KeptPitch}
-use Rattle.answers.specs.declared.Answer.{Answer}
+use Rattle.tuner.specs.declared.Numbers.{Numbers}
 use Rattle.tuner.specs.declared.Tuner.{Tuner}
-use Rattle.tuner.specs.Tuners.{defaultTuner, Took}
+use Rattle.tuner.specs.declared.Answer.{Answer}
+use Rattle.tuner.specs.Tuners.{defaultTuner, withNumbers, Took}
 
 -- ---- programs
 
@@ -17,13 +18,13 @@ pub record Done : Type 0 where
   pub answer : Answer
   pub out : List ℤ
 
--- of a tuner, the block's number and samples, and the output as it was
+-- of a tuner, the block's number and samples, and the lead's output as it was: no other output is lent, and no store
 abbrev pub Program : Type 0
 Program = Tuner → ℕ → List ℤ → List ℤ → Done
 
 -- it keeps the promise of a block on this input
 abbrev pub Keeps : Program → Tuner → ℕ → List ℤ → List ℤ → Type 0
-Keeps q t k xs ys = Took t k xs ys (q t k xs ys .tuner) (q t k xs ys .answer) (q t k xs ys .out)
+Keeps q t k xs ys = Took t k xs (ys ∷ []) [] (q t k xs ys .tuner) (q t k xs ys .answer) (q t k xs ys .out ∷ []) []
 
 -- it takes the block, or gives it again
 abbrev pub Gives : Program → Tuner → ℕ → List ℤ → List ℤ → Type 0
@@ -53,7 +54,7 @@ LeavesAll q = (t : Tuner) (k : ℕ) (xs ys : List ℤ) → (q t k xs ys .out ≡
 
 -- tunes the first block, in whatever way, and passes the rest: where there is a last block, the input comes out
 abbrev pub PassesTheRest : Program → Type 0
-PassesTheRest q = (t : Tuner) (k : ℕ) (xs ys : List ℤ) → 0 < t .last .length → Gives q t k xs ys → written q t k xs ys ≡ xs
+PassesTheRest q = (t : Tuner) (k : ℕ) (xs ys : List ℤ) → 0 < t .numbers .last .length → Gives q t k xs ys → written q t k xs ys ≡ xs
 
 -- invents the repeated and dropped counts: it makes them up from the block alone, whatever the take was before (that no other count keeps the promise either is `took-one`)
 abbrev pub InventsCounts : Program → Type 0
@@ -72,15 +73,30 @@ secondBlock = pos 8 ∷ pos 9 ∷ pos 10 ∷ []
 abbrev pub room : List ℤ
 room = pos 0 ∷ pos 0 ∷ pos 0 ∷ []
 
--- the tuner with another pitch
-abbrev pub withPitch : Tuner → KeptPitch → Tuner
-withPitch t v = record { settings = t .settings; hertz = t .hertz; keyboard = t .keyboard; heard = t .heard; pitch = v; head = t .head; last = t .last }
+-- the numbers with another pitch
+abbrev pub withPitch : Numbers → KeptPitch → Numbers
+withPitch n v =
+    record {
+      layout = n .layout;
+      settings = n .settings;
+      hertz = n .hertz;
+      keyboard = n .keyboard;
+      count = n .count;
+      pitch = v;
+      behind = n .behind;
+      last = n .last;
+      listed = n .listed;
+      chosen = n .chosen;
+      list = n .list;
+      voices = n .voices;
+    }
 
 -- a good record, as a host may hand it in: fresh, but reading at twice the rate, so that the first sample repeats a cycle
 unfoldable pub ahead : Tuner
 ahead =
-    withPitch defaultTuner
-    (record { tracker = record { low = 16; last = 16; e = replicate 8 0; h = replicate 8 (pos 0) }; tone = record { period = 4096; note = 69; rate = 131072; kept = 0 }; tracking = 1 })
+    withNumbers defaultTuner
+    (withPitch (defaultTuner .numbers)
+    (record { tracker = record { low = 16; last = 16; e = replicate 8 0; h = replicate 8 (pos 0) }; tone = record { period = 4096; note = 69; rate = 131072; kept = 0 }; tracking = 1 }))
 
 -- the program keeps the promise on three calls: the whole case's first block, its second, and the first block to the record `ahead`
 pub record Tried (q : Program) : Type 0 where

@@ -10,27 +10,30 @@ use Rattle.rules.specs.declared.Settings.{Settings}
 use Rattle.rules.specs.Rules.{Sound, noPeriod, Mode, searching, tracking, inputAt, cdRate, defaults}
 use Rattle.keyboard.specs.Keys.{fresh}
 use Rattle.history.specs.History.{Course}
-use Rattle.record.specs.Records.{noLast}
 use Rattle.tuner.specs.declared.Tuner.{Tuner}
-use Rattle.tuner.specs.Tuners.{withSettings}
-use Rattle.account.specs.Cutting.{tunerAfter}
+use Rattle.tuner.specs.Tuners.{defaultTuner, withNumbers, withSettings}
+use Rattle.account.specs.Cutting.{leadAfter}
 use Rattle.account.specs.Wrong.{Program, Keeps, Gives}
 
 -- ---- the list
 
 -- tracking steps fall on multiples of 5 of the block's place: a block of fewer samples has none, so a tuner that tracks keeps its tone through it
 abbrev pub StepsByPlace : Program → Type 0
-StepsByPlace q = (t : Tuner) (k : ℕ) (xs ys : List ℤ) → Gives q t k xs ys → length xs < 5 → t .pitch .tracking ≡ 1 → q t k xs ys .tuner .pitch .tone ≡ t .pitch .tone
+StepsByPlace q = (t : Tuner) (k : ℕ) (xs ys : List ℤ) → Gives q t k xs ys → length xs < 5 → t .numbers .pitch .tracking ≡ 1 → q t k xs ys .tuner .numbers .pitch .tone ≡ t .numbers .pitch .tone
 
 -- searches only at a block's end: a tuner that searches has no period yet where the block ends
 abbrev pub SearchesAtTheEnd : Program → Type 0
-SearchesAtTheEnd q = (t : Tuner) (k : ℕ) (xs ys : List ℤ) → Gives q t k xs ys → t .pitch .tracking ≡ 0 → q t k xs ys .tuner .pitch .tone .period ≡ 0
+SearchesAtTheEnd q = (t : Tuner) (k : ℕ) (xs ys : List ℤ) → Gives q t k xs ys → t .numbers .pitch .tracking ≡ 0 → q t k xs ys .tuner .numbers .pitch .tone .period ≡ 0
+
+-- the tuner after a change of its settings
+abbrev pub changed : Tuner → Settings → Tuner
+changed t s = withNumbers t (withSettings (t .numbers) s)
 
 -- settings count from the next block on: the block after a change finds what it would have found without it
 abbrev pub SettingsLate : Program → Type 0
 SettingsLate q =
-    (t : Tuner) (s : Settings) (k : ℕ) (xs ys : List ℤ) → Gives q (withSettings t s) k xs ys → Gives q t k xs ys
-    → q (withSettings t s) k xs ys .tuner .pitch ≡ q t k xs ys .tuner .pitch
+    (t : Tuner) (s : Settings) (k : ℕ) (xs ys : List ℤ) → Gives q (changed t s) k xs ys → Gives q t k xs ys
+    → q (changed t s) k xs ys .tuner .numbers .pitch ≡ q t k xs ys .tuner .numbers .pitch
 
 -- ---- the calls on which they are tried
 
@@ -55,12 +58,12 @@ searchingTone = toneFor 1799 1 searching
 abbrev pub foundTone : Course
 foundTone = toneFor 1804 20 (tracking 21 24)
 
--- good records, as a host may hand them in
+-- good records, as a host may hand them in: last block, list and voices are the default tuner's
 abbrev pub searchingTuner : Tuner
-searchingTuner = tunerAfter searchingTone noLast
+searchingTuner = leadAfter searchingTone defaultTuner
 
 abbrev pub foundTuner : Tuner
-foundTuner = tunerAfter foundTone noLast
+foundTuner = leadAfter foundTone defaultTuner
 
 -- a sample with a step due, and six samples, of which the first has a search due, the last a step
 abbrev pub oneSample : List ℤ
@@ -77,7 +80,7 @@ loudOnly = record { scale = 4095; eps = 100; decay = 0; floor = 1000000; mode = 
 pub record TriedCuts (q : Program) : Type 0 where
   pub searches : Keeps q searchingTuner 0 sixSamples sixSamples
   pub steps : Keeps q foundTuner 0 oneSample oneSample
-  pub changed : Keeps q (withSettings foundTuner loudOnly) 0 oneSample oneSample
+  pub otherwise : Keeps q (changed foundTuner loudOnly) 0 oneSample oneSample
 
 -- it is none of the list
 pub record CutsRight (q : Program) : Type 0 where

@@ -1,1 +1,1 @@
-// What holds after any series of calls. The theorem stands in specs/; there is no code here.
+// The account after any series of calls. The laws stand in specs/; there is no code here.

@@ -9,11 +9,11 @@ use lib.Dec.{ltb}
 use lib.ListN.{length, take, drop, length-append, length-take, length-drop}
 use lib.Seq.{take-all, take-add, drop-drop, length-take-le}
 use Rattle.whole.specs.Tests.{yes-and-no}
-use Rattle.one.specs.declared.Tuner.{Tuner}
-use Rattle.one.specs.Tuners.{defaultTuner}
+use Rattle.tuner.specs.declared.Tuner.{Tuner}
+use Rattle.tuner.specs.Tuners.{defaultTuner}
 use Rattle.text.specs.Places.{put-none}
 use Rattle.lines.specs.Cutting.{all-said-then, room-left}
-use Rattle.one.specs.declared.Answer.{Answer}
+use Rattle.tuner.specs.declared.Answer.{Answer}
 use Rattle.lines.specs.Laws.{no-places}
 use Rattle.lines.specs.Lines.{Desk, desk, Answered, answered, no-room, NoEnd, AllSaid, no-line, line-more, AnsweredAll}
 use Rattle.lines.specs.Serving.{heldOf, AllServed, no-read, one-read, nothing-held, last-line}

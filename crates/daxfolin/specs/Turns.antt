@@ -4,8 +4,8 @@ use mathlib.Core.Bool.{cond}
 use mathlib.Core.List.{List, [], _∷_, _++_}
 use Prim.Native.Nat.{ℕ, _≤_}
 use lib.ListN.{length, take, drop}
-use Rattle.one.specs.declared.Tuner.{Tuner}
-use Rattle.one.specs.Tuners.{defaultTuner}
+use Rattle.tuner.specs.declared.Tuner.{Tuner}
+use Rattle.tuner.specs.Tuners.{defaultTuner}
 use Rattle.text.specs.Text.{Put}
 use Rattle.lines.specs.Lines.{Desk, desk}
 use Rattle.lines.specs.Serving.{heldOf, AllServed, Reads, Ended}

@@ -6,7 +6,7 @@ ghost use mathlib.Core.Path.{_≡_};
 ghost use mathlib.Core.Bool.{true};
 ghost use Rattle.daxfolin.specs.Turns.{Kept, Serves, Answers, OneTurn, Working, Finishes};
 use libc::STDIN_FILENO;
-use one::Tuner;
+use tuner::Tuner;
 
 // The tuner, how many bytes of a line without its end are held, whether to read on, and whether the input came to its end: neither where
 // something failed.

@@ -1,5 +1,8 @@
 pub mod Borrowed
-pub mod Handing
 pub mod Lent
+pub mod Loans
 pub mod Locals
-pub mod Parts
+pub mod Meeting
+pub mod Outs
+pub mod Results
+pub mod Through

@@ -7,7 +7,7 @@ use native.Mathlib.Numerals.{add-one}
 use native.Mathlib.Omega.{arith}
 use lib.ListN.{length, getD, take, drop, length-append, length-drop, drop-of-length-le}
 use lib.Seq.{take-all, take-suc, take-add, drop-drop, length-take-le, getD-take, getD-drop}
-use Rattle.one.specs.declared.Answer.{Answer}
+use Rattle.tuner.specs.declared.Answer.{Answer}
 use Rattle.text.specs.Places.{First, put-none, put-then, put-length}
 use Rattle.text.specs.Text.{Put}
 use Rattle.lines.specs.Lines.{Desk, Answered, answered, no-room, NoEnd, AllSaid, no-line, line-more, AnsweredAll}

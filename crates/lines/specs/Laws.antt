@@ -14,12 +14,12 @@ use lib.Seq.{take-suc-set, length-take-le}
 use Rattle.whole.specs.Tests.{Decides, cond-case, cond-yes, cond-no, yes-and-no, and-left, and-right, by}
 use Rattle.rules.specs.declared.Settings.{Settings}
 use Rattle.rules.specs.Rules.{defaults, cdRate, longestBlock}
-use Rattle.one.specs.declared.Tuner.{Tuner}
-use Rattle.one.specs.declared.Numbers.{Numbers}
-use Rattle.one.specs.declared.Answer.{Answer}
-use Rattle.one.specs.Tuners.{freshTuner, defaultTuner, plain, counted, answerBy, Took, Started}
-use Rattle.one.specs.Following.{four as outputs}
-use Rattle.one.specs.Verdicts.{verdict-fits}
+use Rattle.tuner.specs.declared.Tuner.{Tuner}
+use Rattle.tuner.specs.declared.Numbers.{Numbers}
+use Rattle.tuner.specs.declared.Answer.{Answer}
+use Rattle.tuner.specs.Tuners.{freshTuner, defaultTuner, plain, counted, answerBy, Took, Started}
+use Rattle.tuner.specs.Following.{four as outputs}
+use Rattle.tuner.specs.Verdicts.{verdict-fits}
 use Rattle.text.specs.Text.{fields, number, sample}
 use Rattle.text.specs.Places.{optional, First}
 use Rattle.text.specs.Fields.{later, later-end, later-some, later-field}

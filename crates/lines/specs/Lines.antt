@@ -11,9 +11,9 @@ use Prim.Native.Nat.{_+_}
 use lib.ListN.{length, getD, take, drop, replicate}
 use Rattle.rules.specs.declared.Settings.{Settings}
 use Rattle.rules.specs.Rules.{scaleMode, cdRate, longestBlock}
-use Rattle.one.specs.declared.Tuner.{Tuner}
-use Rattle.one.specs.declared.Answer.{Answer}
-use Rattle.one.specs.Tuners.{Took, Started, Changed, Reset, Keyed}
+use Rattle.tuner.specs.declared.Tuner.{Tuner}
+use Rattle.tuner.specs.declared.Answer.{Answer}
+use Rattle.tuner.specs.Tuners.{Took, Started, Changed, Reset, Keyed}
 use Rattle.text.specs.Text.{fields, number, sample, decimal, sampleFields, Put}
 
 -- ---- what a line says

@@ -5,10 +5,10 @@ use Prim.Native.Nat.{ℕ}
 use native.Mathlib.Omega.{arith}
 use lib.IntN.{ℤ}
 use lib.ListN.{length, getD}
-use Rattle.one.specs.declared.Tuner.{Tuner}
-use Rattle.one.specs.declared.Answer.{Answer}
-use Rattle.one.specs.Starts.{started-one, done-one}
-use Rattle.one.specs.Verdicts.{took-one}
+use Rattle.tuner.specs.declared.Tuner.{Tuner}
+use Rattle.tuner.specs.declared.Answer.{Answer}
+use Rattle.tuner.specs.Starts.{started-one, done-one}
+use Rattle.tuner.specs.Verdicts.{took-one}
 use Rattle.text.specs.Text.{put}
 use Rattle.lines.specs.Lines.{Line, Desk, desk, numbered, numberLine, blockLine, Said, begun, not-begun, changed, taken, begun-again, mode-changed, channel-changed, keyed, not-read, Answered, answered, no-room}
 

@@ -7,7 +7,7 @@ use Prim.Native.Nat.{ℕ, suc, _+_, _≤_}
 use native.Mathlib.Omega.{arith}
 use lib.IntN.{ℤ}
 use lib.ListN.{length, take, length-append}
-use Rattle.one.specs.declared.Answer.{Answer}
+use Rattle.tuner.specs.declared.Answer.{Answer}
 use Rattle.ages.specs.Ages.{Samples}
 use Rattle.text.specs.Text.{onto, fields, sample, decimal, signed, sampleFields}
 use Rattle.text.specs.Spelling.{decimal-short, fields-short}

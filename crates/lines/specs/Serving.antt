@@ -3,7 +3,7 @@ use mathlib.Core.Path.{_≡_}
 use mathlib.Core.List.{List, [], _∷_, _++_}
 use Prim.Native.Nat.{ℕ, _≤_}
 use lib.ListN.{length, take, drop}
-use Rattle.one.specs.declared.Answer.{Answer}
+use Rattle.tuner.specs.declared.Answer.{Answer}
 use Rattle.lines.specs.Lines.{read, Desk, Said, NoEnd, AllSaid}
 
 -- what is held of a line without its end: of one that is too long, one byte too many is enough

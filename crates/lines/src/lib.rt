@@ -1,17 +1,17 @@
 // The line program's lines: a line is read, answered by the tuner's calls, and the answer is written.
-use one::Answer;
-use one::Tuner;
 use rules::CD_RATE;
 use rules::LONGEST_BLOCK;
 use rules::SCALE_MODE;
 use rules::Settings;
 use text::Number;
+use tuner::Answer;
+use tuner::Tuner;
 ghost use mathlib.Core.Path.{_≡_};
 ghost use mathlib.Core.Bool.{false};
 ghost use Prim.Native.Nat.{_+_, _≤_, _<_};
 ghost use lib.ListN.{length};
 ghost use Rattle.rules.specs.Rules.{longestBlock};
-ghost use Rattle.one.specs.Tuners.{defaultTuner};
+ghost use Rattle.tuner.specs.Tuners.{defaultTuner};
 ghost use Rattle.text.specs.Text.{fields, number, sample, Put};
 ghost use Rattle.text.specs.Places.{optional};
 ghost use Rattle.text.specs.Fields.{later};
@@ -306,7 +306,7 @@ fn start_line(t: Tuner, line: &[u8], at: usize, out: &mut [u8], store: &[u32]) -
         return unreadable(t, out);
     }
     let voices = [0i32; 0];
-    let d = one::start(rate.value, s.settings, t.numbers.listed, &voices, store);
+    let d = tuner::start(rate.value, s.settings, t.numbers.listed, &voices, store);
     if d.number == 0 {
         let u = d.tuner;
         return say(u, d.number, true, out);
@@ -519,7 +519,7 @@ pub fn opening() -> Tuner
     let s = record::default_settings();
     let voices = [0i32; 0];
     let store = [0u32; 0];
-    let d = one::start(CD_RATE, s, 0, &voices, &store);
+    let d = tuner::start(CD_RATE, s, 0, &voices, &store);
     d.tuner
 }
 

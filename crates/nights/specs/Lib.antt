@@ -1,3 +1,3 @@
-pub mod Nights
-pub mod Going
+pub mod Night
 pub mod Ones
+pub mod Going

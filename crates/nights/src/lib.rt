@@ -1,28 +1,29 @@
-// A night's blocks in one call: a recording is lent, and all its blocks are taken as by the single calls.
-use answers::Answer;
-use keyboard::Keyboard;
-use pitch::Pitch;
-use record::Head;
-use record::Heard;
-use record::Last;
+// A night's blocks in one call: a recording is lent, and all its blocks are taken as by the single calls. Numbers go by value, arrays are lent.
+use lists::Listing;
 use rules::EIGHTH_LAGS;
 use rules::KEPT_EIGHTHS;
 use rules::KEPT_SAMPLES;
 use rules::LONGEST_BLOCK;
-use rules::Settings;
-use tuner::LastNumbers;
+use tuner::Answer;
+use tuner::KEPT_OUTS;
 use tuner::Left;
+use tuner::Numbers;
 use tuner::Tuner;
 ghost use mathlib.Core.Path.{_≡_};
-ghost use Prim.Native.Nat.{_+_, _*_, _≤_, _<_, min};
-ghost use lib.ListN.{length, take, drop};
+ghost use Prim.Native.Nat.{_+_, _≤_, _<_, min};
+ghost use lib.ListN.{length};
 ghost use Rattle.whole.specs.Tests.{Decides};
-ghost use Rattle.rules.specs.Rules.{takeLimit};
-ghost use Rattle.nights.specs.Nights.{noNight, refusedNight, added, numberAfter, stretches, OneByOne, Nighted};
-ghost use Rattle.nights.specs.Going.{Few, leftOf, Ready, Verdict, Went};
+ghost use Rattle.rules.specs.Rules.{takeLimit, longestBlock};
+ghost use Rattle.record.specs.Parts.{heardOf, Stores};
+ghost use Rattle.tuner.specs.declared.Numbers.{Numbers};
+ghost use Rattle.tuner.specs.Parted.{tunerOf};
+ghost use Rattle.tuner.specs.Following.{four};
+ghost use Rattle.tuner.specs.Tuners.{Good, keptPlaces, parts, Roomy, Took};
+ghost use Rattle.nights.specs.Night.{noNight, added, stretches, OneByOne, Nighted};
+ghost use Rattle.nights.specs.Going.{Small, tunerBy, rowsBy, Ready, Went, Refuses};
 
-// The number that refused, or 0, and of 5, 6 and 7 the number of the block that was refused; how many blocks were taken, and their counts added up; and
-// the first block's answer where it was given again, else 0.
+// The number that refused, or 0, and the block's; how many blocks were taken, and what their answers count added up; the answer to a first block that was given
+// again, else 0; and the list that is then kept. 88 bytes.
 #[repr(C)]
 pub struct NightAnswer {
     pub number: u32,
@@ -31,25 +32,36 @@ pub struct NightAnswer {
     pub written: u64,
     pub repeated: u64,
     pub dropped: u64,
+    pub pitched: u64,
+    pub strayed: u64,
     pub again: Answer,
+    pub rows: u32,
+    pub left: u32,
 }
 
+// What a night leaves beside the lent arrays, and its answer.
+pub struct NightLeft {
+    pub numbers: Numbers,
+    pub answer: NightAnswer,
+}
+
+// What a night leaves, and its answer.
 pub struct NightTaken {
     pub tuner: Tuner,
     pub answer: NightAnswer,
 }
 
-// How far a night has come: what the last block left beside the arrays, the answer so far, the next block's number, and the place where it begins.
+// How far a night has come: the numbers that the last block left, the answer so far, the next block's number, and the place where it begins.
 pub struct Reached {
-    pub left: Left,
+    pub numbers: Numbers,
     pub answer: NightAnswer,
     pub next: u16,
     pub at: usize,
 }
 
-// The answer with this number, and nothing taken.
-pub fn refused_night(number: u32) -> NightAnswer
-    ensures { λ r. ⌜ r ≡ refusedNight number ⌝ }
+// The answer with this number: nothing was taken and nothing given again.
+fn no_night(number: u32, list: Listing) -> NightAnswer
+    ensures { λ r. ⌜ ((n : Numbers) → n .list ≡ list → r ≡ noNight number n) ⌝ }
 {
     NightAnswer {
         number: number,
@@ -58,51 +70,51 @@ pub fn refused_night(number: u32) -> NightAnswer
         written: 0,
         repeated: 0,
         dropped: 0,
-        again: answers::plain(0),
+        pitched: 0,
+        strayed: 0,
+        again: Answer {
+            number: 0,
+            written: 0,
+            repeated: 0,
+            dropped: 0,
+            pitched: 0,
+            strayed: 0,
+            rows: 0,
+            left: 0,
+        },
+        rows: list.rows,
+        left: list.left,
     }
 }
 
 // One single call more, of the block with this number.
-pub fn add(n: NightAnswer, number: u16, a: Answer) -> NightAnswer
-    requires { ⌜ Few takeLimit n ⌝ }
-    ensures { λ r. ⌜ (r ≡ added n number a) × (a .repeated < 65536) × (a .dropped < 65536) ⌝ }
+fn add(n: NightAnswer, number: u16, a: Answer) -> NightAnswer
+    requires { ⌜ Small n × (n .taken ≤ takeLimit) ⌝ }
+    ensures { λ r. ⌜ (r ≡ added n number a) × Small r ⌝ }
 {
-    let again = n.again;
+    let mut r = n;
+    r.rows = a.rows;
+    r.left = a.left;
     if a.number == 0 {
-        return NightAnswer {
-            number: n.number,
-            refused: n.refused,
-            taken: n.taken + 1,
-            written: n.written + a.written as u64,
-            repeated: n.repeated + a.repeated as u64,
-            dropped: n.dropped + a.dropped as u64,
-            again: again,
-        };
+        r.taken = n.taken + 1;
+        r.written = n.written + a.written as u64;
+        r.repeated = n.repeated + a.repeated as u64;
+        r.dropped = n.dropped + a.dropped as u64;
+        r.pitched = n.pitched + a.pitched as u64;
+        r.strayed = n.strayed + a.strayed as u64;
+        return r;
     }
     if a.number == 1 {
-        return NightAnswer {
-            number: n.number,
-            refused: n.refused,
-            taken: n.taken,
-            written: n.written,
-            repeated: n.repeated,
-            dropped: n.dropped,
-            again: a,
-        };
+        r.again = a;
+        return r;
     }
-    NightAnswer {
-        number: a.number,
-        refused: number,
-        taken: n.taken,
-        written: n.written,
-        repeated: n.repeated,
-        dropped: n.dropped,
-        again: again,
-    }
+    r.number = a.number;
+    r.refused = number;
+    r
 }
 
 // The place behind a block that begins at a place.
-pub fn end_of(at: usize, size: usize, length: usize) -> usize
+fn end_of(at: usize, size: usize, length: usize) -> usize
     requires { ⌜ at ≤ length ⌝ }
     ensures { λ r. ⌜ r ≡ min (at + size) length ⌝ }
 {
@@ -113,111 +125,193 @@ pub fn end_of(at: usize, size: usize, length: usize) -> usize
 }
 
 // The night goes on: a block is left, and none was refused.
-pub fn goes_on(g: Reached, length: usize) -> bool
-    ensures { λ r. ⌜ Decides r ((g .at < length) × (g .answer .number ≡ 0)) ⌝ }
+fn goes_on(number: u32, at: usize, length: usize) -> bool
+    ensures { λ r. ⌜ Decides r ((at < length) × (number ≡ 0)) ⌝ }
 {
-    if g.at < length {
-        return g.answer.number == 0;
+    if at < length {
+        return number == 0;
     }
     false
 }
 
-// The next block.
-fn next(
-    settings: Settings,
-    hertz: u64,
-    keys: Keyboard,
+// A block with the number 0 is taken; any other leaves numbers, arrays and store as they were.
+fn taken_by(
+    verdict: u32,
+    n: Numbers,
     energies: &mut [u64; EIGHTH_LAGS],
     correlations: &mut [i64; EIGHTH_LAGS],
-    store: &mut [i16; KEPT_SAMPLES],
+    heard: &mut [i16; KEPT_SAMPLES],
     eighths: &mut [i16; KEPT_EIGHTHS],
-    kept: &mut [i16; LONGEST_BLOCK],
+    outs: &mut [i16],
+    number: u16,
+    samples: &[i16],
+    store: &mut [u32],
+) -> Numbers
+    requires good { ⌜ Good (tunerOf n (now energies) (now correlations) (now heard) (now eighths) (now outs)) × Stores (heardOf (n .count) (now energies) (now correlations) (now heard) (now eighths)) × (length (now outs) ≡ keptPlaces) ⌝ }
+    requires fits { ⌜ (verdict ≡ 0 → (0 < length (now samples)) × (length (now samples) ≤ longestBlock) × (n .count + length (now samples) ≤ takeLimit)) ⌝ }
+    ensures tuner { λ r. ⌜ tunerOf r (now (energies .exit)) (now (correlations .exit)) (now (heard .exit)) (now (eighths .exit)) (now (outs .exit))
+        ≡ tunerBy verdict (tunerOf n (now (energies .entry)) (now (correlations .entry)) (now (heard .entry)) (now (eighths .entry)) (now (outs .entry))) number (now (samples .entry)) (now (store .entry)) ⌝ }
+    ensures rows { λ r. ⌜ now (store .exit) ≡ rowsBy verdict (tunerOf n (now (energies .entry)) (now (correlations .entry)) (now (heard .entry)) (now (eighths .entry)) (now (outs .entry))) (now (samples .entry)) (now (store .entry)) ⌝ }
+    ensures stores { λ r. ⌜ Stores (heardOf (r .count) (now (energies .exit)) (now (correlations .exit)) (now (heard .exit)) (now (eighths .exit))) × (length (now (outs .exit)) ≡ keptPlaces) ⌝ }
+{
+    if verdict != 0 {
+        return n;
+    }
+    tuner::take(
+        n,
+        energies,
+        correlations,
+        heard,
+        eighths,
+        outs,
+        number,
+        samples,
+        store,
+    )
+}
+
+// A block to a good record, with room in each output that is asked for: taken, given again or refused, and no part of the record is tested.
+fn block(
+    n: Numbers,
+    energies: &mut [u64; EIGHTH_LAGS],
+    correlations: &mut [i64; EIGHTH_LAGS],
+    heard: &mut [i16; KEPT_SAMPLES],
+    eighths: &mut [i16; KEPT_EIGHTHS],
+    outs: &mut [i16],
+    number: u16,
+    samples: &[i16],
+    out: &mut [i16],
+    first: &mut [i16],
+    second: &mut [i16],
+    third: &mut [i16],
+    store: &mut [u32],
+) -> Left
+    requires good { ⌜ Good (tunerOf n (now energies) (now correlations) (now heard) (now eighths) (now outs)) × Stores (heardOf (n .count) (now energies) (now correlations) (now heard) (now eighths)) × (length (now outs) ≡ keptPlaces) ⌝ }
+    requires room { ⌜ Roomy (length (now samples)) (parts (1 + n .chosen) (now outs)) (four (now out) (now first) (now second) (now third)) ⌝ }
+    ensures took { λ r. ⌜ Took (tunerOf n (now (energies .entry)) (now (correlations .entry)) (now (heard .entry)) (now (eighths .entry)) (now (outs .entry)))
+        number (now (samples .entry)) (four (now (out .entry)) (now (first .entry)) (now (second .entry)) (now (third .entry))) (now (store .entry))
+        (tunerOf (r .numbers) (now (energies .exit)) (now (correlations .exit)) (now (heard .exit)) (now (eighths .exit)) (now (outs .exit))) (r .answer) (four (now (out .exit)) (now (first .exit)) (now (second .exit)) (now (third .exit))) (now (store .exit)) ⌝ }
+    ensures stores { λ r. ⌜ Stores (heardOf (r .numbers .count) (now (energies .exit)) (now (correlations .exit)) (now (heard .exit)) (now (eighths .exit))) × (length (now (outs .exit)) ≡ keptPlaces) ⌝ }
+{
+    let verdict = tuner::judge(n, heard, number, samples, samples.len());
+    let r = taken_by(
+        verdict,
+        n,
+        energies,
+        correlations,
+        heard,
+        eighths,
+        outs,
+        number,
+        samples,
+        store,
+    );
+    tuner::ended(verdict, r, outs, out, first, second, third)
+}
+
+// The next block. An output that is not asked for may end before its place.
+fn next(
+    energies: &mut [u64; EIGHTH_LAGS],
+    correlations: &mut [i64; EIGHTH_LAGS],
+    heard: &mut [i16; KEPT_SAMPLES],
+    eighths: &mut [i16; KEPT_EIGHTHS],
+    outs: &mut [i16],
     size: usize,
     samples: &[i16],
     out: &mut [i16],
-    g: Reached,
+    first: &mut [i16],
+    second: &mut [i16],
+    third: &mut [i16],
+    store: &mut [u32],
+    from: Reached,
 ) -> Reached
-    requires { ⌜ Ready (leftOf settings hertz keys (g .left) (now energies) (now correlations) (now store) (now eighths) (now kept)) (g .answer) × (0 < size) × (g .at < length (now samples)) × (length (now samples) ≤ length (now out)) ⌝ }
-    ensures { λ r. ⌜ Went (now (samples .entry)) size g r (leftOf settings hertz keys (g .left) (now (energies .entry)) (now (correlations .entry)) (now (store .entry)) (now (eighths .entry)) (now (kept .entry))) (leftOf settings hertz keys (r .left) (now (energies .exit)) (now (correlations .exit)) (now (store .exit)) (now (eighths .exit)) (now (kept .exit))) (now (out .entry)) (now (out .exit)) ⌝ }
+    requires ready { ⌜ Ready (length (now samples)) (tunerOf (from .numbers) (now energies) (now correlations) (now heard) (now eighths) (now outs)) (from .answer) (four (now out) (now first) (now second) (now third)) ⌝ }
+    requires on { ⌜ from .at < length (now samples) ⌝ }
+    ensures { λ r. ⌜ Went (now (samples .entry)) size from r
+        (tunerOf (from .numbers) (now (energies .entry)) (now (correlations .entry)) (now (heard .entry)) (now (eighths .entry)) (now (outs .entry)))
+        (tunerOf (r .numbers) (now (energies .exit)) (now (correlations .exit)) (now (heard .exit)) (now (eighths .exit)) (now (outs .exit)))
+        (four (now (out .entry)) (now (first .entry)) (now (second .entry)) (now (third .entry))) (four (now (out .exit)) (now (first .exit)) (now (second .exit)) (now (third .exit)))
+        (now (store .entry)) (now (store .exit)) ⌝ }
 {
-    let at = g.at;
+    let n = from.numbers;
+    let at = from.at;
     let to = end_of(at, size, samples.len());
-    let before = g.left;
-    let v = before.pitch;
-    let head = before.head;
-    let last = before.last;
-    let left = tuner::block_to_good(
-        settings,
-        hertz,
-        keys,
-        before.count,
+    let one = end_of(0, at, first.len());
+    let two = end_of(0, at, second.len());
+    let three = end_of(0, at, third.len());
+    let d = block(
+        n,
         energies,
         correlations,
-        store,
+        heard,
         eighths,
-        v,
-        head,
-        last,
-        kept,
-        g.next,
+        outs,
+        from.next,
         &samples[at..to],
         &mut out[at..],
+        &mut first[one..],
+        &mut second[two..],
+        &mut third[three..],
+        store,
     );
-    let n = g.answer;
-    let a = left.answer;
+    let left = d.numbers;
+    let sum = from.answer;
+    let answer = d.answer;
     Reached {
-        left: left,
-        answer: add(n, g.next, a),
-        next: std::num::wrapping_add_u16(g.next, 1),
+        numbers: left,
+        answer: add(sum, from.next, answer),
+        next: std::num::wrapping_add_u16(from.next, 1),
         at: to,
     }
 }
 
-// All blocks over the parts of a record that is known to be good, until one is refused.
+// All blocks to a good record, until one is refused.
 fn go(
-    settings: Settings,
-    hertz: u64,
-    keys: Keyboard,
     energies: &mut [u64; EIGHTH_LAGS],
     correlations: &mut [i64; EIGHTH_LAGS],
-    store: &mut [i16; KEPT_SAMPLES],
+    heard: &mut [i16; KEPT_SAMPLES],
     eighths: &mut [i16; KEPT_EIGHTHS],
-    kept: &mut [i16; LONGEST_BLOCK],
+    outs: &mut [i16],
     size: usize,
     samples: &[i16],
     out: &mut [i16],
-    first: Reached,
+    first: &mut [i16],
+    second: &mut [i16],
+    third: &mut [i16],
+    store: &mut [u32],
+    begin: Reached,
 ) -> Reached
-    requires { ⌜ Ready (leftOf settings hertz keys (first .left) (now energies) (now correlations) (now store) (now eighths) (now kept)) (first .answer) × (first .answer ≡ noNight) × (first .at ≡ 0) × (0 < size) × (length (now samples) ≤ length (now out)) ⌝ }
-    ensures { λ r. ⌜ OneByOne (leftOf settings hertz keys (first .left) (now (energies .entry)) (now (correlations .entry)) (now (store .entry)) (now (eighths .entry)) (now (kept .entry))) (first .next) noNight (stretches size (now (samples .entry))) (now (out .entry)) (leftOf settings hertz keys (r .left) (now (energies .exit)) (now (correlations .exit)) (now (store .exit)) (now (eighths .exit)) (now (kept .exit))) (r .answer) (now (out .exit)) ⌝ }
+    requires ready { ⌜ Ready (length (now samples)) (tunerOf (begin .numbers) (now energies) (now correlations) (now heard) (now eighths) (now outs)) (begin .answer) (four (now out) (now first) (now second) (now third)) ⌝ }
+    requires begins { ⌜ (begin .answer .number ≡ 0) × (begin .at ≡ 0) × (0 < size) ⌝ }
+    ensures { λ r. ⌜ OneByOne (tunerOf (begin .numbers) (now (energies .entry)) (now (correlations .entry)) (now (heard .entry)) (now (eighths .entry)) (now (outs .entry)))
+        (begin .next) (begin .answer) (stretches size (now (samples .entry))) (four (now (out .entry)) (now (first .entry)) (now (second .entry)) (now (third .entry))) (now (store .entry))
+        (tunerOf (r .numbers) (now (energies .exit)) (now (correlations .exit)) (now (heard .exit)) (now (eighths .exit)) (now (outs .exit))) (r .answer) (four (now (out .exit)) (now (first .exit)) (now (second .exit)) (now (third .exit))) (now (store .exit)) ⌝ }
 {
-    let mut g = first;
-    while goes_on(g, samples.len()) {
+    let mut g = begin;
+    while goes_on(g.answer.number, g.at, samples.len()) {
         g = next(
-            settings,
-            hertz,
-            keys,
             energies,
             correlations,
-            store,
+            heard,
             eighths,
-            kept,
+            outs,
             size,
             samples,
             out,
+            first,
+            second,
+            third,
+            store,
             g,
         );
     }
     g
 }
 
-// The number that refuses a night before its first block, or 0.
-pub fn judge(t: Tuner, size: usize, length: usize, room: usize) -> u32
-    ensures { λ r. ⌜ Verdict t size length room r ⌝ }
+// The number that refuses a night to a good record before its first block, or 0.
+fn judge(size: usize, length: usize, room: usize) -> u32
+    ensures { λ r. ⌜ Refuses size length room r ⌝ }
 {
-    if !tuner::good(t) {
-        return 9;
-    }
     if size == 0 {
         return 3;
     }
@@ -230,98 +324,131 @@ pub fn judge(t: Tuner, size: usize, length: usize, room: usize) -> u32
     0
 }
 
-// A recording's blocks of so many samples, from a block number on, as by the single calls one by one; it stops at the first that is refused.
-pub fn night(t: Tuner, number: u16, size: usize, samples: &[i16], out: &mut [i16]) -> NightTaken
-    ensures { λ r. ⌜ Nighted t number size (now (samples .entry)) (now (out .entry)) (r .tuner) (r .answer) (now (out .exit)) ⌝ }
+// Refused with this number before the first block.
+fn refused(number: u32, n: Numbers) -> NightLeft
+    ensures { λ r. ⌜ (r .numbers ≡ n) × (r .answer ≡ noNight number n) ⌝ }
 {
-    let verdict = judge(t, size, samples.len(), out.len());
-    if verdict != 0 {
-        return NightTaken {
-            tuner: t,
-            answer: refused_night(verdict),
-        };
-    }
-    let settings = t.settings;
-    let hertz = t.hertz;
-    let keys = t.keyboard;
-    let mut energies = t.heard.energies;
-    let mut correlations = t.heard.correlations;
-    let mut store = t.heard.store;
-    let mut eighths = t.heard.eighths;
-    let mut kept = t.last.out;
-    let v = t.pitch;
-    let head = t.head;
-    let first = Reached {
-        left: Left {
-            answer: answers::plain(0),
-            count: t.heard.count,
-            pitch: v,
-            head: head,
-            last: LastNumbers {
-                number: t.last.number,
-                length: t.last.length,
-                repeated: t.last.repeated,
-                dropped: t.last.dropped,
-            },
-        },
-        answer: refused_night(0),
-        next: number,
-        at: 0,
-    };
-    let g = go(
-        settings,
-        hertz,
-        keys,
-        &mut energies,
-        &mut correlations,
-        &mut store,
-        &mut eighths,
-        &mut kept,
-        size,
-        samples,
-        out,
-        first,
-    );
-    let answer = g.answer;
-    let pitch = g.left.pitch;
-    let behind = g.left.head;
-    NightTaken {
-        tuner: Tuner {
-            settings: settings,
-            hertz: hertz,
-            keyboard: keys,
-            heard: Heard {
-                count: g.left.count,
-                energies: energies,
-                correlations: correlations,
-                store: store,
-                eighths: eighths,
-            },
-            pitch: pitch,
-            head: behind,
-            last: Last {
-                number: g.left.last.number,
-                length: g.left.last.length,
-                repeated: g.left.last.repeated,
-                dropped: g.left.last.dropped,
-                out: kept,
-            },
-        },
-        answer: answer,
+    let list = n.list;
+    NightLeft {
+        numbers: n,
+        answer: no_night(number, list),
     }
 }
 
-// A night over a record lent and altered there, with equal answers.
-pub fn night_in_place(
-    t: &mut Tuner,
+// A recording's blocks of so many samples, from a block number on, as by the single calls one by one; it stops at the first that is refused.
+pub fn night_lent(
+    n: Numbers,
+    energies: &mut [u64; EIGHTH_LAGS],
+    correlations: &mut [i64; EIGHTH_LAGS],
+    heard: &mut [i16; KEPT_SAMPLES],
+    eighths: &mut [i16; KEPT_EIGHTHS],
+    outs: &mut [i16; KEPT_OUTS],
     number: u16,
     size: usize,
     samples: &[i16],
     out: &mut [i16],
-) -> NightAnswer
-    ensures { λ r. ⌜ Nighted (now (t .entry)) number size (now (samples .entry)) (now (out .entry)) (now (t .exit)) r (now (out .exit)) ⌝ }
+    first: &mut [i16],
+    second: &mut [i16],
+    third: &mut [i16],
+    store: &mut [u32],
+) -> NightLeft
+    requires { ⌜ Stores (heardOf (n .count) (now energies) (now correlations) (now heard) (now eighths)) × (length (now outs) ≡ keptPlaces) ⌝ }
+    ensures { λ r. ⌜ Nighted (tunerOf n (now (energies .entry)) (now (correlations .entry)) (now (heard .entry)) (now (eighths .entry)) (now (outs .entry)))
+        number size (now (samples .entry)) (four (now (out .entry)) (now (first .entry)) (now (second .entry)) (now (third .entry))) (now (store .entry))
+        (tunerOf (r .numbers) (now (energies .exit)) (now (correlations .exit)) (now (heard .exit)) (now (eighths .exit)) (now (outs .exit))) (r .answer) (four (now (out .exit)) (now (first .exit)) (now (second .exit)) (now (third .exit))) (now (store .exit)) ⌝ }
 {
-    let d = night(*t, number, size, samples, out);
-    *t = d.tuner;
-    d.answer
+    if !tuner::right(n, energies, correlations, heard, eighths) {
+        return refused(9, n);
+    }
+    let room = singers::least_room(
+        n.chosen as u64,
+        out.len(),
+        first.len(),
+        second.len(),
+        third.len(),
+    );
+    let verdict = judge(size, samples.len(), room);
+    if verdict != 0 {
+        return refused(verdict, n);
+    }
+    let list = n.list;
+    let begin = Reached {
+        numbers: n,
+        answer: no_night(0, list),
+        next: number,
+        at: 0,
+    };
+    let g = go(
+        energies,
+        correlations,
+        heard,
+        eighths,
+        outs,
+        size,
+        samples,
+        out,
+        first,
+        second,
+        third,
+        store,
+        begin,
+    );
+    let left = g.numbers;
+    let answer = g.answer;
+    NightLeft {
+        numbers: left,
+        answer: answer,
+    }
+}
+
+// The same over a tuner by value.
+pub fn night(
+    t: Tuner,
+    number: u16,
+    size: usize,
+    samples: &[i16],
+    out: &mut [i16],
+    first: &mut [i16],
+    second: &mut [i16],
+    third: &mut [i16],
+    store: &mut [u32],
+) -> NightTaken
+    ensures { λ r. ⌜ Nighted t number size (now (samples .entry)) (four (now (out .entry)) (now (first .entry)) (now (second .entry)) (now (third .entry))) (now (store .entry))
+        (r .tuner) (r .answer) (four (now (out .exit)) (now (first .exit)) (now (second .exit)) (now (third .exit))) (now (store .exit)) ⌝ }
+{
+    let n = t.numbers;
+    let mut energies = t.energies;
+    let mut correlations = t.correlations;
+    let mut heard = t.heard;
+    let mut eighths = t.eighths;
+    let mut outs = t.outs;
+    let d = night_lent(
+        n,
+        &mut energies,
+        &mut correlations,
+        &mut heard,
+        &mut eighths,
+        &mut outs,
+        number,
+        size,
+        samples,
+        out,
+        first,
+        second,
+        third,
+        store,
+    );
+    let left = d.numbers;
+    let answer = d.answer;
+    NightTaken {
+        tuner: Tuner {
+            numbers: left,
+            energies: energies,
+            correlations: correlations,
+            heard: heard,
+            eighths: eighths,
+            outs: outs,
+        },
+        answer: answer,
+    }
 }

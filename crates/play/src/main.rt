@@ -6,14 +6,14 @@ ghost use Prim.Native.Nat.{_≤_, _<_};
 use libc::STDIN_FILENO;
 use libc::STDOUT_FILENO;
 use meters::Meter;
-use one::Answer;
-use one::Done;
-use one::Taken;
-use one::Tuner;
-use onenight::NightAnswer;
-use onenight::NightTaken;
+use nights::NightAnswer;
+use nights::NightTaken;
 use rules::CD_RATE;
 use rules::Settings;
+use tuner::Answer;
+use tuner::Done;
+use tuner::Taken;
+use tuner::Tuner;
 
 fn wide(b: u8) -> u32
     ensures { λ r. ⌜ r < 256 ⌝ }
@@ -120,7 +120,7 @@ fn nighted(t: Tuner, number: u16, size: usize, samples: &[i16], out: &mut [i16])
     let mut second = [0i16; 1];
     let mut third = [0i16; 1];
     let mut store = [0u32; 1];
-    onenight::night(
+    nights::night(
         t,
         number,
         size,
@@ -225,7 +225,7 @@ fn took(r: Done) -> Tuner {
 fn started(hertz: u32, s: Settings) -> Done {
     let intervals = [0i32; 1];
     let store = [0u32; 1];
-    one::start(hertz, s, 0, &intervals[..0], &store[..0])
+    tuner::start(hertz, s, 0, &intervals[..0], &store[..0])
 }
 
 fn started_default() -> Done {

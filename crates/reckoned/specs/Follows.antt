@@ -14,14 +14,14 @@ use Rattle.rules.specs.declared.Settings.{Settings}
 use Rattle.rules.specs.Rules.{Given, gives, defaults, cdRate}
 use Rattle.history.specs.History.{Event, sample, new-settings, byte, freshCourse, givenBy}
 use Rattle.history.specs.Courses.{givenBy-append, given-bytes}
-use Rattle.one.specs.declared.Tuner.{Tuner}
-use Rattle.one.specs.declared.Answer.{Answer}
-use Rattle.one.specs.Tuners.{takeOf, forceOf, defaultTuner, Took, Done, Changed}
-use Rattle.onestaying.specs.Staying.{took-keeps, untaken-unchanged}
-use Rattle.oneaccount.specs.Account.{Call, Leaves, by-start, by-change, by-block, by-midi, by-reset, Series, fresh-start, and-then, Received, begun, courseOf, withEvents, withSamples, countedBy, plus, received}
-use Rattle.oneaccount.specs.Following.{block-gives}
-use Rattle.oneaccount.specs.Keeps.{course-right, series-keeps}
-use Rattle.oneaccount.specs.Holds.{holds}
+use Rattle.tuner.specs.declared.Tuner.{Tuner}
+use Rattle.tuner.specs.declared.Answer.{Answer}
+use Rattle.tuner.specs.Tuners.{takeOf, forceOf, defaultTuner, Took, Done, Changed}
+use Rattle.staying.specs.Staying.{took-keeps, untaken-unchanged}
+use Rattle.account.specs.Account.{Call, Leaves, by-start, by-change, by-block, by-midi, by-reset, Series, fresh-start, and-then, Received, begun, courseOf, withEvents, withSamples, countedBy, plus, received}
+use Rattle.account.specs.Following.{block-gives}
+use Rattle.account.specs.Keeps.{course-right, series-keeps}
+use Rattle.account.specs.Holds.{holds}
 use Rattle.lines.specs.Lines.{Line, withFour, withMode, withChannel, Desk, desk, numbered, begins, Said, begun as said-begun, not-begun, changed, taken, begun-again, mode-changed, channel-changed, keyed, not-read}
 use Rattle.reports.specs.Reports.{reportOf}
 use Rattle.reporting.specs.Reporting.{Takes, broughtBy, withGiven, takesAfter, Through, Reported, no-more, last-line, one-byte, line-ends, Report}

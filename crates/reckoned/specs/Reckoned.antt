@@ -7,9 +7,9 @@ use lib.Dec.{eqb}
 use Rattle.rules.specs.declared.Settings.{Settings}
 use Rattle.rules.specs.Rules.{Given, defaults, cdRate}
 use Rattle.history.specs.History.{Event, sample, new-settings, byte, freshCourse, givenBy}
-use Rattle.one.specs.declared.Tuner.{Tuner}
-use Rattle.one.specs.declared.Answer.{Answer}
-use Rattle.one.specs.Tuners.{defaultTuner}
+use Rattle.tuner.specs.declared.Tuner.{Tuner}
+use Rattle.tuner.specs.declared.Answer.{Answer}
+use Rattle.tuner.specs.Tuners.{defaultTuner}
 use Rattle.lines.specs.Lines.{Line, start, change, block, reset, mode, channel, midi, unreadable, withFour, withMode, withChannel}
 use Rattle.reports.specs.Reports.{reportOf}
 use Rattle.reporting.specs.Reporting.{Through, Report}

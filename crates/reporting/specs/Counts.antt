@@ -13,12 +13,12 @@ use Rattle.rules.specs.declared.Settings.{Settings}
 use Rattle.rules.specs.Rules.{Given, gives, takeLimit, longestBlock}
 use Rattle.rules.specs.Blocks.{given-length}
 use Rattle.record.specs.Records.{heardAfter}
-use Rattle.one.specs.declared.Voice.{Voice}
-use Rattle.one.specs.declared.Tuner.{Tuner}
-use Rattle.one.specs.declared.Answer.{Answer}
-use Rattle.one.specs.Tuners.{takeOf, forceOf, freshNumbers, silentTuner, freshTuner, defaultTuner, keptList, afterBlock, Took, withNumbers, withKeys, withSettings, withBytes, begunAgain, Changed, Keyed}
-use Rattle.one.specs.Verdicts.{verdict-fits, verdict-zero}
-use Rattle.onestaying.specs.Staying.{good-force, good-sane, took-number, took-keeps, took-taken, untaken-unchanged}
+use Rattle.tuner.specs.declared.Voice.{Voice}
+use Rattle.tuner.specs.declared.Tuner.{Tuner}
+use Rattle.tuner.specs.declared.Answer.{Answer}
+use Rattle.tuner.specs.Tuners.{takeOf, forceOf, freshNumbers, silentTuner, freshTuner, defaultTuner, keptList, afterBlock, Took, withNumbers, withKeys, withSettings, withBytes, begunAgain, Changed, Keyed}
+use Rattle.tuner.specs.Verdicts.{verdict-fits, verdict-zero}
+use Rattle.staying.specs.Staying.{good-force, good-sane, took-number, took-keeps, took-taken, untaken-unchanged}
 use Rattle.lines.specs.Lines.{Line, start, change, block, reset, mode, channel, midi, unreadable, Desk, numbered, withFour, withMode, withChannel, begins, Said, begun, not-begun, changed, taken, begun-again, mode-changed, channel-changed, keyed, not-read}
 use Rattle.reports.specs.declared.Figures.{Figures}
 use Rattle.reports.specs.Reports.{figuresOf, noFigures}

@@ -10,9 +10,9 @@ use lib.ListN.{length, take, getD, set, length-append}
 use lib.Seq.{take-suc, take-all, take-suc-set, length-take-le}
 use Rattle.whole.specs.Tests.{cond-case, cond-yes, cond-no}
 use Rattle.rules.specs.Rules.{takeLimit}
-use Rattle.one.specs.declared.Tuner.{Tuner}
-use Rattle.one.specs.declared.Answer.{Answer}
-use Rattle.one.specs.Tuners.{freshNumbers, silentTuner, defaultTuner}
+use Rattle.tuner.specs.declared.Tuner.{Tuner}
+use Rattle.tuner.specs.declared.Answer.{Answer}
+use Rattle.tuner.specs.Tuners.{freshNumbers, silentTuner, defaultTuner}
 use Rattle.lines.specs.Lines.{Line, read, desk, Desk, Said}
 use Rattle.lines.specs.Laws.{read-long}
 use Rattle.lines.specs.Ones.{said-one}

@@ -9,9 +9,9 @@ use lib.ListN.{length, take, drop, length-append}
 use lib.Seq.{take-at, length-take-le}
 use Rattle.whole.specs.Tests.{cond-yes, cond-no}
 use Rattle.rules.specs.Rules.{Given, takeLimit}
-use Rattle.one.specs.declared.Tuner.{Tuner}
-use Rattle.one.specs.declared.Answer.{Answer}
-use Rattle.one.specs.Tuners.{defaultTuner}
+use Rattle.tuner.specs.declared.Tuner.{Tuner}
+use Rattle.tuner.specs.declared.Answer.{Answer}
+use Rattle.tuner.specs.Tuners.{defaultTuner}
 use Rattle.text.specs.Text.{decimal, Put}
 use Rattle.text.specs.Places.{put-then, put-length}
 use Rattle.text.specs.Spelling.{decimal-short}

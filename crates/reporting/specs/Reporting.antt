@@ -5,9 +5,9 @@ use mathlib.Core.List.{List, [], _∷_, _++_}
 use Prim.Native.Nat.{ℕ}
 use lib.Dec.{eqb}
 use Rattle.rules.specs.Rules.{Given, gives}
-use Rattle.one.specs.declared.Tuner.{Tuner}
-use Rattle.one.specs.declared.Answer.{Answer}
-use Rattle.one.specs.Tuners.{takeOf, forceOf, defaultTuner}
+use Rattle.tuner.specs.declared.Tuner.{Tuner}
+use Rattle.tuner.specs.declared.Answer.{Answer}
+use Rattle.tuner.specs.Tuners.{takeOf, forceOf, defaultTuner}
 use Rattle.lines.specs.Lines.{Line, start, change, block, reset, mode, channel, midi, unreadable, read, desk, begins, Said}
 use Rattle.reports.specs.Reports.{reportOf}
 

@@ -6,7 +6,7 @@ use Prim.Native.Nat.{ℕ}
 use lib.Dec.{ltb}
 use lib.ListN.{length}
 use Rattle.rules.specs.Rules.{Given}
-use Rattle.one.specs.declared.Tuner.{Tuner}
+use Rattle.tuner.specs.declared.Tuner.{Tuner}
 use Rattle.reports.specs.declared.Figures.{Figures}
 use Rattle.reporting.specs.declared.Reporting.{Reporting}
 use Rattle.reporting.specs.Reporting.{Takes, withGiven}

@@ -1,7 +1,7 @@
 // A report over the bytes of an input, in pieces of any length: what is kept while they come, and the report at their end.
-use one::Answer;
-use one::Tuner;
 use reports::Figures;
+use tuner::Answer;
+use tuner::Tuner;
 ghost use mathlib.Core.Path.{_≡_};
 ghost use mathlib.Core.List.{List, [], _∷_, _++_};
 ghost use Prim.Native.Nat.{ℕ, _≤_};

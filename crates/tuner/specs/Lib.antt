@@ -1,5 +1,10 @@
 pub mod Tuners
 pub mod Parted
-pub mod Afters
-pub mod Verdicts
 pub mod Starts
+pub mod Following
+pub mod Voices
+pub mod Beside
+pub mod Outputs
+pub mod Verdicts
+pub mod Afters
+pub mod Taking

@@ -2,7 +2,7 @@
 //! second, with a list of the notes sung and up to three backing voices.
 //!
 //! Every call is proved for any bytes in the tuner, any settings and any block
-//! (`crates/onehost` in the repository). What the proof takes for granted of a
+//! (`crates/host` in the repository). What the proof takes for granted of a
 //! caller is what Rust's references say: a tuner and slices at aligned
 //! addresses, readable, and written by nobody else during the call. So every
 //! function here is safe, and nothing is left to test but that the archive is

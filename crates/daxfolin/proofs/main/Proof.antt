@@ -7,7 +7,7 @@ use mathlib.Core.List.{[]}
 use Prim.Native.Nat.{_≤_}
 use lib.ListN.{length, take}
 use lib.Seq.{length-take-le}
-use Rattle.one.specs.declared.Tuner.{Tuner}
+use Rattle.tuner.specs.declared.Tuner.{Tuner}
 use Rattle.daxfolin.specs.Turns.{Working}
 use Rattle.daxfolin.specs.Laws.{none-read, one-turn-more}
 use Rattle.daxfolin.proofs.main.Statement.{statement}

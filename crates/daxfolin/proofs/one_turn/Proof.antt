@@ -8,7 +8,7 @@ use mathlib.Core.List.{List, [], _∷_, _++_}
 use Prim.Native.Nat.{ℕ, _≤_}
 use lib.ListN.{length, take}
 use lib.Seq.{take-at, length-take-le}
-use Rattle.one.specs.declared.Tuner.{Tuner}
+use Rattle.tuner.specs.declared.Tuner.{Tuner}
 use Rattle.daxfolin.specs.declared.Turn.{Turn}
 use Rattle.daxfolin.specs.Turns.{Turned, nothing-read, Answers, OneTurn}
 use Rattle.daxfolin.proofs.one_turn.Statement.{statement}

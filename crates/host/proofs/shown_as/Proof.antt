@@ -2,7 +2,7 @@
 -- Assumes nothing.
 use mathlib.Core.Path.{sym, ap, _∙_}
 use borrow.Author.Needs.{needs}
-use Rattle.host.specs.Hosts.{shownAs}
+use Rattle.host.specs.Shows.{shownAs}
 use Rattle.host.proofs.shown_as.Statement.{statement}
 use Rattle.host.proofs.shown_as.Tie as tie
 

@@ -1,61 +1,39 @@
--- `tuner::start` meets its contract: by the number, a fresh tuner with them beside 0, or with the defaults beside that number.
+-- `tuner::start` meets its contract: by the number, fresh numbers or the default ones.
 -- Assumes nothing.
-use mathlib.Core.Path.{_≡_, sym, ap, _∙_}
-use mathlib.Core.Bool.{false}
-use borrow.Author.Needs.{needs}
-use borrow.Author.Tests.{ne-eqb}
+use mathlib.Core.Path.{sym, _∙_}
+use native.Mathlib.Omega.{arith}
+use borrow.Author.Tests.{eqb-true, eqb-false}
 use lib.Dec.{eqb}
-use Rattle.rules.specs.Rules.{cdRate, startNumber}
-use Rattle.answers.specs.Numbering.{plain}
-use Rattle.tuner.specs.Tuners.{freshTuner}
+use lib.ListN.{length}
+use Rattle.whole.specs.Tests.{by, cond-yes, cond-no}
+use Rattle.tuner.specs.Tuners.{freshTuner, defaultTuner, keptList}
+use Rattle.tuner.specs.Starts.{number-few}
+use borrow.Author.Needs.{needs}
 use Rattle.tuner.proofs.start.Statement.{statement}
 use Rattle.tuner.proofs.start.Tie as tie
 
-start-number-requires : tie.Need-start-number-requires
-start-number-requires c κs = search needs
+begin-number-requires : tie.Need-begin-number-requires
+begin-number-requires c κs = search needs
 
-fresh-tuner-requires : tie.Need-fresh-tuner-requires
-fresh-tuner-requires c κs = search needs
+begun-requires : tie.Need-begun-requires
+begun-requires c κs = let a = c .before .before .args in λ e. number-few (a .hertz) (a .s) (a .listed) (a .intervals .now) (length (a .store .now)) (sym (c .begin-number .ensures) ∙ e)
 
-plain-requires : tie.Need-plain-requires
-plain-requires c κs = search needs
+silent-requires : tie.Need-silent-requires
+silent-requires c κs = search needs
 
 returns : tie.Need-returns
 returns c =
-    let a = c .before .before .before .before .args in
-    let e : startNumber (a .hertz) (a .s) ≡ 0 = sym (c .before .before .before .start-number .ensures) ∙ c .before .before .if1 .taken in
-    record { tuner = rw e (c .before .fresh-tuner .ensures); answer = rw e (c .plain .ensures) }
-
-default-settings-requires : tie.Need-default-settings-requires
-default-settings-requires c κs = search needs
-
-cast-fresh-tuner : tie.Need-cast-fresh-tuner
-cast-fresh-tuner c = search needs
-
-fresh-tuner-requires-2 : tie.Need-fresh-tuner-requires-2
-fresh-tuner-requires-2 c κs = search needs
-
-plain-requires-2 : tie.Need-plain-requires-2
-plain-requires-2 c κs = search needs
-
-returns-2 : tie.Need-returns-2
-returns-2 c =
-    let a = c .before .before .before .before .before .args in
-    let n = c .before .before .before .before .start-number .ensures in
-    let e : eqb (startNumber (a .hertz) (a .s)) 0 ≡ false = ne-eqb _ 0 (λ z. c .before .before .before .if1 .left (n ∙ z)) in
-    let d = c .before .before .default-settings .ensures in
-    record { tuner = rw e (c .before .fresh-tuner2 .ensures ∙ ap (freshTuner cdRate) d); answer = c .plain2 .ensures ∙ ap plain n }
+    let b = c .before in
+    let n = b .before in
+    let a = n .before .before .args in
+    record {
+      number = n .begin-number .ensures;
+      tuner =
+          c .silent .ensures
+          ∙ by (eqb (n .begin-number .result) 0)
+          (λ e. b .begun .ensures .0 (eqb-true (n .begin-number .result) 0 e) ∙ sym (cond-yes _ defaultTuner e))
+          (λ e. b .begun .ensures .1 (omega (arith, eqb-false (n .begin-number .result) 0 e)) ∙ sym (cond-no (freshTuner (a .hertz) (a .s) (keptList (a .listed)) (a .intervals .now)) _ e));
+    }
 
 pub start-spec : {M : Type 1} → statement M
-start-spec =
-    tie.close
-    (tie.spec
-    start-number-requires
-    fresh-tuner-requires
-    plain-requires
-    returns
-    default-settings-requires
-    cast-fresh-tuner
-    fresh-tuner-requires-2
-    plain-requires-2
-    returns-2)
+start-spec = tie.close (tie.spec begin-number-requires begun-requires silent-requires returns)

@@ -1,5 +1,0 @@
-pub mod ChoirNights
-pub mod Ones
-pub mod Alike
-pub mod Voicing
-pub mod Sofar

@@ -1,3 +1,0 @@
-pub mod Lending
-pub mod Thin
-pub mod Outs

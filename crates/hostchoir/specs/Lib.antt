@@ -1,2 +1,0 @@
-pub mod HostChoirs
-pub mod ChoirLents

@@ -1,2 +1,0 @@
-pub mod HostLists
-pub mod ListLents

@@ -1,4 +1,0 @@
-pub mod Listings
-pub mod Beginnings
-pub mod Hushes
-pub mod Ones

@@ -1,4 +1,0 @@
-pub mod ListNights
-pub mod Onward
-pub mod Singing
-pub mod Ones

@@ -1,3 +1,0 @@
-pub mod Night
-pub mod Ones
-pub mod Going

@@ -1,1 +1,0 @@
-// A tuner stays good. The laws stand in specs/; there is no code here.

@@ -1,4 +1,0 @@
-pub mod NightCalls
-pub mod NightNotes
-pub mod Sung
-pub mod Follows
