@@ -568,9 +568,6 @@ fn night(given: &Given) -> Result<Night, String> {
     let take = take(given)?;
     let song = song(given)?;
     let [from, to] = files(given, ["IN_DIR", "OUT_DIR"])?;
-    if given.has("check") && song.is_some() {
-        return Err("--check tunes by scale: it has no --midi".to_string());
-    }
     let machines = given.value("machines").map_or(Vec::new(), |text| {
         text.split(',').map(str::to_string).collect()
     });
@@ -894,10 +891,6 @@ mod tests {
             (
                 &["in", "out", "-S", "a,,b"],
                 "--machines is names like mix1,mix2 or :,4/mix1, and one is empty",
-            ),
-            (
-                &["in", "out", "--check", "--midi", "m"],
-                "--check tunes by scale: it has no --midi",
             ),
             (
                 &["in", "out", "--takes", "../x"],
