@@ -23,7 +23,7 @@ ghost use Rattle.nights.specs.Night.{noNight, added, stretches, OneByOne
 ghost use Rattle.nights.specs.Going.{Small, tunerBy, rowsBy, Ready, Went, Refuses};
 
 // The number that refused, or 0, and the block's; how many blocks were taken, and what their answers count added up; the answer to a first block that was given
-// again, else 0; and the list that is then kept. 88 bytes.
+// again, else 0; and the list that is then kept. 96 bytes.
 #[repr(C)]
 pub struct NightAnswer {
     pub number: u32,
@@ -280,7 +280,7 @@ fn go(
     third: &mut [i16],
     store: &mut [u32],
     begin: Reached,
-) -> Reached
+) -> NightLeft
     requires ready { ⌜ Ready (length (now samples)) (tunerOf (begin .numbers) (now energies) (now correlations) (now heard) (now eighths) (now outs)) (begin .answer) (four (now out) (now first) (now second) (now third)) ⌝ }
     requires begins { ⌜ (begin .answer .number ≡ 0) × (begin .at ≡ 0) × (0 < size) ⌝ }
     ensures { λ r. ⌜ OneByOne (tunerOf (begin .numbers) (now (energies .entry)) (now (correlations .entry)) (now (heard .entry)) (now (eighths .entry)) (now (outs .entry)))
@@ -305,7 +305,12 @@ fn go(
             g,
         );
     }
-    g
+    let left = g.numbers;
+    let answer = g.answer;
+    NightLeft {
+        numbers: left,
+        answer: answer,
+    }
 }
 
 // The number that refuses a night to a good record before its first block, or 0.
@@ -378,7 +383,7 @@ pub fn night_lent(
         next: number,
         at: 0,
     };
-    let g = go(
+    go(
         energies,
         correlations,
         heard,
@@ -392,13 +397,7 @@ pub fn night_lent(
         third,
         store,
         begin,
-    );
-    let left = g.numbers;
-    let answer = g.answer;
-    NightLeft {
-        numbers: left,
-        answer: answer,
-    }
+    )
 }
 
 // The same over a tuner by value.

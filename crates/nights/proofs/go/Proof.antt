@@ -49,29 +49,29 @@ loop-again c =
     (omega (arith, w .at), ready-more some (t .0) w (go-ready (t .1) (i .4)) .kept, kept-on _ _ _ _ (i .2) (w .kept), w .lent ∙ i .3, go-more some (t .0) w (t .1) (i .4))
 
 same-length : tie.Need-same-length Inv-loop μ-loop
-same-length c = c .before .before .loop .inv .1 ∙ sym (c .before .before .before .before .pre .0 .kept)
+same-length c = c .before .before .before .before .loop .inv .1 ∙ sym (c .before .before .before .before .before .before .pre .0 .kept)
 
 same-length-2 : tie.Need-same-length-2 Inv-loop μ-loop
 unfolding Kept
-same-length-2 c = c .before .before .loop .inv .2 .1
+same-length-2 c = c .before .before .before .before .loop .inv .2 .1
 
 same-length-3 : tie.Need-same-length-3 Inv-loop μ-loop
 unfolding Kept
-same-length-3 c = c .before .before .loop .inv .2 .2 .1
+same-length-3 c = c .before .before .before .before .loop .inv .2 .2 .1
 
 same-length-4 : tie.Need-same-length-4 Inv-loop μ-loop
 unfolding Kept
-same-length-4 c = c .before .before .loop .inv .2 .2 .2 .1
+same-length-4 c = c .before .before .before .before .loop .inv .2 .2 .2 .1
 
 same-length-5 : tie.Need-same-length-5 Inv-loop μ-loop
 unfolding Kept
-same-length-5 c = c .before .before .loop .inv .2 .2 .2 .2 .1
+same-length-5 c = c .before .before .before .before .loop .inv .2 .2 .2 .2 .1
 
 same-length-6 : tie.Need-same-length-6 Inv-loop μ-loop
-same-length-6 c = c .before .before .loop .inv .3
+same-length-6 c = c .before .before .before .before .loop .inv .3
 
 returns : tie.Need-returns Inv-loop μ-loop
-returns c = let i = c .before .before .loop .inv in go-ends (c .before .goes-on .ensures .no (c .if1 .left)) (i .0) (i .4)
+returns c = let i = c .before .before .before .before .loop .inv in go-ends (c .before .before .before .goes-on .ensures .no (c .before .before .if1 .left)) (i .0) (i .4)
 
 pub go-spec : {M : Type 1} → statement M
 go-spec =

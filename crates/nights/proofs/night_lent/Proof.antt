@@ -101,9 +101,9 @@ same-length-5 c = search needs
 
 returns-3 : tie.Need-returns-3
 returns-3 c =
-    let s = c .before .before .before .before .before .before .before .before .before .before .before .before .before .before .before .before .before .before .before .before .before .before .before .before .before .before .before .before .before .before .before .before in
-    let b = begins-here (c .before .before .before .before .before .before .before .before .before .before .before .before .before .before .before .before .before .before .before .before .before) in
-    night-done (good-then (c .before .before .before .before .before .before .before .before .before .before .before .before .before .before .before .before .before .before .before .before .before .before)) (b .0) (b .1) (b .2) (c .before .before .before .before .before .before .before .before .before .before .before .before .before .before .before .before .before .before .before .no-night .ensures (s .args .n) refl) (c .before .before .before .before .before .before .before .before .go .ensures)
+    let s = c .before .before .before .before .before .before .before .before .before .before .before .before .before .before .before .before .before .before .before .before .before .before .before .before .before .before .before .before .before .before in
+    let b = begins-here (c .before .before .before .before .before .before .before .before .before .before .before .before .before .before .before .before .before .before .before) in
+    night-done (good-then (c .before .before .before .before .before .before .before .before .before .before .before .before .before .before .before .before .before .before .before .before)) (b .0) (b .1) (b .2) (c .before .before .before .before .before .before .before .before .before .before .before .before .before .before .before .before .before .no-night .ensures (s .args .n) refl) (c .before .before .before .before .before .before .go .ensures)
 
 pub night-lent-spec : {M : Type 1} → statement M
 night-lent-spec =
