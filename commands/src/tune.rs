@@ -19,7 +19,7 @@ use words::standard::{self, print, unwritten, Standard};
 
 pub const PROGRAM: &str = "daxfolin tune";
 
-const HEADING: &str = "file\tout\trefusal\thertz\tsamples\tseconds\trepeated\tdropped\tblocks\tpitched_blocks\tlatency_mean\tlatency_most";
+const HEADING: &str = "file\tout\trefusal\thertz\tsamples\tseconds\trepeated\tdropped\tblocks\tpitched_blocks\tlatency_mean\tlatency_most\tpitched\tsum";
 
 pub fn run(request: &Tune) -> Result<(), End> {
     note_all();
@@ -82,7 +82,7 @@ fn refusal(request: &Tune, job: &Job, end: &End) -> Result<(), End> {
     let (from, to) = (shown(job.from.as_os_str()), shown(job.to.as_os_str()));
     match request.tsv {
         true => {
-            let empty = "\t".repeat(9 + usize::from(request.song.is_some()));
+            let empty = "\t".repeat(11 + usize::from(request.song.is_some()));
             print(&format!("{from}\t{to}\t{number}{empty}\n"))
         }
         false => print(&format!("{from}: {number}\n")),
@@ -313,6 +313,9 @@ pub fn late(samples: u64, hertz: u32) -> String {
 struct Tuned {
     repeated: u64,
     dropped: u64,
+    /// A report's: samples with a pitch, and the sum of the rate's distance from 65536.
+    pitched_samples: u64,
+    sum: u64,
     blocks: u64,
     /// Blocks after which the meter shows a pitch.
     pitched: u64,
@@ -327,6 +330,8 @@ impl Tuned {
     fn add(&mut self, answer: Answer) {
         self.repeated += u64::from(answer.repeated);
         self.dropped += u64::from(answer.dropped);
+        self.pitched_samples += u64::from(answer.pitched);
+        self.sum += u64::from(answer.strayed);
     }
 
     /// At the end of a block of the take, however keys cut it.
@@ -375,7 +380,7 @@ impl Tuned {
         let keys = self.keys.map(|keys| format!("\t{keys}"));
         let keys = keys.unwrap_or_default();
         format!(
-            "{}\t{}\t0\t{}\t{}\t{}\t{}\t{}\t{}\t{}\t{mean}\t{most}{keys}\n",
+            "{}\t{}\t0\t{}\t{}\t{}\t{}\t{}\t{}\t{}\t{mean}\t{most}\t{}\t{}{keys}\n",
             source.shown(),
             shown(job.to.as_os_str()),
             take.hertz,
@@ -384,7 +389,9 @@ impl Tuned {
             self.repeated,
             self.dropped,
             self.blocks,
-            self.pitched
+            self.pitched,
+            self.pitched_samples,
+            self.sum
         )
     }
 }

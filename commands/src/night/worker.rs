@@ -1,5 +1,5 @@
-//! A job of a night: takes one after the other, each tuned by `daxfolin tune`
-//! and counted by `daxfolin report`, which are started as they would be by hand.
+//! A job of a night: takes one after the other, each tuned by `daxfolin tune`,
+//! which is started as it would be by hand and prints a report's figures too.
 
 use super::record::{changed, Record, State};
 use super::room::{machine, made, outs, Room, NOT_ITS_OWN};
@@ -115,7 +115,6 @@ fn one(request: &Night, room: &Room, take: &Path) -> Result<Record, End> {
     record.number = tuned.number;
     if record.state == State::Done {
         tuned.into_record(&mut record)?;
-        figures(request, &read, &mut record)?;
         look_at(request, &read, &mut record)?;
     }
     record.spent = begun.elapsed().as_millis() as u64;
@@ -164,6 +163,10 @@ impl Said {
         record.samples = self.column("samples")?;
         record.latency_mean = self.column("latency_mean")?;
         record.latency_most = self.column("latency_most")?;
+        record.repeated = self.column("repeated")?;
+        record.dropped = self.column("dropped")?;
+        record.pitched = self.column("pitched")?;
+        record.sum = self.column("sum")?;
         Ok(())
     }
 }
@@ -218,20 +221,18 @@ fn columns(rows: &[String]) -> HashMap<String, String> {
 }
 
 /// The settings, and the line that is played.
-fn options(request: &Night, voices: bool) -> Vec<String> {
-    let words = request.words.iter();
-    let words = words.filter(|word| voices || !word.starts_with("--voice="));
+fn options(request: &Night) -> Vec<String> {
     let file = request
         .song
         .iter()
         .map(|song| format!("--midi={}", song.file.display()));
     let song = file.chain(super::song_words(request));
-    words.cloned().chain(song).collect()
+    request.words.iter().cloned().chain(song).collect()
 }
 
 fn tune(request: &Night, from: &Path, out: &Path, flags: &[&str]) -> Result<Said, End> {
     let words: Vec<&str> = ["tune"].iter().chain(flags).copied().collect();
-    run_command(&words, &options(request, true), &[from, out])
+    run_command(&words, &options(request), &[from, out])
 }
 
 /// A file that the night did not make is OUT if it is what the night would make, byte for byte. Any other is never written over.
@@ -273,19 +274,6 @@ fn equal(one: &Path, other: &Path) -> io::Result<bool> {
         one.consume(count);
         other.consume(count);
     }
-}
-
-/// The figures of a report. Those of one take are a proved call's; a night only adds them up.
-fn figures(request: &Night, read: &Path, record: &mut Record) -> Result<(), End> {
-    let counted = run_command(&["report"], &options(request, false), &[read])?;
-    if counted.status != 0 {
-        return Err(End::File(counted.said.join("; ")));
-    }
-    record.pitched = counted.column("pitched")?;
-    record.repeated = counted.column("repeated")?;
-    record.dropped = counted.column("dropped")?;
-    record.sum = counted.column("sum")?;
-    Ok(())
 }
 
 /// Copies a take and mends the copy. What was mended, or nothing where there was nothing to mend.
@@ -390,7 +378,7 @@ fn check_one(request: &Night, room: &Room, take: &Path) -> Result<String, End> {
     let mut command = child(&program);
     command
         .arg("check")
-        .args(&request.words)
+        .args(options(request))
         .arg("--")
         .arg(read)
         .arg(room.out(take));
