@@ -246,19 +246,21 @@ fn another_store_meanwhile() {
 fn rows_moved_out_of_the_store() {
     let take = sung();
     let list = right(CD, &take, MOST_ROWS);
-    let mut store = vec![FILL; 2 * ROW];
+    // a row begins at a tracking step, one in five samples: a block of 16 begins four at most
+    let mut store = vec![FILL; 5 * ROW];
     let (mut tuner, mut moved) = (begun(CD, &store), Vec::new());
-    for (number, samples) in (0u16..).zip(take.chunks(64)) {
-        let answer = block(&mut tuner, number, samples, &mut [0; 64], &mut store);
+    for (number, samples) in (0u16..).zip(take.chunks(16)) {
+        let answer = block(&mut tuner, number, samples, &mut [0; 16], &mut store);
         assert_eq!(tuner.rows(), (answer.rows, 0));
-        if answer.rows == 2 {
-            moved.extend_from_slice(&store[..ROW]);
-            store.copy_within(ROW.., 0);
+        if answer.rows > 1 {
+            let last = ROW * (answer.rows as usize - 1);
+            moved.extend_from_slice(&store[..last]);
+            store.copy_within(last..last + ROW, 0);
             tuner.keep_last_row();
             assert_eq!(tuner.rows(), (1, 0));
         }
     }
-    assert!(moved.len() > 2 * ROW);
+    assert!(moved.len() > store.len());
     moved.extend_from_slice(&store[..ROW]);
     assert_eq!(moved, list.numbers());
     let mut fresh = begun(CD, &store);
