@@ -3,6 +3,8 @@
 // from 28 on the samples. Where settings are given, 2 and 6 are mode and channel. Keyboard bytes stand from 28 on, as many as the length says.
 // A night has the length of its blocks from 8 on, in the place of the sample rate. No list is kept and no voice is chosen: nothing is lent for them.
 ghost use Prim.Native.Nat.{_≤_, _<_};
+ghost use Rattle.tuner.specs.Following.{four};
+ghost use Rattle.tuner.specs.Tuners.{Took};
 use libc::STDIN_FILENO;
 use libc::STDOUT_FILENO;
 use meters::Meter;
@@ -97,13 +99,46 @@ fn show(xs: &[i16; 513], n: usize)
     }
 }
 
-// A block that lends nothing but its samples and the lead's output.
-fn given(t: Tuner, number: u16, samples: &[i16], out: &mut [i16]) -> Taken {
+// The block call over a record lent: the promise of the call by value.
+fn block_lent(
+    mut t: Tuner,
+    number: u16,
+    samples: &[i16],
+    out: &mut [i16],
+    first: &mut [i16],
+    second: &mut [i16],
+    third: &mut [i16],
+    store: &mut [u32],
+) -> Taken
+    ensures { λ r. ⌜ Took t number (now (samples .entry)) (four (now (out .entry)) (now (first .entry)) (now (second .entry)) (now (third .entry))) (now (store .entry))
+        (r .tuner) (r .answer) (four (now (out .exit)) (now (first .exit)) (now (second .exit)) (now (third .exit))) (now (store .exit)) ⌝ }
+{
+    let answer = host::block_in_place(&mut t, number, samples, out, first, second, third, store);
+    Taken {
+        tuner: t,
+        answer: answer,
+    }
+}
+
+// A block that lends nothing but its samples and the lead's output, by the call that the script names: 4 by value, 11 over the record lent.
+fn given(op: u8, t: Tuner, number: u16, samples: &[i16], out: &mut [i16]) -> Taken {
     let mut first = [0i16; 1];
     let mut second = [0i16; 1];
     let mut third = [0i16; 1];
     let mut store = [0u32; 1];
-    t.block(
+    if op == 4 {
+        return t.block(
+            number,
+            samples,
+            out,
+            &mut first[..0],
+            &mut second[..0],
+            &mut third[..0],
+            &mut store[..0],
+        );
+    }
+    block_lent(
+        t,
         number,
         samples,
         out,
@@ -134,13 +169,13 @@ fn nighted(t: Tuner, number: u16, size: usize, samples: &[i16], out: &mut [i16])
 }
 
 // A block, with an output of so much room; all of the output is shown, what is not written too.
-fn block(t: Tuner, b: &[u8; 1054]) -> Tuner {
+fn block(op: u8, t: Tuner, b: &[u8; 1054]) -> Tuner {
     let n = most(word(b, 4));
     let room = most(word(b, 6));
     let number = word(b, 2) as u16;
     let xs = samples(b, n);
     let mut out = [7i16; 513];
-    let r = given(t, number, &xs[..n], &mut out[..room]);
+    let r = given(op, t, number, &xs[..n], &mut out[..room]);
     say(r.answer);
     show(&out, room);
     r.tuner
@@ -255,7 +290,7 @@ fn midi(t: Tuner, b: &[u8; 1054]) -> Tuner {
     took(t.midi(&ks[..n]))
 }
 
-// Calls from 5 on. 11 is a block too: the script names one over a record lent apart.
+// Calls from 5 on; 11 is a block over the record lent.
 fn other(op: u8, t: Tuner, b: &[u8; 1054]) -> Tuner {
     if op == 5 {
         metered(t);
@@ -278,7 +313,7 @@ fn other(op: u8, t: Tuner, b: &[u8; 1054]) -> Tuner {
         return midi(t, b);
     }
     if op == 11 {
-        return block(t, b);
+        return block(op, t, b);
     }
     night(t, b)
 }
@@ -298,7 +333,7 @@ fn played(t: Tuner, b: &[u8; 1054]) -> Tuner {
         return took(reset(t));
     }
     if op == 4 {
-        return block(t, b);
+        return block(op, t, b);
     }
     other(op, t, b)
 }
