@@ -51,11 +51,33 @@ fn page(request: &Night, room: &Room, report: &Report) -> String {
     let from = escaped(&shown(room.from.as_os_str()));
     let takes = report.takes().iter();
     let takes: String = takes.map(|take| card(room, take)).collect();
+    let (set, figures) = (escaped(&set(request)), figures(report));
+    let first = first(room, report);
     format!(
-        "<!DOCTYPE html>\n<html lang=\"en\">\n<head>\n<meta charset=\"utf-8\">\n<meta name=\"viewport\" content=\"width=device-width, initial-scale=1\">\n<title>A night over {from}</title>\n<style>\n{STYLE}</style>\n</head>\n<body>\n<header>\n<h1>A night over <span class=\"name\">{from}</span></h1>\n<p>{}</p>\n<dl>\n{}</dl>\n</header>\n{}<main>\n<h2>Every take</h2>\n<ul class=\"takes\">\n{takes}</ul>\n</main>\n</body>\n</html>\n",
-        escaped(&set(request)),
-        figures(report),
-        first(room, report)
+        r##"<!DOCTYPE html>
+<html lang="en">
+<head>
+<meta charset="utf-8">
+<meta name="viewport" content="width=device-width, initial-scale=1">
+<title>A night over {from}</title>
+<style>
+{STYLE}</style>
+</head>
+<body>
+<header>
+<h1>A night over <span class="name">{from}</span></h1>
+<p>{set}</p>
+<dl>
+{figures}</dl>
+</header>
+{first}<main>
+<h2>Every take</h2>
+<ul class="takes">
+{takes}</ul>
+</main>
+</body>
+</html>
+"##
     )
 }
 
