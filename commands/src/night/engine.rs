@@ -235,16 +235,24 @@ impl<'a> Engine<'a> {
 
     /// Tunes the takes of these jobs, of a night that has others which are done. Says whether the engine itself ended well.
     pub fn tune(&mut self, jobs: &[Job], passed: usize) -> Result<bool, End> {
-        let mend: &[&str] = if self.request.mend { &["--mend"] } else { &[] };
+        let words = [
+            (self.request.mend, "--mend"),
+            (self.request.pictures, "--pictures"),
+        ];
+        let words: Vec<&str> = words
+            .iter()
+            .filter(|word| word.0)
+            .map(|word| word.1)
+            .collect();
         let (command, transfer) = match self.request.transfer {
             false => {
                 let mut command = self.started(&self.room.kept("list"));
-                let line = self.command_line(&self.places(), mend)?;
+                let line = self.command_line(&self.places(), &words)?;
                 command.arg(OsStr::from_bytes(&line));
                 (command, None)
             }
             true => {
-                let (command, transfer) = self.transferring(jobs, mend)?;
+                let (command, transfer) = self.transferring(jobs, &words)?;
                 (command, Some(transfer))
             }
         };
@@ -270,7 +278,7 @@ impl<'a> Engine<'a> {
     }
 
     /// Each take is sent to a folder of its own on its machine, and what was made of it is fetched from there.
-    fn transferring(&self, jobs: &[Job], mend: &[&str]) -> Result<(Command, Transfer), End> {
+    fn transferring(&self, jobs: &[Job], words: &[&str]) -> Result<(Command, Transfer), End> {
         let transfer = Transfer::of(self.room, jobs, self.request.song.is_some())?;
         // on this machine nothing is sent: the folders are where they are
         let mut line = b"[ -d .night/send/{1} ] || cd ".to_vec();
@@ -282,7 +290,7 @@ impl<'a> Engine<'a> {
             to: b".night/back/{1}".to_vec(),
             song: b".night/send/{1}/.song.mid".to_vec(),
         };
-        line.extend(self.command_line(&places, mend)?);
+        line.extend(self.command_line(&places, words)?);
         let mut command = self.started(&self.room.kept("sent"));
         command.args(["--colsep", "\t"]);
         if self.machines.iter().any(|machine| machine != ":") {
@@ -338,7 +346,8 @@ impl<'a> Engine<'a> {
         if !self.request.quiet && !at_a_terminal() {
             let (done, all) = (progress.done(), progress.all);
             let line = match record.state {
-                State::Done => what,
+                State::Done if record.undrawn.is_empty() => what,
+                State::Done => format!("no picture: {}", record.undrawn),
                 // the file is named in what was said of it
                 _ => format!("{state}: {said}"),
             };

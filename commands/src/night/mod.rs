@@ -3,6 +3,7 @@
 //! and what was said of each is put together to a report.
 
 mod engine;
+mod index;
 mod record;
 mod room;
 mod summary;
@@ -128,12 +129,14 @@ fn night(request: &Night) -> Result<(), End> {
     let passed = all.takes.len() - waiting.len();
     let well = jobs.is_empty() || engine.tune(&jobs, passed)?;
     let report = Report::of(&room, &all, begun.elapsed());
+    let indexed = index::write(request, &room, &report);
     told(request, &room, &report)?;
+    indexed.iter().for_each(|end| end.say(PROGRAM));
     let checked = match request.check {
         true => check(request, &room, &mut engine, &all)?,
         false => 0,
     };
-    let failed = report.failed() || !all.unread.is_empty() || !well;
+    let failed = report.failed() || !all.unread.is_empty() || !well || indexed.is_some();
     let statuses = [
         (failed || checked == FILE, FILE),
         (checked == DIFFERS, DIFFERS),
@@ -202,7 +205,7 @@ fn waiting(request: &Night, room: &Room, all: &Listed) -> Vec<takes::Take> {
         let said = Record::read(&room.said(&take.name));
         let file = fs::metadata(room.from.join(&take.name));
         said.zip(file.ok())
-            .is_some_and(|(said, file)| said.is_done(&file, &room.outs(&take.name), request.mend))
+            .is_some_and(|(said, file)| said.is_done(room, &take.name, &file, request.mend))
     };
     let takes = all.takes.iter().filter(|take| !done(take));
     takes.cloned().collect()
@@ -212,20 +215,24 @@ fn waiting(request: &Night, room: &Room, all: &Listed) -> Vec<takes::Take> {
 fn begin_anew(room: &Room) -> Result<(), End> {
     let said = room.kept("said");
     for take in room::below(&said).files {
-        let Some(record) = Record::read(&said.join(&take)).filter(|record| record.own) else {
+        let Some(record) = Record::read(&said.join(&take)) else {
             continue;
         };
-        for out in room::outs(&room.to, &take, record.voices as usize) {
-            match fs::remove_file(&out) {
-                Err(error) if out.is_file() => return Err(failed(&out, &error)),
-                _ => {}
-            }
+        let voices = record.voices as usize;
+        if record.own_picture {
+            removed(&room::picture(&room.to, &take, voices))?;
         }
-        if record.voices > 0 {
+        if !record.own {
+            continue;
+        }
+        let mut outs = room::outs(&room.to, &take, voices).into_iter();
+        outs.try_for_each(|out| removed(&out))?;
+        if voices > 0 {
             // one that has other files stays
             let _ = fs::remove_dir(room.to.join(&take));
         }
     }
+    index::remove(room)?;
     for name in ["said", "mended"] {
         let folder = room.kept(name);
         match fs::remove_dir_all(&folder) {
@@ -237,6 +244,14 @@ fn begin_anew(room: &Room) -> Result<(), End> {
         let _ = fs::remove_file(room.kept(name));
     }
     Ok(())
+}
+
+/// A file that the night made is gone.
+fn removed(file: &Path) -> Result<(), End> {
+    match fs::remove_file(file) {
+        Err(error) if file.is_file() => Err(failed(file, &error)),
+        _ => Ok(()),
+    }
 }
 
 /// Every take that is tuned is checked by the independent program. The status: 6 where one differs, 3 where one was not checked.

@@ -37,6 +37,8 @@ pub struct Record {
     pub state: State,
     /// The night made its OUT, and may write over it.
     pub own: bool,
+    /// The night made its picture too, and may write over it.
+    pub own_picture: bool,
     /// The number of its refusal.
     pub number: u64,
     pub version: String,
@@ -62,10 +64,14 @@ pub struct Record {
     pub outside: u64,
     /// Samples of the input that are clipped.
     pub clipped: u64,
+    /// The bytes of its picture; 0 where none was drawn.
+    pub drawn: u64,
     /// What was mended in the copy that was tuned.
     pub mended: String,
     /// What an earlier try said that failed.
     pub before: String,
+    /// Why its picture failed.
+    pub undrawn: String,
     /// Lines for people.
     pub said: Vec<String>,
 }
@@ -81,6 +87,7 @@ impl Record {
             text += &format!("{name} {words}\n");
         }
         text += &format!("own {}\n", u8::from(self.own));
+        text += &format!("own_picture {}\n", u8::from(self.own_picture));
         for line in &self.said {
             text += &format!("said {line}\n");
         }
@@ -96,6 +103,7 @@ impl Record {
             match name {
                 "state" => record.state = STATES.iter().find(|state| state.1 == value)?.0,
                 "own" => record.own = value == "1",
+                "own_picture" => record.own_picture = value == "1",
                 "said" => record.said.push(value.to_string()),
                 _ => record.set(name, value)?,
             }
@@ -114,7 +122,7 @@ impl Record {
         Some(())
     }
 
-    fn numbers(&mut self) -> [(&'static str, &mut u64); 15] {
+    fn numbers(&mut self) -> [(&'static str, &mut u64); 16] {
         [
             ("number", &mut self.number),
             ("length", &mut self.length),
@@ -131,26 +139,27 @@ impl Record {
             ("sung", &mut self.sung),
             ("outside", &mut self.outside),
             ("clipped", &mut self.clipped),
+            ("drawn", &mut self.drawn),
         ]
     }
 
-    fn words(&mut self) -> [(&'static str, &mut String); 5] {
+    fn words(&mut self) -> [(&'static str, &mut String); 6] {
         [
             ("version", &mut self.version),
             ("machine", &mut self.machine),
             ("changed", &mut self.changed),
             ("mended", &mut self.mended),
             ("before", &mut self.before),
+            ("undrawn", &mut self.undrawn),
         ]
     }
 
     /// All that was said, in a line.
     pub fn words_of_it(&self) -> String {
-        let before = match self.before.is_empty() {
-            true => Vec::new(),
-            false => vec![format!("before: {}", self.before)],
-        };
-        let said: Vec<String> = self.said.iter().cloned().chain(before).collect();
+        let more = [("no picture", &self.undrawn), ("before", &self.before)];
+        let more = more.iter().filter(|more| !more.1.is_empty());
+        let more = more.map(|(what, words)| format!("{what}: {words}"));
+        let said: Vec<String> = self.said.iter().cloned().chain(more).collect();
         said.join("; ").replace('\t', " ")
     }
 
@@ -167,10 +176,22 @@ impl Record {
         (self.length, &self.changed) == (take.len(), &changed(take))
     }
 
-    /// Whether the take is done: by this version, as the take is now, and what was made is there. What was taken for empty may want mending.
-    pub fn is_done(&self, take: &Metadata, outs: &[impl AsRef<Path>], mend: bool) -> bool {
+    /// Whether the take is done: it is tuned, and its picture is there where the night has pictures.
+    pub fn is_done(&self, room: &Room, take: &Path, file: &Metadata, mend: bool) -> bool {
+        let drawn = !room.pictures || self.is_drawn(&room.picture(take));
+        drawn && self.is_tuned(file, &room.outs(take), mend)
+    }
+
+    /// Whether it is tuned: by this version, as the take is now, and what was made is there. What was taken for empty may want mending.
+    pub fn is_tuned(&self, take: &Metadata, outs: &[impl AsRef<Path>], mend: bool) -> bool {
         let unmended = mend && self.samples == 0 && self.mended.is_empty();
         self.version == version() && self.is_of(take) && self.is_made(outs) && !unmended
+    }
+
+    /// Whether its picture is there, as long as it was drawn.
+    pub fn is_drawn(&self, picture: &Path) -> bool {
+        let there = fs::metadata(picture).is_ok_and(|is| is.is_file() && is.len() == self.drawn);
+        self.state == State::Done && self.drawn > 0 && there
     }
 
     /// Whether what was made is there: a header of 44 bytes, and two for each sample.
@@ -196,6 +217,7 @@ mod tests {
         let record = Record {
             state: State::Refused,
             own: true,
+            own_picture: true,
             number: 22,
             version: "daxfolin 1, calls of version 2".to_string(),
             sum: u64::MAX,

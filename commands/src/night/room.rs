@@ -24,6 +24,8 @@ pub struct Room {
     pub from: PathBuf,
     pub to: PathBuf,
     pub voices: usize,
+    /// Each take has a picture.
+    pub pictures: bool,
 }
 
 impl Room {
@@ -32,6 +34,7 @@ impl Room {
             from: request.from.clone(),
             to: request.to.clone(),
             voices: request.take.voices.len(),
+            pictures: request.pictures,
         }
     }
 
@@ -55,8 +58,8 @@ impl Room {
                 return Err(End::Usage(format!("{}: {why}", shown(one.as_os_str()))));
             }
         }
-        let voices = request.take.voices.len();
-        Ok(Room { from, to, voices })
+        let room = Room::of(request);
+        Ok(Room { from, to, ..room })
     }
 
     pub fn kept(&self, name: &str) -> PathBuf {
@@ -72,6 +75,11 @@ impl Room {
     /// OUT and the voices.
     pub fn outs(&self, take: &Path) -> Vec<PathBuf> {
         outs(&self.to, take, self.voices)
+    }
+
+    /// The picture of a take.
+    pub fn picture(&self, take: &Path) -> PathBuf {
+        picture(&self.to, take, self.voices)
     }
 
     /// What was said of a take.
@@ -110,6 +118,13 @@ fn out(to: &Path, take: &Path, voices: usize) -> PathBuf {
 pub fn outs(to: &Path, take: &Path, voices: usize) -> Vec<PathBuf> {
     let out = out(to, take, voices);
     (0..=voices).map(|voice| named(&out, voice)).collect()
+}
+
+/// Beside OUT, under its whole name and one ending more: x.wav and x.WAV do not meet.
+pub fn picture(to: &Path, take: &Path, voices: usize) -> PathBuf {
+    let mut name = out(to, take, voices).into_os_string();
+    name.push(".svg");
+    name.into()
 }
 
 pub fn made(folder: &Path) -> Result<(), End> {
@@ -319,5 +334,13 @@ mod tests {
             outs("s/x-1.wav", 1),
             "o/s/x-1.wav/x-1.wav o/s/x-1.wav/x-1-1.wav"
         );
+        for (take, voices, right) in [
+            ("s/x.wav", 0, "o/s/x.wav.svg"),
+            ("s/x.WAV", 0, "o/s/x.WAV.svg"),
+            ("s/x.wav", 1, "o/s/x.wav/x.wav.svg"),
+        ] {
+            let picture = picture(Path::new("o"), Path::new(take), voices);
+            assert_eq!(picture, Path::new(right));
+        }
     }
 }

@@ -5,17 +5,38 @@ use super::record::{Record, State};
 use super::room::Room;
 use super::takes::Listed;
 use crate::{grouped, seconds};
+use std::path::PathBuf;
 use std::time::{Duration, SystemTime, UNIX_EPOCH};
 use words::end::shown;
 
 /// More than so many percent sung outside of the scale is looked at first.
 const MOST_OUTSIDE: u64 = 20;
 
+/// Parts of the report.
+pub const SUSPICIOUS: &str = "Look at these first";
+pub const UNDRAWN: &str = "Without a picture";
+pub const MENDED: &str = "A mended copy was tuned, and the take is as it was";
+
 const HEADING: &str = "take\tstate\trefusal\thertz\tsamples\tpitched\trepeated\tdropped\tsum\tmean\tremainder\tseconds\tspent_seconds\tlatency_mean\tlatency_most\tsung\toutside\tclipped\tmachine\tversion\tlook_at\tsaid\n";
 
 pub struct Report {
-    takes: Vec<(String, Record)>,
+    takes: Vec<Entry>,
+    /// Each take should have a picture.
+    pictures: bool,
     spent: Duration,
+}
+
+/// A take, and what was said of it.
+pub struct Entry {
+    /// Its place in the report, from 0.
+    pub at: usize,
+    /// For people.
+    pub name: String,
+    /// From IN_DIR on.
+    pub take: PathBuf,
+    pub record: Record,
+    /// Its picture is there.
+    pub drawn: bool,
 }
 
 /// The figures of all takes. A sum of 64-bit numbers over any number of takes has room in 128 bits.
@@ -49,6 +70,13 @@ impl Total {
     }
 }
 
+impl Total {
+    /// Cycles repeated, and dropped.
+    fn cycles(&self) -> [String; 2] {
+        [self.repeated, self.dropped].map(|count| grouped(count as u64))
+    }
+}
+
 /// The mean's whole part, and its remainder over the samples.
 fn mean(sum: u128, samples: u128) -> (u128, u128) {
     match samples {
@@ -59,37 +87,61 @@ fn mean(sum: u128, samples: u128) -> (u128, u128) {
 
 impl Report {
     pub fn of(room: &Room, all: &Listed, spent: Duration) -> Report {
-        let mut takes: Vec<(String, Record)> = all
-            .takes
-            .iter()
-            .map(|take| {
-                let record = Record::read(&room.said(&take.name)).unwrap_or_default();
-                (shown(take.name.as_os_str()), record)
-            })
-            .collect();
-        takes.sort_by(|one, other| one.0.cmp(&other.0));
-        Report { takes, spent }
+        let entry = |take: PathBuf| {
+            let record = Record::read(&room.said(&take)).unwrap_or_default();
+            Entry {
+                at: 0,
+                name: shown(take.as_os_str()),
+                drawn: record.is_drawn(&room.picture(&take)),
+                take,
+                record,
+            }
+        };
+        let names = all.takes.iter().map(|take| take.name.clone());
+        let mut takes: Vec<Entry> = names.map(entry).collect();
+        takes.sort_by(|one, other| one.name.cmp(&other.name));
+        let places = takes.iter_mut().enumerate();
+        places.for_each(|(at, take)| take.at = at);
+        Report {
+            takes,
+            pictures: room.pictures,
+            spent,
+        }
     }
 
-    fn with(&self, state: State) -> impl Iterator<Item = &(String, Record)> {
-        self.takes.iter().filter(move |take| take.1.state == state)
+    pub fn takes(&self) -> &[Entry] {
+        &self.takes
+    }
+
+    pub fn with(&self, state: State) -> impl Iterator<Item = &Entry> {
+        self.takes
+            .iter()
+            .filter(move |take| take.record.state == state)
+    }
+
+    /// The takes that are tuned and should have a picture, and have none.
+    pub fn undrawn(&self) -> impl Iterator<Item = &Entry> {
+        self.with(State::Done)
+            .filter(|take| self.pictures && !take.drawn)
     }
 
     pub fn refused(&self) -> bool {
         self.with(State::Refused).next().is_some()
     }
 
-    /// Or not even ended.
+    /// Or not even ended, or without a picture.
     pub fn failed(&self) -> bool {
         self.with(State::Failed)
             .chain(self.with(State::Begun))
+            .chain(self.undrawn())
             .next()
             .is_some()
     }
 
     fn total(&self) -> Total {
         let mut total = Total::default();
-        self.with(State::Done).for_each(|take| total.add(&take.1));
+        self.with(State::Done)
+            .for_each(|take| total.add(&take.record));
         total
     }
 
@@ -101,23 +153,29 @@ impl Report {
 
     fn top(&self) -> String {
         let mut text = String::new();
-        let suspicious = self.with(State::Done).filter_map(|(name, record)| {
-            let why = look_at(record);
-            (!why.is_empty()).then(|| format!("  {name}: {why}\n"))
-        });
-        text += &part("Look at these first", suspicious);
-        let refused = self.with(State::Refused);
-        text += &part("Refused", refused.map(|(name, record)| said(name, record)));
-        let failed = self.with(State::Failed);
-        text += &part("Failed", failed.map(|(name, record)| said(name, record)));
-        let mended = self
-            .with(State::Done)
-            .filter(|take| !take.1.mended.is_empty());
-        text += &part(
-            "A mended copy was tuned, and the take is as it was",
-            mended.map(|(name, record)| format!("  {name}: {}\n", record.mended)),
-        );
+        let named = |take: &Entry, what: &str| format!("  {}: {what}\n", take.name);
+        let suspicious = self.suspicious().map(|(take, why)| named(take, &why));
+        text += &part(SUSPICIOUS, suspicious);
+        text += &part("Refused", self.with(State::Refused).map(said));
+        text += &part("Failed", self.with(State::Failed).map(said));
+        let undrawn = self.undrawn();
+        let undrawn = undrawn.map(|take| named(take, why_undrawn(&take.record)));
+        text += &part(UNDRAWN, undrawn);
+        let mended = self.mended();
+        text += &part(MENDED, mended.map(|take| named(take, &take.record.mended)));
         text + &self.totals()
+    }
+
+    /// What looks wrong, and why.
+    pub fn suspicious(&self) -> impl Iterator<Item = (&Entry, String)> {
+        let done = self.with(State::Done);
+        let done = done.map(|take| (take, look_at(&take.record)));
+        done.filter(|(_, why)| !why.is_empty())
+    }
+
+    pub fn mended(&self) -> impl Iterator<Item = &Entry> {
+        self.with(State::Done)
+            .filter(|take| !take.record.mended.is_empty())
     }
 
     fn totals(&self) -> String {
@@ -127,13 +185,14 @@ impl Report {
         let counts = [
             (refused, "refused"),
             (failed, "failed"),
+            (self.undrawn().count(), "without a picture"),
             (waiting, "not done yet"),
         ];
         let counts = counts.iter().filter(|count| count.0 > 0);
         let counts: String = counts
             .map(|(count, what)| format!(", {count} {what}"))
             .collect();
-        let all = self.takes.len();
+        let (all, [repeated, dropped]) = (self.takes.len(), total.cycles());
         let mut text = format!("{} of {all} takes tuned{counts}\n", total.takes);
         text += &format!(
             "{} of sound, each take at {} times real time; this run took {}\n",
@@ -142,32 +201,68 @@ impl Report {
             clock(self.spent.as_secs())
         );
         text += &format!(
-            "{} % of the samples pitched, {} cycles repeated, {} dropped{}\n",
+            "{} % of the samples pitched, {repeated} cycles repeated, {dropped} dropped{}\n",
             tenths(100 * total.pitched, total.samples),
-            grouped(total.repeated as u64),
-            grouped(total.dropped as u64),
-            self.latest()
+            self.latest().map_or(String::new(), |latest| format!(
+                ", the greatest delay {latest}"
+            ))
         );
         text
     }
 
     /// The greatest delay, and the take that has it.
-    fn latest(&self) -> String {
+    fn latest(&self) -> Option<String> {
         let latest = self
             .with(State::Done)
-            .max_by_key(|take| take.1.latency_most);
-        latest.map_or(String::new(), |(name, record)| {
-            let samples = record.latency_most;
-            let time = tenths(1000 * u128::from(samples), u128::from(record.hertz));
-            format!(", the greatest delay {samples} samples ({time} ms) in {name}")
-        })
+            .max_by_key(|take| take.record.latency_most)?;
+        let samples = latest.record.latency_most;
+        let time = tenths(1000 * u128::from(samples), latest.record.hertz.into());
+        Some(format!("{samples} samples ({time} ms) in {}", latest.name))
+    }
+
+    /// The totals of a page: words and figures, none of which depends on how fast it was.
+    pub fn figures(&self) -> Vec<(&'static str, String)> {
+        let total = self.total();
+        let [repeated, dropped] = total.cycles();
+        let count = |state| self.with(state).count().to_string();
+        let mut figures = vec![
+            (
+                "takes tuned",
+                format!("{} of {}", total.takes, self.takes.len()),
+            ),
+            ("refused", count(State::Refused)),
+            ("failed", count(State::Failed)),
+            ("without a picture", self.undrawn().count().to_string()),
+            ("not done yet", count(State::Begun)),
+            (
+                "sound",
+                format!(
+                    "{} ({} s)",
+                    clock((total.sound / 1000) as u64),
+                    thousandths(total.sound)
+                ),
+            ),
+            (
+                "pitched",
+                format!("{} %", tenths(100 * total.pitched, total.samples)),
+            ),
+            ("cycles", format!("{repeated} repeated, {dropped} dropped")),
+            ("greatest delay", self.latest().unwrap_or_default()),
+        ];
+        // what every night has is refused and failed, if only 0
+        let seldom = ["without a picture", "not done yet"];
+        figures.retain(|(what, figure)| {
+            !figure.is_empty() && !(seldom.contains(what) && figure == "0")
+        });
+        figures
     }
 
     pub fn text(&self) -> String {
         let mut text = format!("Report of {}\n\n{}\n", date(), self.top());
         text += "Samples, pitched samples, cycles repeated, cycles dropped, the sum of the rate's distance from 65536, its mean and remainder:\n";
-        for (name, record) in self.with(State::Done) {
-            text += &format!("  {}\t{name}\n", figures(record).replace('\t', " "));
+        for take in self.with(State::Done) {
+            let figures = figures(&take.record).replace('\t', " ");
+            text += &format!("  {figures}\t{}\n", take.name);
         }
         text + &format!(
             "  {}\ttotal\n",
@@ -177,11 +272,10 @@ impl Report {
 
     pub fn tsv(&self) -> String {
         let mut text = HEADING.to_string();
-        for (name, record) in &self.takes {
-            text += &row(name, record);
+        for take in &self.takes {
+            text += &row(&take.name, &take.record);
         }
         let total = self.total();
-        let thousandths = |number: u128| format!("{}.{:03}", number / 1000, number % 1000);
         text += &format!(
             "total\t\t\t\t{}\t{}\t{}\t\t\t\t\t\t\t\t\t\n",
             total_figures(&total),
@@ -247,19 +341,24 @@ fn part(title: &str, lines: impl Iterator<Item = String>) -> String {
 }
 
 /// The words of a take that is not tuned: the file is named in them.
-fn said(name: &str, record: &Record) -> String {
-    match record.said.is_empty() {
-        true => format!("  {name}: nothing was said\n"),
-        false => record
-            .said
-            .iter()
-            .map(|line| format!("  {line}\n"))
-            .collect(),
+fn said(take: &Entry) -> String {
+    let said = &take.record.said;
+    match said.is_empty() {
+        true => format!("  {}: nothing was said\n", take.name),
+        false => said.iter().map(|line| format!("  {line}\n")).collect(),
+    }
+}
+
+/// Why a take has no picture.
+pub fn why_undrawn(record: &Record) -> &str {
+    match record.undrawn.is_empty() {
+        true => "it is not drawn yet",
+        false => &record.undrawn,
     }
 }
 
 /// Why a take looks wrong.
-fn look_at(record: &Record) -> String {
+pub fn look_at(record: &Record) -> String {
     let mut why = Vec::new();
     if record.state != State::Done {
         return String::new();
@@ -280,6 +379,17 @@ fn look_at(record: &Record) -> String {
         ));
     }
     why.join(", ")
+}
+
+/// How long a take is, and how much of it is pitched.
+pub fn size(record: &Record) -> String {
+    let long = seconds(record.samples, record.hertz.max(1) as u32);
+    let pitched = tenths(100 * u128::from(record.pitched), record.samples.into());
+    format!("{long} s, {pitched} % pitched")
+}
+
+fn thousandths(number: u128) -> String {
+    format!("{}.{:03}", number / 1000, number % 1000)
 }
 
 /// How fast a take was made.
@@ -347,8 +457,16 @@ mod tests {
 
     fn report(takes: Vec<Record>) -> Report {
         let takes = takes.into_iter().enumerate();
+        let takes = takes.map(|(at, record)| Entry {
+            at,
+            name: at.to_string(),
+            take: at.to_string().into(),
+            record,
+            drawn: false,
+        });
         Report {
-            takes: takes.map(|(at, record)| (at.to_string(), record)).collect(),
+            takes: takes.collect(),
+            pictures: false,
             spent: Duration::from_secs(1),
         }
     }

@@ -4,7 +4,7 @@
 
 use super::record::{changed, Record, State};
 use super::room::{made, outs, write, Room, KEPT, NOT_ITS_OWN};
-use super::takes::Job;
+use super::{removed, takes::Job};
 use std::fs::{self, File};
 use std::os::unix::fs::symlink;
 use std::path::{Path, PathBuf};
@@ -111,9 +111,15 @@ fn refuse(room: &Room, take: &Path, why: String) -> Result<(), End> {
     let record = Record {
         state: State::Failed,
         said: vec![why],
+        own_picture: own_picture(room, take),
         ..Record::default()
     };
     record.write(room, take)
+}
+
+/// Whether the picture of a take is the night's own.
+fn own_picture(room: &Room, take: &Path) -> bool {
+    Record::read(&room.said(take)).is_some_and(|said| said.own_picture)
 }
 
 /// A take that is back, where all of it is. What was said is stored before OUT has its place, so that OUT is known for the night's own.
@@ -134,6 +140,7 @@ fn one(room: &Room, sent: &Sent, back: &Path, number: usize) -> Option<Record> {
         .iter_mut()
         .for_each(|line| *line = line.replace(&there, &here));
     record.own = true;
+    record.own_picture = own_picture(room, &sent.take);
     (record.length, record.changed) = (sent.length, sent.changed.clone());
     let unchanged = fs::metadata(room.from.join(&sent.take)).is_ok_and(|is| record.is_of(&is));
     if !unchanged {
@@ -143,12 +150,16 @@ fn one(room: &Room, sent: &Sent, back: &Path, number: usize) -> Option<Record> {
             "{from}: it was changed while it was read; run it again"
         )];
     }
-    let stored = record
-        .write(room, &sent.take)
-        .and_then(|()| match record.state {
-            State::Done => moved(room, &sent.take, &came, &copy, &record),
-            _ => Ok(()),
-        });
+    // a picture of what the take was goes
+    let stale = match record.own_picture {
+        true => removed(&room.picture(&sent.take)),
+        false => Ok(()),
+    };
+    let stored = stale.and_then(|()| record.write(room, &sent.take));
+    let stored = stored.and_then(|()| match record.state {
+        State::Done => moved(room, &sent.take, &came, &copy, &record),
+        _ => Ok(()),
+    });
     if let Err(End::File(why)) = stored {
         record.state = State::Failed;
         record.said = vec![why];

@@ -3,13 +3,13 @@
 
 use super::record::{changed, Record, State};
 use super::room::{machine, made, outs, Room, NOT_ITS_OWN};
-use super::{child, own_program, version, PROGRAM};
+use super::{child, own_program, removed, version, PROGRAM};
 use crate::rows::rows;
 use crate::settings;
 use crate::source::Source;
 use daxfolin::wave::Take;
 use std::collections::HashMap;
-use std::fs::{self, File};
+use std::fs::{self, File, Metadata};
 use std::io::{self, BufRead, BufReader};
 use std::os::unix::process::ExitStatusExt;
 use std::path::{Path, PathBuf};
@@ -36,7 +36,8 @@ pub fn run(request: &Night, takes: &[PathBuf]) -> Result<(), End> {
             Ok(record) => record,
             Err(end) => failure(&room, take, &end),
         };
-        if record.state == State::Failed {
+        let undrawn = request.pictures && !record.undrawn.is_empty();
+        if record.state == State::Failed || undrawn {
             worst = Some(FILE);
         }
         // what cannot be stored was not said: the next run begins the take anew
@@ -51,14 +52,17 @@ pub fn run(request: &Night, takes: &[PathBuf]) -> Result<(), End> {
 
 fn failure(room: &Room, take: &Path, end: &End) -> Record {
     let was = Record::read(&room.said(take)).unwrap_or_default();
-    let said = match end {
-        End::File(why) | End::Exists(why) | End::Usage(why) | End::Refused(_, why) => why.clone(),
-        End::Signal(_) | End::Said(_) => "it failed".to_string(),
-    };
     Record {
         state: State::Failed,
-        said: lines(&said),
+        said: lines(words_of(end)),
         ..was
+    }
+}
+
+fn words_of(end: &End) -> &str {
+    match end {
+        End::File(why) | End::Exists(why) | End::Usage(why) | End::Refused(_, why) => why,
+        End::Signal(_) | End::Said(_) => "it failed",
     }
 }
 
@@ -70,39 +74,59 @@ fn lines(text: &str) -> Vec<String> {
 fn one(request: &Night, room: &Room, take: &Path) -> Result<Record, End> {
     let from = room.from.join(take);
     let file = fs::metadata(&from).map_err(|error| failed(&from, &error))?;
-    let (out, outs) = (room.out(take), room.outs(take));
     let was = Record::read(&room.said(take));
-    if let Some(done) = was
-        .as_ref()
-        .filter(|was| was.is_done(&file, &outs, request.mend))
-    {
-        return Ok(done.clone());
+    let is_tuned = |was: &Record| was.is_tuned(&file, &room.outs(take), request.mend);
+    let mut record = match was {
+        Some(was) if was.is_done(room, take, &file, request.mend) => return Ok(was),
+        Some(was) if is_tuned(&was) => was,
+        was => tuned(request, room, take, &file, was)?,
+    };
+    if room.pictures && record.state == State::Done {
+        drawn(request, room, take, &mut record)?;
     }
+    match fs::metadata(&from) {
+        Ok(is) if record.is_of(&is) => Ok(record),
+        _ => Err(no(&from, "it was changed while it was read; run it again")),
+    }
+}
+
+/// A take that is tuned, or refused, or failed. The picture of what it was before goes.
+fn tuned(
+    request: &Night,
+    room: &Room,
+    take: &Path,
+    file: &Metadata,
+    was: Option<Record>,
+) -> Result<Record, End> {
+    let from = room.from.join(take);
+    let (out, outs) = (room.out(take), room.outs(take));
     let there = outs.iter().any(|out| fs::symlink_metadata(out).is_ok());
     let mut record = Record {
         own: !there || was.as_ref().is_some_and(|was| was.own),
+        own_picture: was.as_ref().is_some_and(|was| was.own_picture),
         before: was.map_or(String::new(), |was| before(&was)),
         version: version(),
         machine: machine(),
         length: file.len(),
-        changed: changed(&file),
+        changed: changed(file),
         voices: room.voices as u64,
         ..Record::default()
     };
     made(out.parent().unwrap_or(Path::new(".")))?;
     // from here on OUT is this night's, whatever ends it before it has said so
     record.write(room, take)?;
+    if record.own_picture {
+        removed(&room.picture(take))?;
+    }
     let begun = Instant::now();
     let mut tuned = match (there, record.own) {
         (true, false) => passed_over(request, room, take)?,
         (true, true) => tune(request, &from, &out, &["-f"])?,
         (false, _) => tune(request, &from, &out, &[])?,
     };
-    let mut read = from.clone();
     if request.mend && record.own && tuned.may_be_mended() {
         if let Some(mended) = mended(&from, &room.mended(take))? {
-            read = room.mended(take);
-            tuned = tune(request, &read, &out, &["-f"])?;
+            tuned = tune(request, &room.mended(take), &out, &["-f"])?;
             record.mended = mended;
         }
     }
@@ -115,12 +139,63 @@ fn one(request: &Night, room: &Room, take: &Path) -> Result<Record, End> {
     record.number = tuned.number;
     if record.state == State::Done {
         tuned.into_record(&mut record)?;
-        look_at(request, &read, &mut record)?;
+        look_at(request, &read(room, take, &record), &mut record)?;
     }
     record.spent = begun.elapsed().as_millis() as u64;
-    match fs::metadata(&from) {
-        Ok(is) if record.is_of(&is) => Ok(record),
-        _ => Err(no(&from, "it was changed while it was read; run it again")),
+    Ok(record)
+}
+
+/// The file that is tuned: the take, or its mended copy.
+fn read(room: &Room, take: &Path, record: &Record) -> PathBuf {
+    match record.mended.is_empty() {
+        true => room.from.join(take),
+        false => room.mended(take),
+    }
+}
+
+/// The picture of a take that is tuned. One that fails is said, and leaves the take as it is.
+fn drawn(request: &Night, room: &Room, take: &Path, record: &mut Record) -> Result<(), End> {
+    let picture = room.picture(take);
+    record.own_picture |= fs::symlink_metadata(&picture).is_err();
+    // from here on the picture is this night's, whatever ends it before it has said so
+    record.drawn = 0;
+    record.write(room, take)?;
+    let drawn = match record.own_picture {
+        true => draw(request, room, take, record, &picture),
+        false => drawn_already(request, room, take, record),
+    };
+    let length = drawn.and_then(|()| {
+        let file = fs::metadata(&picture).map_err(|error| failed(&picture, &error))?;
+        Ok(file.len())
+    });
+    match length {
+        Ok(length) => (record.drawn, record.undrawn) = (length, String::new()),
+        Err(end) => record.undrawn = lines(words_of(&end)).join("; "),
+    }
+    Ok(())
+}
+
+/// By the command that one would use by hand.
+fn draw(request: &Night, room: &Room, take: &Path, record: &Record, to: &Path) -> Result<(), End> {
+    let read = read(room, take, record);
+    let said = run_command(&["picture", "-f"], &options(request), &[&read, to])?;
+    match said.status {
+        0 => Ok(()),
+        _ => Err(End::File(said.said.join("\n"))),
+    }
+}
+
+/// A picture that the night did not make is one if it is what the night would draw, byte for byte.
+fn drawn_already(request: &Night, room: &Room, take: &Path, record: &Record) -> Result<(), End> {
+    let tried = super::room::picture(&room.kept("tried"), take, room.voices);
+    made(tried.parent().unwrap_or(&tried))?;
+    draw(request, room, take, record, &tried)?;
+    let picture = room.picture(take);
+    let equal = equal(&tried, &picture).unwrap_or(false);
+    let _ = fs::remove_file(&tried);
+    match equal {
+        true => Ok(()),
+        false => Err(no(&picture, NOT_ITS_OWN)),
     }
 }
 
@@ -171,16 +246,11 @@ impl Said {
     }
 }
 
-/// Runs a command of this program that prints columns.
+/// Runs a command of this program, and reads the columns that it prints.
 fn run_command(words: &[&str], options: &[String], files: &[&Path]) -> Result<Said, End> {
     let program = own_program()?;
     let mut command = child(&program);
-    command
-        .args(words)
-        .arg("--tsv")
-        .args(options)
-        .arg("--")
-        .args(files);
+    command.args(words).args(options).arg("--").args(files);
     let done = command.output().map_err(|error| failed(&program, &error))?;
     let [printed, said] =
         [&done.stdout, &done.stderr].map(|text| String::from_utf8_lossy(text).into_owned());
@@ -231,7 +301,7 @@ fn options(request: &Night) -> Vec<String> {
 }
 
 fn tune(request: &Night, from: &Path, out: &Path, flags: &[&str]) -> Result<Said, End> {
-    let words: Vec<&str> = ["tune"].iter().chain(flags).copied().collect();
+    let words: Vec<&str> = ["tune", "--tsv"].iter().chain(flags).copied().collect();
     run_command(&words, &options(request), &[from, out])
 }
 
@@ -370,10 +440,7 @@ pub fn check(request: &Night, takes: &[PathBuf]) -> Result<(), End> {
 
 fn check_one(request: &Night, room: &Room, take: &Path) -> Result<String, End> {
     let said = Record::read(&room.said(take)).unwrap_or_default();
-    let read = match said.mended.is_empty() {
-        true => room.from.join(take),
-        false => room.mended(take),
-    };
+    let read = read(room, take, &said);
     let program = own_program()?;
     let mut command = child(&program);
     command

@@ -119,7 +119,7 @@ fn said(sheet: &Sheet) -> Vec<(&'static str, String)> {
 }
 
 /// The notes of a scale, and its name where it has one.
-fn scale(mask: u32) -> String {
+pub fn scale(mask: u32) -> String {
     if mask == crate::octave::ALL {
         return "all twelve notes".to_string();
     }

@@ -190,6 +190,7 @@ pub struct Night {
     pub transfer: bool,
     pub retries: u32,
     pub mend: bool,
+    pub pictures: bool,
     pub again: bool,
     pub check: bool,
     pub list: bool,
@@ -581,6 +582,9 @@ fn night(given: &Given) -> Result<Night, String> {
             ));
         }
     }
+    if given.has("pictures") && given.has("transfer") {
+        return Err("--pictures draws on machines that have the folders, and --transfer is for others: tune with --transfer, and then run it with --pictures and without, which draws what is missing".to_string());
+    }
     let takes = given.value("takes").map(|text| {
         coded::list(text)
             .filter(|takes| takes.iter().all(|take| is_below(take)))
@@ -598,6 +602,7 @@ fn night(given: &Given) -> Result<Night, String> {
         transfer: given.has("transfer"),
         retries: counted(given, "retries", 100)?.unwrap_or(3),
         mend: given.has("mend"),
+        pictures: given.has("pictures"),
         again: given.has("again"),
         check: given.has("check"),
         list: given.has("list"),
@@ -887,6 +892,10 @@ mod tests {
             (
                 &["in", "out", "--transfer"],
                 "--transfer is about machines: it needs -S MACHINE,..",
+            ),
+            (
+                &["in", "out", "-S", "a", "--transfer", "--pictures"],
+                "--pictures draws on machines that have the folders, and --transfer is for others: tune with --transfer, and then run it with --pictures and without, which draws what is missing",
             ),
             (
                 &["in", "out", "-S", "a,,b"],

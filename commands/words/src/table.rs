@@ -288,6 +288,10 @@ const NIGHT: &[Opt] = &[
         "tune a mended copy of a take that a recorder left when it lost power; the take itself stays as it is",
     ),
     switch(
+        "pictures",
+        "also draw each take as daxfolin picture does, OUT.svg beside OUT, and write OUT_DIR/index.html over all of them",
+    ),
+    switch(
         "again",
         "begin anew: what this night made so far is removed, and every take is tuned",
     ),
@@ -501,6 +505,7 @@ pub const COMMANDS: &[Command] = &[
         more: &[
             "A take is done when its OUT is there. So a night that was stopped in any way goes on where it was when it is started again, and a take that is new, or newer than its OUT, is tuned by the next run. OUT_DIR keeps its settings: other ones are refused, unless with --again. A file that the night did not make is never written over.",
             "With voices the files of a take stand in a folder of its name: OUT_DIR/x.wav/x.wav, and beside it x-1.wav and so on. No two takes can meet there.",
+            "With --pictures the picture of x.wav is x.wav.svg beside its OUT, and a take is done when both are there: a later run draws what is missing, also of takes that were tuned without it. OUT_DIR/index.html has the night's figures, what to look at first, and every take with its picture. A picture that fails makes the status 3, and the take stays tuned.",
             "OUT_DIR/.night has report.txt and report.tsv over all takes, the log, the settings, said/ with what was said of each take, and mended/ with mended copies.",
             "A refused take does not stop the others; the report names it with its number and what to do. Takes to look at first stand at the top: more than 20 % sung on notes outside of the scale, clipped input, nothing pitched.",
             "Machines need ssh without a password, and daxfolin of this version: others are left out, and said. They have IN_DIR and OUT_DIR at the same places, or get their takes with --transfer, which needs rsync here and there. A machine that dies gives its takes to the others.",
@@ -514,7 +519,7 @@ pub const COMMANDS: &[Command] = &[
             ),
             (
                 3,
-                "takes failed, another night is at work there, or GNU parallel is missing",
+                "takes or pictures failed, another night is at work there, or GNU parallel is missing",
             ),
             UNBUILT,
             (6, "--check found a difference"),
