@@ -39,7 +39,6 @@ use denote.Triple.Call.{calls-at}
 use denote.Triple.Clauses.{Lasts}
 use denote.Triple.Walked.{says, Stays, stay-none, stay-none-slice, gave-slice, walkOf, goes-none, goes-none-slice, goes-gave-slice, ends-at, walked}
 use denote.Exit.{yes}
-use Rattle.record.proofs.Lending.{Sort}
 use Rattle.tuner.specs.declared.Answer.{Answer}
 use Rattle.tuner.specs.declared.Taken.{Taken}
 use Rattle.tuner.specs.declared.Tuner.{Tuner}
