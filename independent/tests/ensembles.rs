@@ -3,7 +3,7 @@
 
 use independent::calls::{made, Call, Left};
 use independent::generator::cases::{sung, Cases};
-use independent::generator::edges::calls_over;
+use independent::generator::edges::{calls_over, edges};
 use independent::generator::ensembles::{ensemble_edges, pitched_ensemble, turned_bits};
 use independent::list::{room, List, Listing, ROW};
 use independent::record::{Record, Voice, LAYOUT, SIZE};
@@ -156,7 +156,8 @@ fn the_places_of_the_numbers() {
 
 #[test]
 fn records_are_good_up_to_the_edges() {
-    for (place, (record, good)) in ensemble_edges().into_iter().enumerate() {
+    let records = edges().into_iter().chain(ensemble_edges());
+    for (place, (record, good)) in records.enumerate() {
         assert_eq!(record.is_good(), good, "record {place}");
         let bytes = record.bytes();
         assert!(Record::of_bytes(&bytes) == record);

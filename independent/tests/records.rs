@@ -3,9 +3,7 @@
 
 use independent::calls::{made, Call};
 use independent::generator::cases::Cases;
-use independent::generator::edges::{
-    calls_over, choices, edges, fresh_of_version_2, BEGINNING_OF_OLD,
-};
+use independent::generator::edges::{calls_over, choices, fresh_of_version_2, BEGINNING_OF_OLD};
 use independent::record::Record;
 use independent::settings::Settings;
 use independent::statistics::Statistics;
@@ -54,22 +52,6 @@ fn assert_is_the_tuner_s(hertz: u32) {
         }
     }
     assert!(pitched > 10, "the take is pitched for a while");
-}
-
-#[test]
-fn records_are_good_up_to_the_edges() {
-    for (place, (record, good)) in edges().into_iter().enumerate() {
-        assert_eq!(record.is_good(), good, "record {place}");
-        let bytes = record.bytes();
-        assert!(Record::of_bytes(&bytes) == record);
-        for call in calls_over(&record) {
-            let left = made(&bytes, &call);
-            let refused = left.answer.number == 9 || left.state == 9;
-            assert_eq!(refused, !good, "record {place}, {call:?}");
-            assert!(good || left.lent == call.lent());
-            assert!(good || left.record == bytes, "record {place}, {call:?}");
-        }
-    }
 }
 
 /// A refused start leaves the default tuner, a refused change the record. A start
