@@ -95,7 +95,9 @@ fn step(
     i: usize,
 ) -> Progress
     requires { ⌜ ForceIn f × Long (now s) m × (m < length (now s)) × (i < longestBlock) × Ready (now s) m (now y) (now e) (now h) p × Room p ⌝ }
-    ensures { λ r. ⌜ Ready (now (s .entry)) (m + 1) (now (y .exit)) (now (e .exit)) (now (h .exit)) r × Did f (now (s .entry)) m (now (y .entry)) p (now (y .exit)) r (tones (now (periods .entry)) (now (notes .entry)) (now (rates .entry))) i (tones (now (periods .exit)) (now (notes .exit)) (now (rates .exit))) ⌝ }
+    ensures { λ r. ⌜ Ready (now (s .entry)) (m + 1) (now (y .exit)) (now (e .exit)) (now (h .exit)) r
+        × Did f (now (s .entry)) m (now (y .entry)) p (now (y .exit)) r
+        (tones (now (periods .entry)) (now (notes .entry)) (now (rates .entry))) i (tones (now (periods .exit)) (now (notes .exit)) (now (rates .exit))) ⌝ }
 {
     let n = p.count + 1;
     let heard = m + 1;
@@ -157,7 +159,11 @@ pub fn run(
     rates: &mut [u32; LONGEST_BLOCK],
 ) -> Progress
     requires { ⌜ ForceIn f × Long (now s) m × (m + b ≤ length (now s)) × (b ≤ longestBlock) × Ready (now s) m (now y) (now e) (now h) p × Begins b p × (length (now out) ≡ longestBlock) × Long512 (tones (now periods) (now notes) (now rates)) ⌝ }
-    ensures { λ r. ⌜ Ready (now (s .entry)) (m + b) (now (y .exit)) (now (e .exit)) (now (h .exit)) r × Ran f (takeSoFar (now (s .entry)) m (now (y .entry)) p) (take b (drop m (now (s .entry)))) (takeSoFar (now (s .entry)) (m + b) (now (y .exit)) r) (now (out .entry)) (now (out .exit)) (tones (now (periods .entry)) (now (notes .entry)) (now (rates .entry))) (tones (now (periods .exit)) (now (notes .exit)) (now (rates .exit))) p r × Ended b p r ⌝ }
+    ensures { λ r. ⌜ Ready (now (s .entry)) (m + b) (now (y .exit)) (now (e .exit)) (now (h .exit)) r
+        × Ran f (takeSoFar (now (s .entry)) m (now (y .entry)) p) (take b (drop m (now (s .entry))))
+        (takeSoFar (now (s .entry)) (m + b) (now (y .exit)) r) (now (out .entry)) (now (out .exit))
+        (tones (now (periods .entry)) (now (notes .entry)) (now (rates .entry))) (tones (now (periods .exit)) (now (notes .exit)) (now (rates .exit))) p r
+        × Ended b p r ⌝ }
 {
     let mut q = hear_all(p, f, y, e, h, s, m, b, periods, notes, rates);
     let r = reading::glide(p.behind, rates, periods, s, m, b, out);
