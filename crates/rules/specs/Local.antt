@@ -184,8 +184,8 @@ module _ (f : InForce) {t u : Take} (a : Agree t u) (new : ℤ)
 pub after_agree : {f : InForce} → ForceIn f → {t u : Take} → Sane t → Agree t u → (xs : List ℤ) → Agree (after f t xs) (after f u xs) × (gives f t xs ≡ gives f u xs)
 unfolding after gives
 after_agree r h a [] = (a, refl)
-after_agree {f} r h a (x ∷ xs) =
+after_agree {f = f} r {t = t} {u = u} h a (x ∷ xs) =
     let next = stepped_sane r h x in
     let one = stepped_agree f a x h.pitch.lags next.bounds in
-    let rest = after_agree r next one.0 xs in
+    let rest = after_agree r {t = (stepped f t x).next} next one.0 xs in
     (rest.0, λ i. one.1 i ∷ rest.1 i)

@@ -92,7 +92,7 @@ module _ {f : InForce} (r : ForceIn f) where
   pub after_sane : {t : Take} → Sane t → (xs : List ℤ) → Sane (after f t xs)
   unfolding after
   after_sane h [] = h
-  after_sane h (x ∷ xs) = after_sane (stepped_sane h x) xs
+  after_sane {t = t} h (x ∷ xs) = after_sane {t = (stepped f t x).next} (stepped_sane h x) xs
 
   -- never ahead, never over 1,000 samples behind, at every sample: xs is any beginning of what comes
   pub always_in_bounds : {t : Take} → Sane t → (xs : List ℤ) → InBounds (t.count + length xs) (after f t xs).position
