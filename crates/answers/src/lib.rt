@@ -8,7 +8,7 @@ use rules::KEPT_SAMPLES;
 
 // Document 01's number, and the samples written, cycles repeated and cycles dropped.
 #[repr(C)]
-#[derive(Drop)]
+#[derive(Clone, Copy)]
 pub struct Answer {
     pub number: u32,
     pub written: u16,

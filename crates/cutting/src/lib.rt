@@ -7,7 +7,7 @@ use rules::LONGEST_BLOCK;
 
 // A stretch of a recording: the sample where it begins, and how many it has.
 #[repr(C)]
-#[derive(Drop)]
+#[derive(Clone, Copy)]
 pub struct Stretch {
     pub from: usize,
     pub count: usize,

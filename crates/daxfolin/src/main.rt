@@ -8,7 +8,7 @@ use tuner::Tuner;
 
 // The tuner, how many bytes of a line without its end are held, whether to read on, and whether the input came to its end: neither where
 // something failed.
-#[derive(Drop)]
+#[derive(Clone, Copy)]
 struct Turn {
     tuner: Tuner,
     held: usize,
@@ -17,7 +17,7 @@ struct Turn {
 }
 
 // The tuner, the place after the last line that was answered, and whether all answers were written.
-#[derive(Drop)]
+#[derive(Clone, Copy)]
 struct Served {
     tuner: Tuner,
     at: usize,

@@ -15,7 +15,7 @@ use rules::{EIGHTH_LAGS, LAST_EIGHTH_LAG, Settings};
 // The longest lag at eighth rate that can be a low.
 const LONGEST_LOW: usize = 109;
 
-#[derive(Drop)]
+#[derive(Clone, Copy)]
 pub enum Found {
     At(usize),
     Nothing,
@@ -42,7 +42,7 @@ fn low_at(d: &[u64; EIGHTH_LAGS], e: &[u64; EIGHTH_LAGS], g: Settings, l: usize)
 }
 
 // The two least lows, each 0 where there is none.
-#[derive(Drop)]
+#[derive(Clone, Copy)]
 struct Lows {
     first: usize,
     second: usize,

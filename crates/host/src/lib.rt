@@ -18,7 +18,7 @@ use tuner::{Answer, Done, Numbers, Tuner};
 
 // The meter: 0 searching; 1 locking, with the found lag; 2 pitched, with three figures; 9 refused. What is not shown is 0.
 #[repr(C)]
-#[derive(Drop)]
+#[derive(Clone, Copy)]
 pub struct Shown {
     pub state: u32,
     pub lag: f32,

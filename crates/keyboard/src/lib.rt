@@ -33,7 +33,7 @@ const PITCH_BEND: u16 = 224;
 
 // The key held; the running status; the first data byte of a half message.
 #[repr(C)]
-#[derive(Drop)]
+#[derive(Clone, Copy)]
 pub struct Keyboard {
     pub key: u32,
     pub status: u16,

@@ -13,7 +13,7 @@ use text::Number;
 use tuner::{Answer, Tuner};
 
 // What a line is answered: the tuner after it, the answer, whether a take began, and how many bytes were written.
-#[derive(Drop)]
+#[derive(Clone, Copy)]
 pub struct Reply {
     pub tuner: Tuner,
     pub answer: Answer,
@@ -22,7 +22,7 @@ pub struct Reply {
 }
 
 // What lines are answered: the tuner after them, the place after the last one, and how many bytes were written.
-#[derive(Drop)]
+#[derive(Clone, Copy)]
 pub struct Replies {
     pub tuner: Tuner,
     pub at: usize,
@@ -30,7 +30,7 @@ pub struct Replies {
 }
 
 // A number read from a field, where ok, and the place after the field.
-#[derive(Drop)]
+#[derive(Clone, Copy)]
 struct NumberField {
     ok: bool,
     value: u32,
@@ -38,7 +38,7 @@ struct NumberField {
 }
 
 // A sample read from a field, where ok, and the place after the field.
-#[derive(Drop)]
+#[derive(Clone, Copy)]
 struct SampleField {
     ok: bool,
     value: i16,
@@ -46,7 +46,7 @@ struct SampleField {
 }
 
 // Settings, where ok, and the place after their fields.
-#[derive(Drop)]
+#[derive(Clone, Copy)]
 struct FourSettings {
     ok: bool,
     settings: Settings,
@@ -54,7 +54,7 @@ struct FourSettings {
 }
 
 // How many values were read, where ok.
-#[derive(Drop)]
+#[derive(Clone, Copy)]
 struct Count {
     ok: bool,
     value: usize,

@@ -18,7 +18,7 @@ pub const NO_PLACE: u32 = MOST_ROWS;
 
 // The rows so far; the runs left out; the place and the first sample of the run that began last, 4096 where it has no place.
 #[repr(C)]
-#[derive(Drop)]
+#[derive(Clone, Copy)]
 pub struct Listing {
     pub rows: u32,
     pub left: u32,

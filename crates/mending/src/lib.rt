@@ -10,7 +10,7 @@ pub const TOO_LONG: usize = 2147483648;
 
 // A size of four bytes: its place, what it is, and what it becomes.
 #[repr(C)]
-#[derive(Drop)]
+#[derive(Clone, Copy)]
 pub struct Size {
     pub at: usize,
     pub old: u32,
@@ -19,7 +19,7 @@ pub struct Size {
 
 // What is mended in a file, where number is 0.
 #[repr(C)]
-#[derive(Drop)]
+#[derive(Clone, Copy)]
 pub struct Mending {
     pub number: u32,
     pub riff: Size,

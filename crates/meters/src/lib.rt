@@ -7,7 +7,7 @@ ghost use Rattle.meters.specs.Meters.{Exactly, Exact, shown_of};
 use pitch::Pitch;
 
 // Period and wanted period in samples, and the rate as a ratio.
-#[derive(Drop)]
+#[derive(Clone, Copy)]
 pub struct Figures {
     pub period: f32,
     pub wanted: f32,
@@ -15,7 +15,7 @@ pub struct Figures {
 }
 
 // What a read of the meter shows; locking has the found lag in samples.
-#[derive(Drop)]
+#[derive(Clone, Copy)]
 pub enum Meter {
     Searching,
     Locking(f32),

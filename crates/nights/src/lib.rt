@@ -17,7 +17,7 @@ use tuner::{Answer, KEPT_OUTS, Left, Numbers, Tuner};
 // The number that refused, or 0, and the block's; how many blocks were taken, and what their answers count added up; the answer to a first block that was given
 // again, else 0; and the list that is then kept. 96 bytes.
 #[repr(C)]
-#[derive(Drop)]
+#[derive(Clone, Copy)]
 pub struct NightAnswer {
     pub number: u32,
     pub refused: u16,
@@ -33,21 +33,21 @@ pub struct NightAnswer {
 }
 
 // What a night leaves beside the lent arrays, and its answer.
-#[derive(Drop)]
+#[derive(Clone, Copy)]
 pub struct NightLeft {
     pub numbers: Numbers,
     pub answer: NightAnswer,
 }
 
 // What a night leaves, and its answer.
-#[derive(Drop)]
+#[derive(Clone, Copy)]
 pub struct NightTaken {
     pub tuner: Tuner,
     pub answer: NightAnswer,
 }
 
 // How far a night has come: the numbers that the last block left, the answer so far, the next block's number, and the place where it begins.
-#[derive(Drop)]
+#[derive(Clone, Copy)]
 pub struct Reached {
     pub numbers: Numbers,
     pub answer: NightAnswer,

@@ -98,7 +98,7 @@ fn above(c: u32) -> u32
 }
 
 // Places of the table: from low to below high.
-#[derive(Drop)]
+#[derive(Clone, Copy)]
 struct Span {
     low: u32,
     high: u32,

@@ -14,7 +14,7 @@ use tracking::Tracker;
 
 // The eight lags with their sums, the tone, and 1 while tracking, 0 while searching.
 #[repr(C)]
-#[derive(Drop)]
+#[derive(Clone, Copy)]
 pub struct Pitch {
     pub tracker: Tracker,
     pub tone: Tone,

@@ -10,7 +10,7 @@ ghost use Rattle.reading.specs.Gliding.{Grown, among_four, PacedAll, Glided};
 use rules::LONGEST_BLOCK;
 
 // The read head within a block: how far it lies behind the input, and the cycles repeated and dropped so far.
-#[derive(Drop)]
+#[derive(Clone, Copy)]
 pub struct Growth {
     pub behind: u32,
     pub repeated: u32,

@@ -26,7 +26,7 @@ const FARTHEST: u64 = rules::FARTHEST as u64;
 // What was heard of a take: its sample count, the newest samples and the newest at eighth rate, oldest first, and the eighth-rate energies and
 // correlations of the lags 2 to 110.
 #[repr(C)]
-#[derive(Drop)]
+#[derive(Clone, Copy)]
 pub struct Heard {
     pub count: u64,
     pub energies: [u64; EIGHTH_LAGS],
@@ -37,14 +37,14 @@ pub struct Heard {
 
 // The read head: how far it lies behind the input, in 1/65536 sample.
 #[repr(C)]
-#[derive(Drop)]
+#[derive(Clone, Copy)]
 pub struct Head {
     pub behind: u64,
 }
 
 // The last block: its number, its length, 0 where there is none, its counts and its output.
 #[repr(C)]
-#[derive(Drop)]
+#[derive(Clone, Copy)]
 pub struct Last {
     pub number: u16,
     pub length: u16,

@@ -8,7 +8,7 @@ use reporting::Reporting;
 
 // The report so far, how many bytes of a line without its end are held, whether to read on, and whether the input came to its end: neither where a read
 // failed.
-#[derive(Drop)]
+#[derive(Clone, Copy)]
 struct Turn {
     reporting: Reporting,
     held: usize,

@@ -12,7 +12,7 @@ use tuner::{Answer, Tuner};
 
 // The tuner; how many takes began, 1,001 for more than 1,000; the newest one's figures, those of all before it added up, and how many bytes of the output
 // their lines take.
-#[derive(Drop)]
+#[derive(Clone, Copy)]
 pub struct Reporting {
     pub tuner: Tuner,
     pub takes: u32,
@@ -22,7 +22,7 @@ pub struct Reporting {
 }
 
 // A report so far, and how many bytes of a line without its end are held.
-#[derive(Drop)]
+#[derive(Clone, Copy)]
 pub struct Reads {
     pub reporting: Reporting,
     pub held: usize,

@@ -9,7 +9,7 @@ use rules::LONGEST_BLOCK;
 
 // A take's figures: samples, pitched samples, cycles repeated, cycles dropped, and the sum over samples of the rate's distance from 65536.
 #[repr(C)]
-#[derive(Drop)]
+#[derive(Clone, Copy)]
 pub struct Figures {
     pub samples: u64,
     pub pitched: u64,

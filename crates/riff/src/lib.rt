@@ -11,7 +11,7 @@ pub const FMT: u32 = 544501094;
 pub const DATA: u32 = 1635017060;
 
 // A chunk, where ok: the place of its name, and the size of its body.
-#[derive(Drop)]
+#[derive(Clone, Copy)]
 pub struct Found {
     pub ok: bool,
     pub at: usize,
@@ -19,7 +19,7 @@ pub struct Found {
 }
 
 // A walk: the place of the next chunk, the first fmt and the first data chunk so far, and whether a chunk ran past the end.
-#[derive(Drop)]
+#[derive(Clone, Copy)]
 pub struct Walk {
     pub at: usize,
     pub fmt: Found,

@@ -73,7 +73,7 @@ pub const FARTHEST: u32 = 1000 * 65536;
 
 // scale: a mask of 12 bits, bit = note number mod 12; eps in 1/1024; decay in 1/256; floor: a mean square; mode: 0 scale, 1 keyboard; channel: of the keyboard.
 #[repr(C)]
-#[derive(Drop)]
+#[derive(Clone, Copy)]
 pub struct Settings {
     pub scale: u32,
     pub eps: u32,
@@ -84,7 +84,7 @@ pub struct Settings {
 }
 
 // What is in force at a sample: the settings, the key held, 128 where there is none, and the sample rate.
-#[derive(Drop)]
+#[derive(Clone, Copy)]
 pub struct InForce {
     pub settings: Settings,
     pub key: u32,
@@ -92,14 +92,14 @@ pub struct InForce {
 }
 
 // The goal of a tracking step: the wanted note, 128 where there is none, and the raw rate toward it.
-#[derive(Drop)]
+#[derive(Clone, Copy)]
 pub struct Goal {
     pub note: u32,
     pub raw: u32,
 }
 
 // A rate in 1/65536, and what rounding cut off it, in 1/256 of that: 0 to 255.
-#[derive(Drop)]
+#[derive(Clone, Copy)]
 pub struct Smoothed {
     pub rate: u32,
     pub kept: u32,
@@ -108,7 +108,7 @@ pub struct Smoothed {
 // What a sound was found to be: its period in 1/256 sample, 0 where there is none; the wanted note, 128 where there is none; the rate in 1/65536, and
 // what rounding cut off it.
 #[repr(C)]
-#[derive(Drop)]
+#[derive(Clone, Copy)]
 pub struct Tone {
     pub period: u32,
     pub note: u32,

@@ -11,7 +11,7 @@ const NO_FILE: usize = 9223372036854775808;
 
 // Where a chunk was found, if `found` is not 0: the place of its name, and the size of its body.
 #[repr(C)]
-#[derive(Drop)]
+#[derive(Clone, Copy)]
 pub struct Place {
     pub at: usize,
     pub size: u32,
@@ -20,7 +20,7 @@ pub struct Place {
 
 // So many bytes of a file, from a place on.
 #[repr(C)]
-#[derive(Drop)]
+#[derive(Clone, Copy)]
 pub struct Piece {
     pub at: usize,
     pub count: usize,
@@ -29,7 +29,7 @@ pub struct Piece {
 // A seek in a file of so many bytes, as numbers alone. `mends` is not 0 where the sizes to be mended are sought, and not the take; `number` is 20 until
 // the file is seen to begin as RIFF WAVE, and then 0; `riff` is the RIFF size, `hertz` the fmt's rate; `past` is not 0 where a chunk ran past the end.
 #[repr(C)]
-#[derive(Drop)]
+#[derive(Clone, Copy)]
 pub struct Seek {
     pub length: usize,
     pub mends: u32,

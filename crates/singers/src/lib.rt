@@ -21,7 +21,7 @@ const MOST_VOICES: u64 = 3;
 
 // A voice: its interval, how far its position lies behind the input, and its last output.
 #[repr(C)]
-#[derive(Drop)]
+#[derive(Clone, Copy)]
 pub struct Voice {
     pub interval: u32,
     pub behind: u32,
@@ -30,7 +30,7 @@ pub struct Voice {
 
 // How many voices are chosen, and the voices.
 #[repr(C)]
-#[derive(Drop)]
+#[derive(Clone, Copy)]
 pub struct Voices {
     pub count: u64,
     pub first: Voice,

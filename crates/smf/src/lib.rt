@@ -41,7 +41,7 @@ const ENDS_EARLY: u32 = 33;
 
 // What a header says: the format, how many tracks, the division; and how many tracks have begun, of which 65535 are counted.
 #[repr(C)]
-#[derive(Drop)]
+#[derive(Clone, Copy)]
 pub struct Head {
     pub format: u32,
     pub declared: u32,
@@ -51,7 +51,7 @@ pub struct Head {
 
 // A file that is read: the refusal or 0; what became whole by the last byte, as of a track; what comes next; a number so far and how many bytes it still has; the bytes left of a body; the chunk's name; the header; the track.
 #[repr(C)]
-#[derive(Drop)]
+#[derive(Clone, Copy)]
 pub struct Song {
     pub number: u32,
     pub whole: u32,

@@ -13,7 +13,7 @@ use rules::{EIGHTH_LAGS, InForce, LAST_EIGHTH_LAG, LONGEST_BLOCK, OPEN_EIGHTHS};
 
 // A take as far as it has come within a block: its sample count, the eighth-rate samples that are stored, how far the read position lies
 // behind, the cycles repeated and dropped in the block, and the pitch.
-#[derive(Drop)]
+#[derive(Clone, Copy)]
 pub struct Progress {
     pub count: u32,
     pub places: usize,

@@ -10,7 +10,7 @@ ghost use Rattle.sums.specs.Direct.{high_of, low_of, products};
 ghost use Rattle.sums.specs.Kept.{squares, RightAt, Enough, Zeros};
 ghost use Rattle.rules.specs.Facts.{Right};
 
-#[derive(Drop)]
+#[derive(Clone, Copy)]
 pub struct Sums {
     pub e: u64,
     pub h: i64,

@@ -5,14 +5,14 @@ ghost use Rattle.text.specs.Text.{one_more, number, sample, places, digits, deci
 ghost use Rattle.text.specs.Places.{First, optional};
 
 // A number, where ok.
-#[derive(Drop)]
+#[derive(Clone, Copy)]
 pub struct Number {
     pub ok: bool,
     pub value: u32,
 }
 
 // A sample, where ok.
-#[derive(Drop)]
+#[derive(Clone, Copy)]
 pub struct Sample {
     pub ok: bool,
     pub value: i16,

@@ -11,7 +11,7 @@ ghost use Rattle.tracking.specs.Tracking.{place, PeriodAt, Tracks, Stepped};
 use rules::Settings;
 
 #[repr(C)]
-#[derive(Drop)]
+#[derive(Clone, Copy)]
 pub struct Tracker {
     pub low: u32,
     pub last: u32,
@@ -124,7 +124,7 @@ fn lost(d: u64, e: u64, g: Settings, lag: u32, last: u32) -> bool
 }
 
 // What a tracking step leaves: lost, or the period and the eight lags after it.
-#[derive(Drop)]
+#[derive(Clone, Copy)]
 pub struct Tracked {
     pub kept: bool,
     pub period: u32,

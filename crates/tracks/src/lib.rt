@@ -52,7 +52,7 @@ const MOST_TICK: u64 = 281474976710656;
 
 // A track that is read: the refusal or 0, what became whole, what comes next, the running status or 0, the event's status, its first data byte or type, a number so far, how many bytes it still has, and the tick of the event.
 #[repr(C)]
-#[derive(Drop)]
+#[derive(Clone, Copy)]
 pub struct Track {
     pub number: u32,
     pub whole: u32,

@@ -45,7 +45,7 @@ pub const KEPT_OUTS: usize = 4 * LONGEST_BLOCK;
 
 // A voice: its interval, 0 to 24 for -12 to 12, and how far its position lies behind the input.
 #[repr(C)]
-#[derive(Drop)]
+#[derive(Clone, Copy)]
 pub struct Voice {
     pub interval: u32,
     pub behind: u32,
@@ -53,7 +53,7 @@ pub struct Voice {
 
 // The last block: its number, its length, 0 where there is none, and what its answer counts.
 #[repr(C)]
-#[derive(Drop)]
+#[derive(Clone, Copy)]
 pub struct Last {
     pub number: u16,
     pub length: u16,
@@ -65,7 +65,7 @@ pub struct Last {
 
 // All numbers of a record, its arrays apart. 288 bytes, none of them padding.
 #[repr(C)]
-#[derive(Drop)]
+#[derive(Clone, Copy)]
 pub struct Numbers {
     pub layout: u64,
     pub settings: Settings,
@@ -83,7 +83,7 @@ pub struct Numbers {
 
 // The record. 10104 bytes, none of them padding.
 #[repr(C)]
-#[derive(Drop)]
+#[derive(Clone, Copy)]
 pub struct Tuner {
     pub numbers: Numbers,
     pub energies: [u64; EIGHTH_LAGS],
@@ -95,7 +95,7 @@ pub struct Tuner {
 
 // Document 01's number and counts; samples with a period, and the sum of the rate's distance from 65536; rows of the list, and those left out.
 #[repr(C)]
-#[derive(Drop)]
+#[derive(Clone, Copy)]
 pub struct Answer {
     pub number: u32,
     pub written: u16,
@@ -108,28 +108,28 @@ pub struct Answer {
 }
 
 // What a block leaves beside the lent arrays, and its answer.
-#[derive(Drop)]
+#[derive(Clone, Copy)]
 pub struct Left {
     pub numbers: Numbers,
     pub answer: Answer,
 }
 
 // What a call that has no more to say than its number leaves beside the lent arrays.
-#[derive(Drop)]
+#[derive(Clone, Copy)]
 pub struct Told {
     pub numbers: Numbers,
     pub number: u32,
 }
 
 // What a block leaves, and its answer.
-#[derive(Drop)]
+#[derive(Clone, Copy)]
 pub struct Taken {
     pub tuner: Tuner,
     pub answer: Answer,
 }
 
 // What a call that has no more to say than its number leaves.
-#[derive(Drop)]
+#[derive(Clone, Copy)]
 pub struct Done {
     pub tuner: Tuner,
     pub number: u32,

@@ -20,7 +20,7 @@ const LEVEL: u32 = 0;
 
 // A voice within a block: how far its position lies behind the input; the period and the wanted note beside which it sings, the table entry of its note,
 // and its rate.
-#[derive(Drop)]
+#[derive(Clone, Copy)]
 struct Singer {
     behind: u32,
     period: u32,
@@ -30,7 +30,7 @@ struct Singer {
 }
 
 // Where a stretch of samples ends, and how far behind it leaves the voice.
-#[derive(Drop)]
+#[derive(Clone, Copy)]
 struct Sung {
     at: usize,
     behind: u32,

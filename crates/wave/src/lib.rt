@@ -12,7 +12,7 @@ pub const WAVE: u32 = 1163280727;
 
 // The take in a file, where number is 0: its sample rate, the place of its samples and their count.
 #[repr(C)]
-#[derive(Drop)]
+#[derive(Clone, Copy)]
 pub struct WaveTake {
     pub number: u32,
     pub hertz: u32,
@@ -22,7 +22,7 @@ pub struct WaveTake {
 
 // The answer to reading: a refusal, or how many samples were written, and their rate.
 #[repr(C)]
-#[derive(Drop)]
+#[derive(Clone, Copy)]
 pub struct WaveRead {
     pub number: u32,
     pub hertz: u32,

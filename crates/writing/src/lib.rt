@@ -11,7 +11,7 @@ pub const LIMIT: usize = 1000000000;
 
 // The answer to writing: a refusal, or how many bytes were written.
 #[repr(C)]
-#[derive(Drop)]
+#[derive(Clone, Copy)]
 pub struct WaveWritten {
     pub number: u32,
     pub length: usize,
