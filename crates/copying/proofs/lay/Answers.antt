@@ -1,0 +1,46 @@
+use mathlib.Core.Path.{◌≡◌, refl, sym, ap, ◌∙◌, subst}
+use Prim.Native.Nat.{◌+◌, ◌-◌}
+use native.Mathlib.Omega.{arith}
+use native.Mathlib.Numerals.{add-one}
+use borrow.Author.Rules.{sfits_of}
+use lib.IntN.{ℤ, pos}
+use lib.ListN.{length, get_or, take, drop, set, length-set}
+use lib.Seq.{paste, paste-zero, paste-suc, take-length}
+use mir.Syntax.{w16}
+use mir.Val.{SFits, to_z, of_z}
+use mir.Facts.{to_z-of_z}
+use mathlib.Core.List.{List, ◌++◌}
+use Rattle.ages.specs.Ages.{samples-put}
+use Rattle.copying.proofs.lay.Goals as goal
+
+pub loop-i-init : goal.loop-i-init
+loop-i-init c = (omega arith, (refl, paste-zero c.args.into.now c.args.from c.args.xs.now, λ r. r))
+
+pub loop-i-preserved : goal.loop-i-preserved
+loop-i-preserved c =
+    let l = c.loop-i in
+    let a = c.args in
+    let x = get_or a.xs.now l.i (pos 0) in
+    let e : to_z w16 (of_z w16 x) ≡ x = to_z-of_z (sfits_of c.x-1.given) in (
+      omega arith,
+      (
+        length-set l.into (a.from + l.i) (to_z w16 (of_z w16 x)) ∙ l.invariant.1.0,
+        (λ n. set (l.invariant.1.1 n) (a.from + l.i) (e n))
+            ∙ paste-suc a.into.now a.from a.xs.now l.i (pos 0) (omega arith) (omega arith)
+            ∙ ap (paste a.into.now a.from a.xs.now) (sym (add-one l.i)),
+        λ r. samples-put l.into (a.from + l.i) (to_z w16 (of_z w16 x)) (subst (SFits w16) (sym e) (sfits_of c.x-1.given)) (omega arith) (l.invariant.1.2 r),
+      ),
+    )
+
+pub shape_of-into : goal.shape_of-into
+shape_of-into c = c.loop-i.invariant.1.0
+
+pub returns : goal.returns
+returns c =
+    let a = c.args in
+    let e : c.loop-i.i ≡ length a.xs.now = omega arith in (
+      c.loop-i.invariant.1.1
+          ∙ ap (paste a.into.now a.from a.xs.now) e
+          ∙ ap (λ (l : List ℤ). take a.from a.into.now ++ l ++ drop (a.from + length a.xs.now) a.into.now) (take-length a.xs.now),
+      c.loop-i.invariant.1.2,
+    )

@@ -1,0 +1,86 @@
+use native.Mathlib.Omega.{arith}
+use mathlib.Core.Path.{refl, ◌∙◌}
+use Prim.Native.Nat.{◌+◌, ◌-◌}
+use mathlib.Core.List.{◌++◌}
+use lib.ListN as list
+use lib.ListN.{take, drop}
+use Rattle.lines.specs.Lines.{desk}
+use Rattle.lines.specs.Batch.{Batch, none-answered, length_so_far, batch_more, no_room_left, no_line_left}
+use Rattle.lines.proofs.answer_lines.Goals.{After-answer_line-r, At-loop-end, Start}
+use Rattle.lines.proofs.answer_lines.Goals as goal
+
+-- one line more
+module _ (c : After-answer_line-r invariant-loop decreases-loop) where
+  abbrev loop : At-loop-end invariant-loop decreases-loop
+  loop = c
+
+  abbrev start : Start invariant-loop decreases-loop
+  start = loop
+
+  answered-more : Batch
+      (desk start.args.t start.args.store.now)
+      start.args.input.now
+      start.args.out.now
+      (desk c.answer_line-r.result.tuner c.answer_line-r.new.1.1.1.0)
+      (loop.loop.end + 1)
+      (loop.loop.length + c.answer_line-r.result.length)
+      (take loop.loop.length loop.loop.out ++ (c.answer_line-r.new.1.1.0 ++ drop (list.length loop.loop.out - loop.loop.length) (drop loop.loop.length loop.loop.out)))
+  answered-more = batch_more loop.loop.inv.1 loop.loop.inv.0 c.loop-end-test.true c.if-out-length-lt4096.false c.answer_line-r.ensures.0 c.answer_line-r.auto.1.1.0
+
+pub loop-end-init : goal.loop-end-init
+loop-end-init c = (c.first-end.ensures, none-answered, refl)
+
+pub overflow_sub-out : goal.overflow_sub-out
+overflow_sub-out c = length_so_far c.loop-end.invariant.1
+
+pub shape_of-out-then-out-length-lt4096 : goal.shape_of-out-then-out-length-lt4096
+shape_of-out-then-out-length-lt4096 c = c.loop-end.invariant.1.same
+
+pub shape_of-store-then-out-length-lt4096 : goal.shape_of-store-then-out-length-lt4096
+shape_of-store-then-out-length-lt4096 c = c.loop-end.invariant.2
+
+pub returns-then-out-length-lt4096 : goal.returns-then-out-length-lt4096
+returns-then-out-length-lt4096 c =
+    let i = c.loop-end.invariant in
+    no_room_left i.1 (omega (arith, i.0.after, i.0.within)) c.if-out-length-lt4096.true
+
+pub slice_bounds-answer_line-count : goal.slice_bounds-answer_line-count
+slice_bounds-answer_line-count c = c.loop-end.invariant.0.after
+
+pub slice_bounds-answer_line-start : goal.slice_bounds-answer_line-start
+slice_bounds-answer_line-start c = c.loop-end.invariant.0.after
+
+pub slice_bounds-answer_line-end : goal.slice_bounds-answer_line-end
+slice_bounds-answer_line-end c = c.loop-end.invariant.0.within
+
+pub slice_bounds-answer_line-count-in-loop-end : goal.slice_bounds-answer_line-count-in-loop-end
+slice_bounds-answer_line-count-in-loop-end c = length_so_far c.loop-end.invariant.1
+
+pub slice_bounds-answer_line-start-in-loop-end : goal.slice_bounds-answer_line-start-in-loop-end
+slice_bounds-answer_line-start-in-loop-end c = length_so_far c.loop-end.invariant.1
+
+pub overflow_add-length : goal.overflow_add-length
+overflow_add-length c =
+    let b = answered-more c in
+    record { fits = omega (arith, length_so_far b, b.same, (start c).good.1.1.0.0) }
+
+pub overflow_add-at : goal.overflow_add-at
+overflow_add-at c = let l = c in omega (arith, l.loop-end-test.true, l.well-formed)
+
+pub first-end-requires-in-loop-end : goal.first-end-requires-in-loop-end
+first-end-requires-in-loop-end c = let l = c in omega (arith, l.loop-end-test.true)
+
+pub loop-end-smaller : goal.loop-end-smaller
+loop-end-smaller c = let l = c in omega (arith, l.loop-end-test.true, l.loop-end.invariant.0.after)
+
+pub loop-end-preserved : goal.loop-end-preserved
+loop-end-preserved c = let a = c in (c.first-end-in-loop-end.ensures, answered-more a, a.answer_line-r.auto.1.1.1.0 ∙ (loop a).loop.invariant.2)
+
+pub shape_of-out : goal.shape_of-out
+shape_of-out c = c.loop-end.invariant.1.same
+
+pub shape_of-store : goal.shape_of-store
+shape_of-store c = c.loop-end.invariant.2
+
+pub returns : goal.returns
+returns c = no_line_left c.loop-end.invariant.1 c.loop-end.invariant.0 c.loop-end-test.false

@@ -1,0 +1,6 @@
+-- `nights::night` meets its contract: it is the night over the tuner's own arrays.
+use Rattle.tuner.proofs.Fields.{stores, outs-long}
+use Rattle.nights.proofs.night.Goals as goal
+
+pub night_lent-d-requires : goal.night_lent-d-requires
+night_lent-d-requires c = let s = c in (stores s.args.t _ s.well-formed.0, outs-long s.args.t _ s.well-formed.0)

@@ -1,0 +1,25 @@
+-- `steps::hear` meets its contract, by whether an eighth-rate sample is due: then the next place is still inside.
+use native.Mathlib.Omega.{arith}
+use Rattle.steps.specs.Eighths.{heard-none, heard-one}
+use Rattle.steps.proofs.hear.Reads as reads
+use Rattle.steps.proofs.hear.Lts as lts
+use Rattle.steps.proofs.eighth.Reads as eighth-reads
+use Rattle.steps.proofs.hear.Goals as goal
+
+pub eighth-requires : goal.eighth-requires
+eighth-requires c =
+    let k = c in
+    let p = k.requires in
+    (p.0, p.1, p.2, p.3, p.4 k.if-n-eq0.true, p.5)
+
+pub overflow_add-result : goal.overflow_add-result
+overflow_add-result c = let k = c in omega (arith, k.requires.4 k.if-n-eq0.true)
+
+pub returns-then-n-eq0 : goal.returns-then-n-eq0
+returns-then-n-eq0 c =
+    let k = c in
+    let p = k.requires in
+    heard-one k.if-n-eq0.true (omega (arith, p.4 k.if-n-eq0.true, p.5.long)) c.eighth.ensures.0 c.eighth.ensures.1
+
+pub returns : goal.returns
+returns c = heard-none c.if-n-eq0.false c.requires.5

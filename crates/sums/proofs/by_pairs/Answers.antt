@@ -1,0 +1,117 @@
+use mathlib.Core.Path.{◌≡◌, refl, ap, ◌∙◌}
+use mathlib.Core.List.{List}
+use Prim.Native.Nat.{ℕ, ◌+◌, ◌*◌, ◌-◌, ◌≤◌}
+use native.Mathlib.Omega.{arith}
+use borrow.Author.Rules.{sfits_of}
+use lib.IntN.{ℤ, pos, nat_abs, ◌+ℤ◌, ◌-ℤ◌, ◌*ℤ◌}
+use mir.Syntax.{w16, w32, w64}
+use mir.Val.{to_z, of_z}
+use mir.Facts.{to_z-of_z}
+use Rattle.whole.specs.Words.{Bits, arg≤, lit, num, loop, cast, cast_ok, add, add_ok, mul, mul_ok, is}
+use Rattle.whole.specs.Adding.{run-start, run, run_ok}
+use Rattle.whole.specs.Numbers.{sum}
+use Rattle.rules.specs.Facts.{value_at}
+use Rattle.sums.specs.Direct.{high_of, low_of, parts, products, paired, pairs_sum}
+use Rattle.sums.proofs.by_pairs.Goals.{After-high_part-highs, After-loop-i, After-low_part-lows, After-pair-p}
+use Rattle.sums.proofs.by_pairs.Goals as goal
+
+pub loop-i-init : goal.loop-i-init
+loop-i-init c = (run-start _ _ _ refl, run-start _ _ _ refl, omega arith)
+
+-- what a turn adds
+module _ (c : After-pair-p invariant-loop decreases-loop) where
+  abbrev store : List ℤ
+  store = c.args.s.now
+
+  abbrev newer : ℕ
+  newer = c.args.to
+
+  abbrev older : ℕ
+  older = c.args.from
+
+  abbrev turn : ℕ
+  turn = c.loop-i.i
+
+  -- the second of a pair stands one place on
+  on : (p : ℕ) → p + 2 * turn + 1 ≡ p + (2 * turn + 1)
+  on p = omega arith
+
+  term : to_z w32 (of_z w32 c.pair-p.result) ≡ paired (products store newer older) turn
+  term =
+      to_z-of_z {w = w32} {z = c.pair-p.result} (sfits_of c.pair-p.type-inv)
+      ∙ c.pair-p.ensures.0
+      ∙ (λ j. to_z-of_z {w = w16} {z = value_at store (newer + 2 * turn)} (sfits_of c.pair-arg-1.given) j *ℤ to_z-of_z {w = w16} {z = value_at store (older + 2 * turn)} (sfits_of c.pair-arg-in-loop-i-1.given) j -ℤ pos 1
+      +ℤ to_z-of_z {w = w16} {z = value_at store (newer + 2 * turn + 1)} (sfits_of c.pair-arg-in-loop-i-2-1.given) j *ℤ to_z-of_z {w = w16} {z = value_at store (older + 2 * turn + 1)} (sfits_of c.pair-arg-in-loop-i-3-1.given) j)
+      ∙ (λ j. products store newer older (2 * turn) -ℤ pos 1 +ℤ value_at store (on newer j) *ℤ value_at store (on older j))
+
+top : (c : After-high_part-highs invariant-loop decreases-loop) → Bits w32 32768 (of_z w32 c.high_part-highs.result) (high_of (paired (products (store c) (newer c) (older c)) (turn c)))
+top c = is (c.high_part-highs.ensures.0 ∙ ap high_of (term c)) (arg≤ c.high_part-highs.ensures.1 (sfits_of c.high_part-highs.type-inv))
+
+bottom : (c : After-low_part-lows invariant-loop decreases-loop) → Bits w32 65536 (of_z w32 c.low_part-lows.result) (low_of (paired (products (store c) (newer c) (older c)) (turn c)))
+bottom c = is (c.low_part-lows.ensures.0 ∙ ap low_of (term c)) (arg≤ c.low_part-lows.ensures.1 (sfits_of c.low_part-lows.type-inv))
+
+pub high_part-highs-requires : goal.high_part-highs-requires
+high_part-highs-requires c = rw (to_z-of_z {w = w32} {z = c.pair-p.result} (sfits_of c.pair-p.type-inv)) c.pair-p.ensures.1
+
+pub overflow_add-highs : goal.overflow_add-highs
+overflow_add-highs c = run_ok 440 c.loop-i.invariant.0 (top c) (omega arith) tt
+
+pub low_part-lows-requires : goal.low_part-lows-requires
+low_part-lows-requires c = rw (to_z-of_z {w = w32} {z = c.pair-p.result} (sfits_of c.pair-p.type-inv)) c.pair-p.ensures.1
+
+pub overflow_add-lows : goal.overflow_add-lows
+overflow_add-lows c = run_ok 440 c.loop-i.invariant.1 (bottom c) (omega arith) tt
+
+pub loop-i-preserved : goal.loop-i-preserved
+loop-i-preserved c =
+    let l = c.loop-i in
+    (run 440 l.invariant.0 (top c) (omega arith) tt, run 440 l.invariant.1 (bottom c) (omega arith) tt, omega arith)
+
+-- the sums at the end
+module _ (c : After-loop-i invariant-loop decreases-loop) where
+  abbrev f : ℕ → ℤ
+  f = products c.args.s.now c.args.to c.args.from
+
+  abbrev turns : ℕ
+  turns = c.loop-i.i
+
+  all-highs : Bits w32 (32768 * 440) c.loop-i.highs (sum (λ (k : ℕ). high_of (paired f k)) turns)
+  all-highs = loop w32 c.loop-i.highs (32768 * 440) c.loop-i.invariant.0.reads (omega (arith, c.loop-i.invariant.0.size))
+
+  all-lows : Bits w32 (65536 * 440) c.loop-i.lows (sum (λ (k : ℕ). low_of (paired f k)) turns)
+  all-lows = loop w32 c.loop-i.lows (65536 * 440) c.loop-i.invariant.1.reads (omega (arith, c.loop-i.invariant.1.size))
+
+  wide : Bits w64 (32768 * 440) (of_z w64 (to_z w32 c.loop-i.highs)) (sum (λ (k : ℕ). high_of (paired f k)) turns)
+  wide = cast all-highs tt
+
+  placed : Bits w64 (32768 * 440 * 65536) (of_z w64 (to_z w64 (of_z w64 (to_z w32 c.loop-i.highs)) *ℤ pos 65536)) (sum (λ (k : ℕ). high_of (paired f k)) turns *ℤ pos 65536)
+  placed = mul wide (lit w64 65536) tt
+
+  both : Bits w64 (32768 * 440 * 65536 + 65536 * 440) (of_z w64 (to_z w64 (of_z w64 (to_z w64 (of_z w64 (to_z w32 c.loop-i.highs)) *ℤ pos 65536)) +ℤ to_z w64 (of_z w64 (to_z w32 c.loop-i.lows)))) (sum (λ (k : ℕ). high_of (paired f k)) turns *ℤ pos 65536 +ℤ sum (λ (k : ℕ). low_of (paired f k)) turns)
+  both = add placed (cast {w' = w64} all-lows tt) tt
+
+  -- how many pairs there were
+  many : Bits w64 440 c.args.pairs (pos turns)
+  many = is (ap pos (omega arith)) (num {w = w64} {n = 440} {z = pos c.args.pairs} c.requires.2 tt)
+
+pub overflow_cast-a : goal.overflow_cast-a
+overflow_cast-a c = cast_ok (all-highs c) tt
+
+pub overflow_cast-b : goal.overflow_cast-b
+overflow_cast-b c = cast_ok (all-lows c) tt
+
+pub overflow_mul-result : goal.overflow_mul-result
+overflow_mul-result c = mul_ok (wide c) (lit w64 65536) tt
+
+pub overflow_add-result : goal.overflow_add-result
+overflow_add-result c = add_ok (placed c) (cast {w' = w64} (all-lows c) tt) tt
+
+pub overflow_add-result-2 : goal.overflow_add-result-2
+overflow_add-result-2 c = add_ok (both c) (many c) tt
+
+pub returns : goal.returns
+returns c =
+    let all = add (both c) (many c) tt in
+    let twice : 2 * turns c ≡ 2 * c.args.pairs = omega arith in
+    let e = all.reads ∙ ap (λ (z : ℤ). z +ℤ pos (turns c)) (parts (paired (f c)) (turns c)) ∙ pairs_sum (f c) (turns c) ∙ ap (sum (f c)) twice in
+    (e, omega (arith, ap nat_abs all.reads, all.size.within))

@@ -1,0 +1,68 @@
+-- `sums::next` meets its contract: the window moves on by one sample (`E-slides`, `H-next`), and the sums of 16-bit samples are small.
+use mathlib.Core.Path.{◌≡◌, sym, ap, ◌∙◌}
+use Prim.Native.Nat.{suc, ◌+◌, ◌*◌, ◌^◌, ◌≤◌}
+use native.Mathlib.Omega.{arith}
+use borrow.Author.Rules.{sfits_of}
+use lib.IntN.{◌+ℤ◌, ◌-ℤ◌, ◌*ℤ◌}
+use mir.Syntax.{w16, w64}
+use mir.Val.{to_z, of_z}
+use mir.Facts.{to_z-of_z}
+use Rattle.whole.specs.Words.{Bits}
+use Rattle.rules.specs.Rules.{sq, E}
+use Rattle.rules.specs.Sounds.{next_h}
+use Rattle.rules.specs.Energies.{E-slides, H-next}
+use Rattle.ages.specs.Ages.{ago, ago-fits}
+use Rattle.sums.specs.Sweep.{energy-small, correlation-held}
+use Rattle.sums.proofs.next.Goals.{After-back-y, After-back-z, After-square-2, Start}
+use Rattle.sums.proofs.next.Goals as goal
+
+-- the three samples
+newest : (c : Start) → to_z w16 (of_z w16 c.args.x) ≡ ago c.args.s.now c.args.m 0
+newest c = to_z-of_z c.ranges.x ∙ c.requires.1
+
+middle : (c : After-back-y) → to_z w16 (of_z w16 c.back-y.result) ≡ ago c.args.s.now c.args.m c.args.lag
+middle c = to_z-of_z {w = w16} {z = c.back-y.result} (sfits_of c.back-y.type-inv) ∙ c.back-y.ensures
+
+oldest : (c : After-back-z) → to_z w16 (of_z w16 c.back-z.result) ≡ ago c.args.s.now c.args.m (2 * c.args.lag)
+oldest c = to_z-of_z {w = w16} {z = c.back-z.result} (sfits_of c.back-z.type-inv) ∙ c.back-z.ensures
+
+-- the sums before them
+small : (c : Start) → c.args.t.e ≤ 2 ^ 41
+small c = energy-small (λ k. ago-fits c.requires.0.samples c.args.m (suc k)) (omega arith) c.requires.2.energy
+
+held : (c : Start) → Bits w64 (2 ^ 40) (of_z w64 c.args.t.h) c.args.t.h
+held c = correlation-held (λ k. ago-fits c.requires.0.samples c.args.m (suc k)) (omega arith) c.requires.2.correlation
+
+pub overflow_add-e : goal.overflow_add-e
+overflow_add-e c = omega (arith, small (goal.at.overflow_add-e c).Start)
+
+slides : (c : After-square-2)
+    → E (ago c.args.s.now c.args.m) c.args.lag + c.square-2.result
+    ≡ c.args.t.e + c.square.result
+slides c =
+    let a = c.args in
+    let x = c.square.ensures.0 ∙ ap sq (newest c.before.before.before.before.before) in
+    let z = c.square-2.ensures.0 ∙ ap sq (oldest c.before.before.before) in
+    omega (arith, x, z, c.requires.2.energy, E-slides (ago a.s.now a.m) a.lag)
+
+pub overflow_sub-e : goal.overflow_sub-e
+overflow_sub-e c = omega (arith, slides (goal.at.overflow_sub-e c).After-square-2)
+
+pub turned-h-requires : goal.turned-h-requires
+turned-h-requires c = let h = held (goal.at.turned-h-requires c).Start in rw h.reads (omega (arith, h.size.within))
+
+pub returns : goal.returns
+unfolding next_h
+returns c =
+    let s = c in
+    let x = newest (goal.at.returns c).Start in
+    let y = middle (goal.at.returns c).After-back-y in
+    let z = oldest (goal.at.returns c).After-back-z in
+    record {
+      energy = omega (arith, slides (goal.at.returns c).After-square-2);
+      correlation =
+          to_z-of_z {w = w64} {z = c.turned-h.result} (sfits_of c.turned-h.type-inv)
+          ∙ c.turned-h.ensures
+          ∙ (λ i. ((held (goal.at.returns c).Start).reads ∙ s.requires.2.correlation) i +ℤ x i *ℤ y i -ℤ y i *ℤ z i)
+          ∙ sym (H-next (ago s.args.s.now s.args.m) s.args.lag);
+    }

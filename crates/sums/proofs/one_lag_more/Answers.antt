@@ -1,0 +1,34 @@
+-- `sums::one_lag_more` meets its contract: lags L and L + 1 differ by two squares (`E-shift`), and E of 16-bit samples is small (`energy-small`).
+use mathlib.Core.Path.{◌≡◌, ap, ◌∙◌}
+use Prim.Native.Nat.{◌+◌, ◌*◌, ◌^◌, ◌≤◌}
+use native.Mathlib.Omega.{arith}
+use borrow.Author.Rules.{sfits_of}
+use mir.Syntax.{w16}
+use mir.Facts.{to_z-of_z}
+use Rattle.rules.specs.Rules.{sq}
+use Rattle.rules.specs.Energies.{E-shift}
+use Rattle.ages.specs.Ages.{ago, ago-fits}
+use Rattle.sums.specs.Sweep.{energy-small}
+use Rattle.sums.proofs.one_lag_more.Goals.{Start}
+use Rattle.sums.proofs.one_lag_more.Goals as goal
+
+-- E is small
+small : (c : Start) → c.args.e ≤ 2 ^ 41
+small c = energy-small (ago-fits c.requires.0.samples c.args.m) (omega arith) c.requires.1
+
+pub overflow_add-result : goal.overflow_add-result
+overflow_add-result c = omega (arith, small (goal.at.overflow_add-result c).Start)
+
+pub overflow_add-result-2 : goal.overflow_add-result-2
+overflow_add-result-2 c = omega (arith, small (goal.at.overflow_add-result-2 c).Start)
+
+pub returns : goal.returns
+returns c =
+    let a = c.args in
+    let y : c.square.result ≡ sq (ago a.s.now a.m (2 * a.lag)) =
+    c.square.ensures.0 ∙ ap sq (to_z-of_z {w = w16} {z = c.back-y.result} (sfits_of c.back-y.type-inv) ∙ c.back-y.ensures)
+    in
+    let z : c.square-2.result ≡ sq (ago a.s.now a.m (2 * a.lag + 1)) =
+    c.square-2.ensures.0 ∙ ap sq (to_z-of_z {w = w16} {z = c.back-z.result} (sfits_of c.back-z.type-inv) ∙ c.back-z.ensures)
+    in
+    omega (arith, c.requires.1, E-shift (ago a.s.now a.m) a.lag)

@@ -1,0 +1,6 @@
+-- `tuner::Tuner::block` meets its contract: it is the block over its own arrays.
+use Rattle.tuner.proofs.Fields.{stores, outs-long}
+use Rattle.tuner.proofs.Tuner.block.Goals as goal
+
+pub block_lent-d-requires : goal.block_lent-d-requires
+block_lent-d-requires c = let s = c in (stores s.args.self _ s.well-formed.0, outs-long s.args.self _ s.well-formed.0)

@@ -1,0 +1,67 @@
+-- `tuner::follow` meets its contract: each follower from the same tones.
+use mathlib.Core.Path.{◌≡◌, sym, ◌∙◌}
+use Prim.Native.Nat.{◌-◌}
+use native.Mathlib.Omega.{arith}
+use lib.ListN.{take, drop, length-append, length-drop}
+use lib.Seq.{length-take-le}
+use Rattle.rules.specs.Table.{rate-upto}
+use Rattle.lists.specs.Counting.{counted-within}
+use Rattle.reports.specs.Counting.{pitched_in}
+use Rattle.tuner.specs.Outputs.{glided-long}
+use Rattle.tuner.specs.Taking.{numbers_with, pitched-counted}
+use Rattle.tuner.proofs.follow.Goals as goal
+
+pub slice_bounds-led-end-2 : goal.slice_bounds-led-end-2
+slice_bounds-led-end-2 c = let s = c in sym (length-take-le 512 s.args.outs.now (omega (arith, s.requires.places)))
+
+pub led-g-requires : goal.led-g-requires
+led-g-requires c = let s = c in let p = s.requires in (p.near, p.paced, p.stored, p.few, length-take-le 512 s.args.outs.now (omega (arith, p.places)))
+
+pub overflow_sub-last : goal.overflow_sub-last
+overflow_sub-last c = let a = c.args in omega (arith, c.count_of.ensures, counted-within 0 a.periods.now a.b)
+
+pub overflow_cast-n-2 : goal.overflow_cast-n-2
+overflow_cast-n-2 c = omega (arith, rate-upto c.requires.hertz)
+
+pub all_sung-beside-requires : goal.all_sung-beside-requires
+all_sung-beside-requires c =
+    let s = c in
+    let p = s.requires in
+    let d = c.led-g in
+    let o = d.new.1.1.1.1.1.0 in
+    (p.voices, p.hertz, p.tracked, p.stored, p.few, length-append o (drop 512 s.args.outs.now) ∙ omega (arith, glided-long p.few d.ensures, length-drop 512 s.args.outs.now, p.places))
+
+pub listed-goes_on-requires : goal.listed-goes_on-requires
+listed-goes_on-requires c =
+    let s = c in
+    let a = s.args in
+    let p = s.requires in
+    (p.few, p.long.notes, p.long.periods, p.count, p.list, omega (arith, c.count_of.ensures, counted-within 0 a.periods.now a.b))
+
+pub shape_of-outs : goal.shape_of-outs
+shape_of-outs c = c.all_sung-beside.ensures.1 ∙ sym c.requires.places
+
+pub returns : goal.returns
+returns c =
+    let s = c in
+    let a = s.args in
+    let p = s.requires in
+    let d = c.led-g in
+    let sang = c.all_sung-beside in
+    let on = c.listed-goes_on in
+    let w = c.settled-r in
+    let many = c.count_of in
+    let pitched : a.b - many.result ≡ pitched_in (take a.b a.periods.now) = omega (arith, many.ensures, pitched-counted a.periods.now a.b (omega (arith, p.few, p.long.periods))) in (
+      record {
+        lead = d.result;
+        out = d.new.1.1.1.1.1.0;
+        glided = d.ensures;
+        pitch = w.ensures;
+        numbers =
+            λ i. numbers_with a.n a.q.count w.result d.result.behind
+            (record { number = a.number; length = a.b; repeated = d.result.repeated; dropped = d.result.dropped; pitched = pitched i; strayed = c.strayed.ensures i }) on.result sang.result;
+        list = on.ensures;
+        voices = sang.ensures.0;
+      },
+      sang.ensures.1,
+    )

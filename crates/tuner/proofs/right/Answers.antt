@@ -1,0 +1,14 @@
+-- `tuner::right` meets its contract: what the lead does not test, and then the lead.
+use mathlib.Core.Path.{refl}
+use Rattle.whole.specs.Tests.{refused, passed, failed, decides_as}
+use Rattle.tuner.specs.Tuners.{tested_last}
+use Rattle.tuner.proofs.right.Goals as goal
+
+pub returns-then-not-rest_right : goal.returns-then-not-rest_right
+returns-then-not-rest_right c = λ outs. refused (λ g. failed c.rest_right.ensures c.if-not-rest_right.true (g.layout, g.listed, g.list, g.voices))
+
+pub returns : goal.returns
+returns c =
+    let e = c in
+    let p = passed e.rest_right.ensures e.if-not-rest_right.false in
+    λ outs. decides_as (c.All-right.ensures (tested_last e.args.n.last) refl) (λ l. record { layout = p.0; lead = l; listed = p.1; list = p.2; voices = p.3 }) (λ g. g.lead)
