@@ -1,5 +1,7 @@
 // Samples in a linear store, oldest first: which sample is how far back.
 
+#![tactic(auto)]
+
 ghost use Rattle.std.specs.Prelude.{◌≡◌, ◌+◌, ◌≤◌, ◌<◌, length};
 ghost use Rattle.rules.specs.Rules.{eighth_sample};
 ghost use Rattle.ages.specs.Ages.{ago, Samples};

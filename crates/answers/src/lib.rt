@@ -1,4 +1,7 @@
 // The numbers that answer a block whose record is good and that fits: given again, or refused by its number, or taken.
+
+#![tactic(auto)]
+
 ghost use Rattle.std.specs.Prelude.{◌≡◌, ◌+◌, ◌-◌, ◌≤◌, length, drop};
 ghost use Rattle.rules.specs.Rules.{take_limit, longest_block, kept_samples};
 ghost use Rattle.whole.specs.Tests.{Decides};

@@ -1,4 +1,7 @@
 // Samples copied between stores: the kept ones and a block's laid one after the other, and what is newest kept again.
+
+#![tactic(auto)]
+
 ghost use Rattle.std.specs.Prelude.{◌≡◌, ◌++◌, [], ◌+◌, ◌≤◌, pos, length, take, drop, replicate};
 ghost use Rattle.ages.specs.Ages.{Samples};
 ghost use Rattle.copying.specs.Copies.{laid, Joined};

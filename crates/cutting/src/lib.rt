@@ -1,4 +1,7 @@
 // Cutting: a recording's stretches of 512 samples.
+
+#![tactic(auto)]
+
 ghost use Rattle.std.specs.Prelude.{◌≡◌, ◌*◌, take, drop};
 ghost use Rattle.rules.specs.Rules.{longest_block};
 ghost use Rattle.cutting.specs.Cuts.{Cut};

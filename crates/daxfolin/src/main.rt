@@ -1,5 +1,8 @@
 // The line program: standard input to standard output. What lines are answered is proved in the crate `lines`; here bytes are moved, and
 // the program ends at a read or a write that fails, and says on standard error what failed.
+
+#![tactic(auto)]
+
 ghost use Rattle.std.specs.Prelude.{◌+◌, ◌≤◌, ◌<◌, length, take, drop, ◌≡◌, true};
 ghost use Rattle.daxfolin.specs.Turns.{Kept, Serves, Answers, OneTurn, Working, Finishes};
 

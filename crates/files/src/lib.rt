@@ -1,4 +1,7 @@
 // Takes as WAVE files, for hosts in C and Rust: whole files in memory, and files piece by piece. And Standard MIDI Files, byte by byte.
+
+#![tactic(auto)]
+
 ghost use Rattle.std.specs.Prelude.{◌≡◌};
 ghost use Rattle.wave.specs.Waves.{WasRead};
 ghost use Rattle.writing.specs.Canonical.{WasWritten, HeaderWritten};

@@ -1,4 +1,7 @@
 // The tuner's calls for hosts in C and Rust: each over a record that the host lends, whatever bytes it holds.
+
+#![tactic(auto)]
+
 ghost use Rattle.std.specs.Prelude.{◌≡◌, List, [], ℤ};
 ghost use Rattle.rules.specs.Rules.{defaults, cd_rate};
 ghost use Rattle.cutting.specs.Cuts.{Cut};

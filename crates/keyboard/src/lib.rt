@@ -1,4 +1,7 @@
 // A MIDI keyboard: which key is held after some bytes, on one chosen channel.
+
+#![tactic(auto)]
+
 ghost use Rattle.std.specs.Prelude.{◌≡◌};
 ghost use Rattle.whole.specs.Tests.{Decides};
 ghost use Rattle.keyboard.specs.Keys.{waiting, fresh, data_bytes, released, key_after, after_data, after_byte, played, on_channel, StatusIn, HalfIn, KeyboardIn};

@@ -1,4 +1,7 @@
 // The line program's lines: a line is read, answered by the tuner's calls, and the answer is written.
+
+#![tactic(auto)]
+
 ghost use Rattle.std.specs.Prelude.{◌≡◌, false, ◌+◌, ◌≤◌, ◌<◌, length};
 ghost use Rattle.rules.specs.Rules.{longest_block};
 ghost use Rattle.tuner.specs.Tuners.{default_tuner};

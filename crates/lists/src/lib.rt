@@ -1,4 +1,7 @@
 // The list of the notes sung: rows of note, first sample and length in a lent store, three numbers a row. The store is written and never read.
+
+#![tactic(auto)]
+
 ghost use Rattle.std.specs.Prelude.{◌≡◌, true, cond, ◌+◌, ◌-◌, ◌*◌, ◌≤◌, ◌<◌, eqb, length, take};
 ghost use Rattle.whole.specs.Tests.{Decides};
 ghost use Rattle.rules.specs.Rules.{no_note, longest_block, take_limit};

@@ -1,4 +1,7 @@
 // Mends the two sizes of a WAVE file that a recorder left when it stopped.
+
+#![tactic(auto)]
+
 ghost use Rattle.std.specs.Prelude.{◌≡◌, ◌+◌, ◌^◌, ◌≤◌, ◌<◌, length};
 ghost use Rattle.mending.specs.Mendings.{left, data_size, riff_size, sizes_of, no_mending, mending_of};
 ghost use Rattle.mending.specs.Decided.{reached, decided};

@@ -1,4 +1,7 @@
 // The meter: what it shows of a pitch.
+
+#![tactic(auto)]
+
 ghost use Rattle.std.specs.Prelude.{◌≡◌, ◌^◌, ◌<◌};
 ghost use Rattle.rules.specs.Facts.{SampleRate, PitchIn};
 ghost use Rattle.pitch.specs.Pitches.{pitch_of};

@@ -1,4 +1,7 @@
 // A night's blocks in one call: a recording is lent, and all its blocks are taken as by the single calls. Numbers go by value, arrays are lent.
+
+#![tactic(auto)]
+
 ghost use Rattle.std.specs.Prelude.{◌≡◌, ◌+◌, ◌<◌, ◌≤◌, min, length};
 ghost use Rattle.whole.specs.Tests.{Decides};
 ghost use Rattle.rules.specs.Rules.{take_limit, longest_block};

@@ -1,4 +1,7 @@
 // The sample rates with their tables; the wanted note of a scale, and the rate toward it.
+
+#![tactic(auto)]
+
 ghost use Rattle.std.specs.Prelude.{◌≡◌, get_or, ℕ, ◌+◌, ◌-◌, ◌%◌, ◌≤◌, ◌<◌};
 ghost use Rattle.std.proofs.Math.Option.{some};
 ghost use Rattle.whole.specs.Tests.{Decides};

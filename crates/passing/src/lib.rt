@@ -1,4 +1,7 @@
 // D of a lag from its energy and its correlation, and whether a lag passes.
+
+#![tactic(auto)]
+
 ghost use Rattle.std.specs.Prelude.{◌≡◌, ℕ, ◌^◌, ◌≤◌, length};
 ghost use Rattle.rules.specs.Rules.{Sound, E, D, passes, highest_lag};
 ghost use Rattle.rules.specs.Facts.{Right};

@@ -1,4 +1,7 @@
 // What the sound is found to be: searching for a period, and tracking it.
+
+#![tactic(auto)]
+
 ghost use Rattle.std.specs.Prelude.{◌≡◌, ◌-◌, ◌%◌, ◌≤◌};
 ghost use Rattle.rules.specs.Rules.{Sound, older, no_tone, no_period, tracked};
 ghost use Rattle.rules.specs.Rules as rules;

@@ -2,6 +2,9 @@
 // Byte 0 is the call; 2, 4 and 6 a block's number, length and room, low byte first; from 8 on a start's sample rate, then scale, eps, decay and floor;
 // from 28 on the samples. Where settings are given, 2 and 6 are mode and channel. Keyboard bytes stand from 28 on, as many as the length says.
 // A night has the length of its blocks from 8 on, in the place of the sample rate. No list is kept and no voice is chosen: nothing is lent for them.
+
+#![tactic(auto)]
+
 ghost use Rattle.std.specs.Prelude.{◌≤◌, ◌<◌};
 ghost use Rattle.tuner.specs.Following.{four};
 ghost use Rattle.tuner.specs.Tuners.{Took};

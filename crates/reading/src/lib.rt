@@ -1,4 +1,7 @@
 // The read position's growth, and the samples read: a block's, one after the other.
+
+#![tactic(auto)]
+
 ghost use Rattle.std.specs.Prelude.{◌≡◌, ℕ, ◌+◌, ◌≤◌, ◌<◌, pos, ◌-ℤ◌, length, set};
 ghost use Rattle.rules.specs.Rules as rules;
 ghost use Rattle.rules.specs.Rules.{longest_block};

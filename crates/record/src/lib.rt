@@ -1,5 +1,8 @@
 // The parts of a tuner's record: what was heard, the read head and the last block; each fresh, and each tested. A record is numbers alone, and each
 // part fills whole eights of bytes.
+
+#![tactic(auto)]
+
 ghost use Rattle.std.specs.Prelude.{◌≡◌, ℕ, ◌+◌, ◌-◌, ◌≤◌, ◌<◌, pos, length};
 ghost use Rattle.whole.specs.Tests.{Decides};
 ghost use Rattle.rules.specs.Rules.{settings_number, start_number, defaults, longest_block, kept_samples};

@@ -1,5 +1,8 @@
 // The report: the line program's input on standard input, and the takes' figures on standard output once all is read. What is reported is proved in the
 // crate `reporting`; here bytes are moved. Where a read fails nothing is printed, and standard error says what failed.
+
+#![tactic(auto)]
+
 ghost use Rattle.std.specs.Prelude.{List, ℕ, ◌≤◌, length, take};
 ghost use Rattle.report.specs.Working.{Working};
 

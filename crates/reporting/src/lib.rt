@@ -1,4 +1,7 @@
 // A report over the bytes of an input, in pieces of any length: what is kept while they come, and the report at their end.
+
+#![tactic(auto)]
+
 ghost use Rattle.std.specs.Prelude.{◌≡◌, List, [], ◌∷◌, ◌++◌, ℕ, ◌≤◌, length, take};
 ghost use Rattle.reports.specs.Reports.{report_of};
 ghost use Rattle.reports.specs.Counting.{Within, most};

@@ -1,4 +1,7 @@
 // The figures of a report: counted over what a block tells of its samples, added up, and written as a line.
+
+#![tactic(auto)]
+
 ghost use Rattle.std.specs.Prelude.{◌≡◌, cond, ◌∷◌, ◌+◌, ◌≤◌, eqb, length, take};
 ghost use Rattle.rules.specs.Rules.{away, fresh_rate, longest_block};
 ghost use Rattle.text.specs.Text.{Put};

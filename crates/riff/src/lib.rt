@@ -1,4 +1,7 @@
 // RIFF files: numbers of two and four bytes, and the walk over chunks, of which each step asks for eight bytes at a place.
+
+#![tactic(auto)]
+
 ghost use Rattle.std.specs.Prelude.{◌≡◌, false, ◌+◌, ◌*◌, ◌^◌, ◌≤◌, ◌<◌, leb, length};
 ghost use Rattle.std.proofs.lemmas.List.Edits.{sets};
 ghost use Rattle.riff.specs.Riff.{number_at, bytes_of, chunk_at, head_bytes, chunks};

@@ -1,6 +1,9 @@
 // Document 01 as definitions, with their laws: they stand in specs/. What code and definitions share is declared here, and numbers that code has in more than one place.
 
 // The most samples of a block.
+
+#![tactic(auto)]
+
 pub const LONGEST_BLOCK: usize = 512;
 
 // The most samples of a take.

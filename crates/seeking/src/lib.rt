@@ -1,4 +1,7 @@
 // A WAVE file that is sought piece by piece: what is wanted of it next, and what was found. Whoever has the file only moves bytes.
+
+#![tactic(auto)]
+
 ghost use Rattle.std.specs.Prelude.{◌≡◌, ◌≤◌, length};
 ghost use Rattle.seeking.specs.Seeks.{flag_of, found_by, place_by, walk_of, no_piece, seek_of, end_of, asks, walked_on, begun, headed, stepped_on, rated, given_to, number_of, found_in, mended_in};
 

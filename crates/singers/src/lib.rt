@@ -1,4 +1,7 @@
 // Up to three voices beside the lead: when they are right, the room and the writing of their outputs, what they sing beside a block, and where they begin.
+
+#![tactic(auto)]
+
 ghost use Rattle.std.specs.Prelude.{◌≡◌, ◌≤◌, ◌<◌, pos, length, get_or};
 ghost use Rattle.whole.specs.Tests.{Decides};
 ghost use Rattle.rules.specs.Rules.{longest_block, kept_samples};

@@ -1,4 +1,7 @@
 // A Standard MIDI File, one byte after the other: its header, its chunks, and the events of its tracks.
+
+#![tactic(auto)]
+
 ghost use Rattle.std.specs.Prelude.{◌≡◌};
 ghost use Rattle.smf.specs.Songs.{unread, refused, asks, counts, leaves, named, headed, one_more, tracked, plays, filmed, divides, skips, divided, declares, formed, long, opened, sized, numbered_late, numbered, after_number, track_ends, after_track, after_skipped, after_byte, ended};
 

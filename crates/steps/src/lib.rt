@@ -1,4 +1,7 @@
 // One sample after the other: what a block does.
+
+#![tactic(auto)]
+
 ghost use Rattle.std.specs.Prelude.{◌≡◌, true, false, ◌+◌, ◌%◌, ◌≤◌, ◌<◌, pos, length, get_or, set, take, drop};
 ghost use Rattle.rules.specs.Rules.{eighth_sample, longest_block, kept_eighths};
 ghost use Rattle.rules.specs.Facts.{ForceIn, value_at};

@@ -1,4 +1,7 @@
 // Standard input and output of the programs: calls that are tried again, and all bytes written. No contract can say what is read or written.
+
+#![tactic(auto)]
+
 use libc::STDOUT_FILENO;
 use libc::types::timespec;
 

@@ -1,5 +1,7 @@
 // Energies and correlations: the update by one more sample, and the direct sums.
 
+#![tactic(auto)]
+
 ghost use Rattle.std.specs.Prelude.{◌≡◌, ◌+◌, ◌*◌, ◌^◌, ◌≤◌, ◌<◌, pos, nat_abs, ◌+ℤ◌, ◌-ℤ◌, ◌*ℤ◌, length};
 ghost use Rattle.whole.specs.Numbers.{sum};
 ghost use Rattle.whole.specs.Tests.{Decides};

@@ -1,4 +1,7 @@
 // Lines as text: the place of the next tab or line end, numbers read from their digits, and numbers written as digits.
+
+#![tactic(auto)]
+
 ghost use Rattle.std.specs.Prelude.{◌≡◌, false, ◌∷◌, pos, neg_ℤ, nat_abs, ◌+◌, ◌*◌, ◌%◌, ◌≤◌, ◌<◌, length, take};
 ghost use Rattle.whole.specs.Tests.{Decides};
 ghost use Rattle.text.specs.Text.{one_more, number, sample, places, digits, decimal, places_within, long_decimal, signed, sample_fields, put, Put};

@@ -1,4 +1,7 @@
 // Tracking a period over eight lags.
+
+#![tactic(auto)]
+
 ghost use Rattle.std.specs.Prelude.{◌≡◌, ◌+◌, ◌-◌, ◌*◌, ◌^◌, ◌≤◌, ◌<◌, nat_abs};
 ghost use Rattle.whole.specs.Numbers.{floor_div};
 ghost use Rattle.rules.specs.Facts.{Right};

@@ -1,4 +1,7 @@
 // The events of a track of a Standard MIDI File, one byte after the other.
+
+#![tactic(auto)]
+
 ghost use Rattle.std.specs.Prelude.{◌≡◌};
 ghost use Rattle.tracks.specs.Tracks.{begun, refused, partly, message, other, timed, quantified, is_tempo, is_end, has_one, later, after_delta, after_running, after_first, after_second, after_status, closed, opened, after_length, after_body, after_rest, after_part, after_byte, ended};
 

@@ -1,4 +1,7 @@
 // One tuner: a lead, the list of its take and up to three voices. Its numbers go by value, its arrays are lent.
+
+#![tactic(auto)]
+
 ghost use Rattle.std.specs.Prelude.{◌≡◌, List, [], ◌∷◌, ◌+◌, ◌≤◌, ◌<◌, ℤ, pos, length, get_or, take};
 ghost use Rattle.whole.specs.Tests.{Decides};
 ghost use Rattle.rules.specs.Rules.{farthest, away, fresh_rate, greatest_rate, take_limit, longest_block, kept_samples, refuse};

@@ -1,4 +1,7 @@
 // A voice beside the lead: its note, its rate, and what its own read head makes of a block's samples.
+
+#![tactic(auto)]
+
 ghost use Rattle.std.specs.Prelude.{◌≡◌, ℕ, ◌+◌, ◌≤◌, ◌<◌, pos, ◌-ℤ◌, length, get_or};
 ghost use Rattle.whole.specs.Tests.{Decides};
 ghost use Rattle.rules.specs.Rules.{longest_block, no_note, farthest, least_period, greatest_period};

@@ -1,4 +1,7 @@
 // Takes as RIFF WAVE files: PCM, one channel, 16 bits, 44,100 or 48,000 samples a second.
+
+#![tactic(auto)]
+
 ghost use Rattle.std.specs.Prelude.{◌≡◌, ◌+◌, ◌*◌, ◌≤◌, ◌<◌, min, length};
 ghost use Rattle.wave.specs.Waves.{known, is_wave, plain, sample_of, samples_at, over, WasRead};
 ghost use Rattle.wave.specs.Judged.{fields_rate, whole_fmt, fmt_rate, no_fmt_found, judged, TakeIn};

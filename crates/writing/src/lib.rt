@@ -1,4 +1,7 @@
 // Takes written as WAVE files, in the canonical form: a header of 44 bytes, and the samples.
+
+#![tactic(auto)]
+
 ghost use Rattle.std.specs.Prelude.{◌≡◌, ◌+◌, ◌*◌, ◌^◌, ◌≤◌, ◌<◌, length};
 ghost use Rattle.std.proofs.lemmas.List.Edits.{sets};
 ghost use Rattle.writing.specs.Canonical.{bits_of, sample_bytes, format, header, WasWritten, HeaderWritten};
