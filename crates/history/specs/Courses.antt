@@ -120,7 +120,7 @@ happened_in (byte b) i r = record { settings = i.settings; hertz = i.hertz; keyb
 pub course_in : {c : Course} (es : List Event) → CourseIn c → EventsIn es → CourseIn (course_after c es)
 unfolding course_after
 course_in [] i r = i
-course_in (e ∷ es) i r = course_in es (happened_in e i r.0) r.1
+course_in {c = c} (e ∷ es) i r = course_in {c = happened c e} es (happened_in e i r.0) r.1
 
 -- events in their ranges, and more of them; samples and bytes always are
 pub events_in_append : (es fs : List Event) → EventsIn es → EventsIn fs → EventsIn (es ++ fs)
