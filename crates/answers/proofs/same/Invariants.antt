@@ -1,4 +1,4 @@
--- `answers::same` meets its contract: the samples passed are the store's, and one that is not answers no.
+-- The samples passed so far are the store's.
 use Rattle.std.proofs.Common.{◌≡◌, ℕ, ◌+◌, ◌-◌, ◌<◌, ◌≤◌, length}
 use Rattle.rules.specs.Facts.{value_at}
 use Rattle.answers.proofs.same.Given as goal

@@ -25,4 +25,4 @@ pub returns : goal.returns
 returns c =
     let q = c in
     let p = put_byte {s = q.args.out.now} {at = q.args.at} 9 (omega arith) c.put_signed.ensures in
-    subst (λ (x : ℤ). Put q.args.out.now q.args.at (9 ∷ signed x) c.put_signed.new.0 c.put_signed.result) (to_z-of_z q.ranges.x) p
+    subst (λ (x : ℤ). Put q.args.out.now q.args.at (9 ∷ signed x) c.put_signed.new.out c.put_signed.result) (to_z-of_z q.ranges.x) p

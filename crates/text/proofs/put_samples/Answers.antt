@@ -26,7 +26,7 @@ loop-i-preserved c =
     let a = q.args in
     let x = get_or a.xs.now l.i (pos 0) in
     let e = to_z-of_z {w = w16} {z = x} (sfits_of q.put_sample-arg-in-loop-i-1.given) in
-    let p = subst (λ (z : ℤ). Put l.out l.to (9 ∷ signed z) q.put_sample-to.new.0 q.put_sample-to.result) e q.put_sample-to.ensures in
+    let p = subst (λ (z : ℤ). Put l.out l.to (9 ∷ signed z) q.put_sample-to.new.out q.put_sample-to.result) e q.put_sample-to.ensures in
     let n = put-length p (omega (arith, l.invariant.1, l.invariant.3, signed-short x)) in (
       omega arith,
       n ∙ l.invariant.1,

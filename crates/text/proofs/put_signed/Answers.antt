@@ -31,7 +31,7 @@ returns-then-x-lt0 c =
     let s = q.size-n in
     let e = to_z-of_z z.ranges.x in
     let t = ap (λ (n : ℕ). 45 ∷ decimal n) (s.ensures ∙ ap nat_abs e) ∙ sym (signed_below z.args.x (lt_yes (arg z.ranges.x) (lit w16 0) q.if-x-lt0.true)) in
-    subst (λ (t : List ℕ). Put z.args.out.now z.args.at t q.put_number.new.0 q.put_number.result) t (put_byte 45 (omega arith) q.put_number.ensures)
+    subst (λ (t : List ℕ). Put z.args.out.now z.args.at t q.put_number.new.out q.put_number.result) t (put_byte 45 (omega arith) q.put_number.ensures)
 
 pub shape_of-out : goal.shape_of-out
 shape_of-out c =
@@ -45,4 +45,4 @@ returns c =
     let s = q.size-n in
     let e = to_z-of_z z.ranges.x in
     let t = ap decimal (s.ensures ∙ ap nat_abs e) ∙ sym (signed_above z.args.x (lt_no (arg z.ranges.x) (lit w16 0) q.if-x-lt0.false)) in
-    subst (λ (t : List ℕ). Put z.args.out.now z.args.at t q.put_number-2.new.0 q.put_number-2.result) t q.put_number-2.ensures
+    subst (λ (t : List ℕ). Put z.args.out.now z.args.at t q.put_number-2.new.out q.put_number-2.result) t q.put_number-2.ensures

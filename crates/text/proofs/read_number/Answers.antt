@@ -20,7 +20,7 @@ returns-then-not-d c =
     none_of c.no_number-then-not-d.ensures
     (number_digits a.most a.f.now l.invariant.1
     ∙ sym l.invariant.3
-    ∙ no_digit a.most a.f.now l.i l.v (omega arith) q.one_more_lem.result.ok q.one_more_lem.result.value q.one_more_lem.ensures.0 (not-true _ c.if-not-d.true))
+    ∙ no_digit a.most a.f.now l.i l.v (omega arith) q.one_more-d.result.ok q.one_more-d.result.value q.one_more-d.ensures.0 (not-true _ c.if-not-d.true))
 
 pub loop-i-preserved : goal.loop-i-preserved
 loop-i-preserved c =
@@ -30,8 +30,8 @@ loop-i-preserved c =
     let h : l.i < length a.f.now = omega arith in (
       omega arith,
       omega arith,
-      q.one_more_lem.ensures.1,
-      digit_read a.most a.f.now l.i l.v h q.one_more_lem.result.ok q.one_more_lem.result.value q.one_more_lem.ensures.0 (not-false _ c.if-not-d.false) ∙ l.invariant.3,
+      q.one_more-d.ensures.1,
+      digit_read a.most a.f.now l.i l.v h q.one_more-d.result.ok q.one_more-d.result.value q.one_more-d.ensures.0 (not-false _ c.if-not-d.false) ∙ l.invariant.3,
     )
 
 pub returns : goal.returns
