@@ -37,12 +37,12 @@ pub returns-then-no_fmt-hertz : goal.returns-then-no_fmt-hertz
 returns-then-no_fmt-hertz c = c.not_mended-then-no_fmt-hertz.ensures ∙ sym (short (goal.at.returns-then-no_fmt-hertz c).Else-length-ge-TOO_LONG ∙ cond_yes (no_mending 26) _ (fmt-test (goal.at.returns-then-no_fmt-hertz c).After-no_fmt ∙ c.if-no_fmt-hertz.true))
 
 pub returns-then-not-is_reached : goal.returns-then-not-is_reached
-returns-then-not-is_reached c = c.not_mended-then-not-is_reached.ensures ∙ sym (past-26 (goal.at.returns-then-not-is_reached c).Else-no_fmt-hertz ∙ cond_no _ (no_mending 27) (sym c.is_reached.ensures ∙ not-true _ c.if-not-is_reached.true))
+returns-then-not-is_reached c = c.not_mended-then-not-is_reached.ensures ∙ sym (past-26 (goal.at.returns-then-not-is_reached c).Else-no_fmt-hertz ∙ cond_no _ (no_mending 27) (sym c.is_reached.ensures ∙ c.if-not-is_reached.true))
 
 pub both_sizes-requires : goal.both_sizes-requires
 both_sizes-requires c =
     let a = c.args in
-    (leb-true (a.w.data.at + 8) a.length (and_right a.w.data.ok (leb (a.w.data.at + 8) a.length) (sym c.is_reached.ensures ∙ not-false _ c.if-not-is_reached.false)), c.if-length-ge-TOO_LONG.false)
+    (leb-true (a.w.data.at + 8) a.length (and_right a.w.data.ok (leb (a.w.data.at + 8) a.length) (sym c.is_reached.ensures ∙ c.if-not-is_reached.false)), c.if-length-ge-TOO_LONG.false)
 
 pub returns : goal.returns
-returns c = c.both_sizes.ensures ∙ sym (past-26 (goal.at.returns c).Else-no_fmt-hertz ∙ cond_yes _ (no_mending 27) (sym c.is_reached.ensures ∙ not-false _ c.if-not-is_reached.false))
+returns c = c.both_sizes.ensures ∙ sym (past-26 (goal.at.returns c).Else-no_fmt-hertz ∙ cond_yes _ (no_mending 27) (sym c.is_reached.ensures ∙ c.if-not-is_reached.false))

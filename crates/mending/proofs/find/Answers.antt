@@ -11,10 +11,10 @@ use Rattle.mending.proofs.find.Goals as goal
 
 -- the file begins as RIFF WAVE
 begins : (c : Else-not-is_wave) → is_wave c.args.bytes.now ≡ true
-begins c = sym c.is_wave.ensures ∙ not-false _ c.if-not-is_wave.false
+begins c = sym c.is_wave.ensures ∙ c.if-not-is_wave.false
 
 pub returns-then-not-is_wave : goal.returns-then-not-is_wave
-returns-then-not-is_wave c = c.not_mended.ensures ∙ sym (not_wave c.args.bytes.now (sym c.is_wave.ensures ∙ not-true _ c.if-not-is_wave.true))
+returns-then-not-is_wave c = c.not_mended.ensures ∙ sym (not_wave c.args.bytes.now (sym c.is_wave.ensures ∙ c.if-not-is_wave.true))
 
 pub four-requires : goal.four-requires
 four-requires c = let q = c in omega (arith, wave-long q.args.bytes.now (begins (goal.at.four-requires c).Else-not-is_wave))

@@ -28,14 +28,14 @@ lies c = c.is_reached.ensures ∙ ap (λ (f : Found). reached f c.args.s.length)
 pub returns-then-not-is_reached : goal.returns-then-not-is_reached
 returns-then-not-is_reached c =
     let q = c in
-    c.no_take-then-not-is_reached.ensures ∙ sym (found_outside q.args.s (taken (goal.at.returns-then-not-is_reached c).After-is_reached) (sym (lies (goal.at.returns-then-not-is_reached c).After-is_reached) ∙ not-true _ c.if-not-is_reached.true))
+    c.no_take-then-not-is_reached.ensures ∙ sym (found_outside q.args.s (taken (goal.at.returns-then-not-is_reached c).After-is_reached) (sym (lies (goal.at.returns-then-not-is_reached c).After-is_reached) ∙ c.if-not-is_reached.true))
 
 pub overflow_add-result : goal.overflow_add-result
 overflow_add-result c =
     let q = c in
     let f = q.found_by-data.result in
     let n = q.args.s.length in
-    omega (arith, leb-true (f.at + 8) n (and_right f.ok (leb (f.at + 8) n) (sym q.is_reached.ensures ∙ not-false _ c.if-not-is_reached.false)))
+    omega (arith, leb-true (f.at + 8) n (and_right f.ok (leb (f.at + 8) n) (sym q.is_reached.ensures ∙ c.if-not-is_reached.false)))
 
 pub returns : goal.returns
 returns c =
@@ -43,4 +43,4 @@ returns c =
     let f = q.found_by-data.ensures in
     let s = q.args.s in
     (λ i. record { number = 0; hertz = s.hertz; at = (f i).at + 8; count = (f i).size / 2 })
-    ∙ sym (found_take s (taken (goal.at.returns c).After-is_reached) (sym (lies (goal.at.returns c).After-is_reached) ∙ not-false _ c.if-not-is_reached.false))
+    ∙ sym (found_take s (taken (goal.at.returns c).After-is_reached) (sym (lies (goal.at.returns c).After-is_reached) ∙ c.if-not-is_reached.false))

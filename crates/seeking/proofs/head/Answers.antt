@@ -13,10 +13,10 @@ returns-then-not-is_wave c =
     let a = q.args in
     c.seek_of.ensures
     ∙ (λ i. seek_of a.s.length a.s.mends 20 0 0 (q.begin-w.ensures i) (c.no_piece.ensures i))
-    ∙ sym (headed-none a.s a.bytes.now (sym q.is_wave.ensures ∙ not-true _ q.if-not-is_wave.true))
+    ∙ sym (headed-none a.s a.bytes.now (sym q.is_wave.ensures ∙ q.if-not-is_wave.true))
 
 pub four-requires : goal.four-requires
-four-requires c = omega (arith, wave-long c.args.bytes.now (sym c.is_wave.ensures ∙ not-false _ c.if-not-is_wave.false))
+four-requires c = omega (arith, wave-long c.args.bytes.now (sym c.is_wave.ensures ∙ c.if-not-is_wave.false))
 
 pub returns : goal.returns
 returns c =
@@ -24,4 +24,4 @@ returns c =
     let a = q.args in
     c.Walked-on.ensures
     ∙ (λ i. walked_on a.s.length a.s.mends (c.four.ensures i) (q.begin-w.ensures i))
-    ∙ sym (headed-wave a.s a.bytes.now (sym q.is_wave.ensures ∙ not-false _ q.if-not-is_wave.false))
+    ∙ sym (headed-wave a.s a.bytes.now (sym q.is_wave.ensures ∙ q.if-not-is_wave.false))

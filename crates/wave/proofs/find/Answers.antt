@@ -1,7 +1,6 @@
 -- `wave::find` meets its contract: the walk goes to the lesser of the two ends, and what it comes to is the file's refusal.
 use mathlib.Core.Path.{◌≡◌, sym, ap, ◌∙◌}
 use native.Mathlib.Omega.{arith}
-use borrow.Author.Tests.{not-true, not-false}
 use Rattle.riff.specs.Walking.{seen-near}
 use Rattle.wave.specs.Judged.{no-take}
 use Rattle.wave.specs.Judging.{not_wave, wave-long, Surveyed, take-refused, take_found}
@@ -13,7 +12,7 @@ use Rattle.wave.proofs.find.Goals as goal
 
 -- the file begins as RIFF WAVE
 begins : (c : Else-not-is_wave) → is_wave c.args.bytes.now ≡ true
-begins c = sym c.is_wave.ensures ∙ not-false _ c.if-not-is_wave.false
+begins c = sym c.is_wave.ensures ∙ c.if-not-is_wave.false
 
 -- what was learnt of it
 surveyed : (c : After-judge-number) →
@@ -24,7 +23,7 @@ surveyed c =
     let q = c in
     let b = q in
     record {
-      wave = begins c.before.before.before.before.before.before.before;
+      wave = sym c.is_wave.ensures ∙ c.if-not-is_wave.false;
       riff-is = ap (λ (n : ℕ). 8 + n) b.four.ensures;
       end_is = q.least-end.ensures;
       seen = q.walked-w.ensures;
@@ -34,7 +33,7 @@ surveyed c =
 
 pub returns-then-not-is_wave : goal.returns-then-not-is_wave
 returns-then-not-is_wave c =
-    let e = sym c.is_wave.ensures ∙ not-true _ c.if-not-is_wave.true in
+    let e = sym c.is_wave.ensures ∙ c.if-not-is_wave.true in
     let n = not_wave c.args.bytes.now e in
     no-take (λ z. omega arith) (c.no_take.ensures ∙ (λ i. record { number = sym n i; hertz = 0; at = 0; count = 0 }))
 
@@ -52,7 +51,7 @@ overflow_add-result c =
     let q = c in
     let a = q in
     let n = seen-near a.args.bytes.now q.walked-w.ensures in
-    omega (arith, n.1, q.least-end.ensures, a.well-formed)
+    omega (arith, n.1, q.least-end.ensures, a.well_formed)
 
 pub returns : goal.returns
 returns c = take_found (surveyed (goal.at.returns c).After-judge-number) c.if-number-ne0.false

@@ -9,7 +9,7 @@ use Rattle.wave.proofs.judge.Goals as goal
 pub returns-then-no_fmt : goal.returns-then-no_fmt
 returns-then-no_fmt c =
     let a = c.args in
-    sym (judged_21 a.w a.hertz a.riff-end a.length (sym c.no_fmt.ensures ∙ c.if-no_fmt.true))
+    sym (judged_21 a.w a.hertz a.riff_end a.length (sym c.no_fmt.ensures ∙ c.if-no_fmt.true))
 
 -- no test held so far
 past-21 : (c : Else-no_fmt) → no_fmt_found c.args.w.fmt c.args.w.data ≡ false
@@ -19,22 +19,22 @@ pub returns-then-hertz-data : goal.returns-then-hertz-data
 returns-then-hertz-data c =
     let q = c in
     let a = q.args in
-    sym (judged_22 a.w a.hertz a.riff-end a.length (past-21 (goal.at.returns-then-hertz-data c).Else-no_fmt) c.if-hertz-data.true)
+    sym (judged_22 a.w a.hertz a.riff_end a.length (past-21 (goal.at.returns-then-hertz-data c).Else-no_fmt) c.if-hertz-data.true)
 
 pub returns-then-not-data : goal.returns-then-not-data
 returns-then-not-data c =
     let q = c in
     let a = q.args in
-    sym (judged_23 a.w a.hertz a.riff-end a.length (past-21 (goal.at.returns-then-not-data c).Else-no_fmt) c.if-hertz-data.false c.if-not-data.true)
+    sym (judged_23 a.w a.hertz a.riff_end a.length (past-21 (goal.at.returns-then-not-data c).Else-no_fmt) c.if-hertz-data.false c.if-not-data.true)
 
 pub returns-then-w-length : goal.returns-then-w-length
 returns-then-w-length c =
     let q = c in
     let a = q.args in
-    sym (judged_24 a.w a.hertz a.riff-end a.length (past-21 (goal.at.returns-then-w-length c).Else-no_fmt) c.if-hertz-data.false c.if-not-data.false c.if-w-length.true)
+    sym (judged_24 a.w a.hertz a.riff_end a.length (past-21 (goal.at.returns-then-w-length c).Else-no_fmt) c.if-hertz-data.false c.if-not-data.false c.if-w-length.true)
 
 pub returns : goal.returns
 returns c =
     let q = c in
     let a = q.args in
-    sym (judged_0 a.w a.hertz a.riff-end a.length (past-21 (goal.at.returns c).Else-no_fmt) c.if-hertz-data.false c.if-not-data.false c.if-w-length.false)
+    sym (judged_0 a.w a.hertz a.riff_end a.length (past-21 (goal.at.returns c).Else-no_fmt) c.if-hertz-data.false c.if-not-data.false c.if-w-length.false)

@@ -15,10 +15,10 @@ use Rattle.writing.proofs.write.Goals as goal
 
 -- the sample rate is known
 rate-known : (c : Else-not-known) → known c.args.hertz ≡ true
-rate-known c = sym c.known.ensures ∙ not-false _ c.if-not-known.false
+rate-known c = sym c.known.ensures ∙ c.if-not-known.false
 
 pub returns-then-not-known : goal.returns-then-not-known
-returns-then-not-known c = write_refused (rate-unknown c.args.hertz (length c.args.xs.now) _ _ (sym c.known.ensures ∙ not-true _ c.if-not-known.true)) c.not_written.ensures refl
+returns-then-not-known c = write_refused (rate-unknown c.args.hertz (length c.args.xs.now) _ _ (sym c.known.ensures ∙ c.if-not-known.true)) c.not_written.ensures refl
 
 pub returns-then-xs-gt-LIMIT : goal.returns-then-xs-gt-LIMIT
 returns-then-xs-gt-LIMIT c =

@@ -15,10 +15,10 @@ use Rattle.writing.proofs.write_header.Goals as goal
 
 -- the sample rate is known
 rate-known : (c : Else-not-known) → known c.args.hertz ≡ true
-rate-known c = sym c.known.ensures ∙ not-false _ c.if-not-known.false
+rate-known c = sym c.known.ensures ∙ c.if-not-known.false
 
 pub returns-then-not-known : goal.returns-then-not-known
-returns-then-not-known c = let a = c.args in header_refused (rate-unknown a.hertz a.count 44 (length a.out.now) (sym c.known.ensures ∙ not-true _ c.if-not-known.true)) c.not_written.ensures refl
+returns-then-not-known c = let a = c.args in header_refused (rate-unknown a.hertz a.count 44 (length a.out.now) (sym c.known.ensures ∙ c.if-not-known.true)) c.not_written.ensures refl
 
 pub returns-then-count-gt-LIMIT : goal.returns-then-count-gt-LIMIT
 returns-then-count-gt-LIMIT c = let q = c in let a = q.args in header_refused (too_long a.hertz a.count 44 (length a.out.now) (rate-known (goal.at.returns-then-count-gt-LIMIT c).Else-not-known) c.if-count-gt-LIMIT.true) c.not_written-then-count-gt-LIMIT.ensures refl
