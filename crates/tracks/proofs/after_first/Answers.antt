@@ -15,10 +15,10 @@ pub returns-then-has_one : goal.returns-then-has_one
 unfolding after_first
 returns-then-has_one c =
     let a = c.args in
-    rw (lt-leb 128 a.b (omega arith), sym c.Has-one.ensures ∙ c.if-has_one.true) c.message.ensures
+    rw (lt-leb 128 a.b (omega arith), sym c.has_one.ensures ∙ c.if-has_one.true) c.message.ensures
 
 pub returns : goal.returns
 unfolding after_first
 returns c =
     let a = c.args in
-    rw (lt-leb 128 a.b (omega arith), sym c.Has-one.ensures ∙ c.if-has_one.false) c.part.ensures
+    rw (lt-leb 128 a.b (omega arith), sym c.has_one.ensures ∙ c.if-has_one.false) c.part.ensures

@@ -14,7 +14,7 @@ pub returns-then-t-eq-FIRST : goal.returns-then-t-eq-FIRST
 unfolding after_part
 returns-then-t-eq-FIRST c =
     let a = c.args in
-    rw (ne_eqb a.t.phase 2 (λ e. omega arith), eq-eqb a.t.phase 3 (omega arith)) c.after_first_lem.ensures
+    rw (ne_eqb a.t.phase 2 (λ e. omega arith), eq-eqb a.t.phase 3 (omega arith)) c.after_first.ensures
 
 pub returns-then-t-eq-SECOND : goal.returns-then-t-eq-SECOND
 unfolding after_part

@@ -14,4 +14,4 @@ pub returns : goal.returns
 unfolding after_running
 returns c =
     let a = c.args in
-    rw (ne_eqb a.t.running 0 (λ e. omega arith)) c.after_first_lem.ensures
+    rw (ne_eqb a.t.running 0 (λ e. omega arith)) c.after_first.ensures
