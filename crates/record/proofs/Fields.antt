@@ -1,7 +1,7 @@
 -- What the type of what was heard says of its arrays: their lengths, and that each sample fits 16 bits.
 -- Assumes nothing.
-use mathlib.Core.Path.{◌≡◌, subst}
-use mathlib.Core.List.{List, [], ◌∷◌, map, map-id}
+use mathlib.Core.Path.{◌≡◌}
+use mathlib.Core.List.{List, [], ◌∷◌}
 use Prim.Native.Nat.{ℕ, zero, suc}
 use borrow.Author.Rules.{length_unmapped}
 use lib.Dec.{lit<}
@@ -27,9 +27,8 @@ each_fits (x ∷ xs) [] i p = absurd p
 each_fits (x ∷ xs) (u ∷ us) zero p = record { sfits = p.0.1 }
 each_fits (x ∷ xs) (u ∷ us) (suc i) p = each_fits xs us i p.1
 
-pub field-samples : (xs : List ℤ) (us : List Val) → shadow (each ℤ (SInt w16).own_val (map (λ (v : ℤ). v) xs) us) → Samples xs
-field-samples xs us p =
-    record { each = λ i. each_fits xs us i (subst (λ (ys : List ℤ). shadow (each ℤ (SInt w16).own_val ys us)) (map-id xs) p) }
+pub field-samples : (xs : List ℤ) (us : List Val) → shadow (each ℤ (SInt w16).own_val xs us) → Samples xs
+field-samples xs us p = record { each = λ i. each_fits xs us i p }
 
 pub stores : (h : Heard) (vs : List Val) → Is the_row h vs → Stores h
 stores h vs p =

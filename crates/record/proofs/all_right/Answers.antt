@@ -2,7 +2,7 @@
 use mathlib.Core.Path.{sym, ◌∙◌}
 use Prim.Native.Nat.{◌≤◌}
 use native.Mathlib.Omega.{arith}
-use Rattle.whole.specs.Tests.{failed, passed, refused, decides_as}
+use Rattle.whole.specs.Tests.{refused, decides_as}
 use Rattle.rules.specs.Rules.{longest_block}
 use Rattle.record.specs.Records.{HeardRight}
 use Rattle.record.specs.Parts.{heard_of}
@@ -10,28 +10,28 @@ use Rattle.record.proofs.all_right.Goals.{Else-not-heard_right, Else-not-length_
 use Rattle.record.proofs.all_right.Goals as goal
 
 length-in : (c : Else-not-length_right) → let a = c.args in (a.length ≤ longest_block) × (a.length ≤ a.count)
-length-in c = passed c.length_right.ensures c.if-not-length_right.false
+length-in c = c.length_right.ensures.yes c.if-not-length_right.false
 
 heard-in : (c : Else-not-heard_right) → let a = c.args in HeardRight (heard_of a.count a.energies.now a.correlations.now a.store.now a.eighths.now)
-heard-in c = passed c.heard_right.ensures c.if-not-heard_right.false
+heard-in c = c.heard_right.ensures.yes c.if-not-heard_right.false
 
 pub returns-then-not-known_rate : goal.returns-then-not-known_rate
-returns-then-not-known_rate c = λ l e. refused (λ p. failed c.known_rate.ensures c.if-not-known_rate.true p.hertz)
+returns-then-not-known_rate c = λ l e. refused (λ p. c.known_rate.ensures.no c.if-not-known_rate.true p.hertz)
 
 pub returns-then-settings_number-ne0 : goal.returns-then-settings_number-ne0
 returns-then-settings_number-ne0 c = λ l e. refused (λ p. c.if-settings_number-ne0.true (c.settings_number.ensures ∙ p.settings))
 
 pub returns-then-not-right : goal.returns-then-not-right
-returns-then-not-right c = λ l e. refused (λ p. failed c.right.ensures c.if-not-right.true p.keyboard)
+returns-then-not-right c = λ l e. refused (λ p. c.right.ensures.no c.if-not-right.true p.keyboard)
 
 pub returns-then-not-length_right : goal.returns-then-not-length_right
-returns-then-not-length_right c = λ l e. refused (λ p. failed c.length_right.ensures c.if-not-length_right.true (omega (arith, e, p.last.length), omega (arith, e, p.last.within)))
+returns-then-not-length_right c = λ l e. refused (λ p. c.length_right.ensures.no c.if-not-length_right.true (omega (arith, e, p.last.length), omega (arith, e, p.last.within)))
 
 pub returns-then-d-gt-FARTHEST : goal.returns-then-d-gt-FARTHEST
 returns-then-d-gt-FARTHEST c = λ l e. refused (λ p. omega (arith, p.head.behind))
 
 pub returns-then-not-heard_right : goal.returns-then-not-heard_right
-returns-then-not-heard_right c = λ l e. refused (λ p. failed c.heard_right.ensures c.if-not-heard_right.true p.heard)
+returns-then-not-heard_right c = λ l e. refused (λ p. c.heard_right.ensures.no c.if-not-heard_right.true p.heard)
 
 pub pitch_right-requires : goal.pitch_right-requires
 pitch_right-requires c = let k = c.requires in (k.store, k.store_fits)
@@ -48,8 +48,8 @@ returns c =
     λ l e. decides_as c.pitch_right.ensures
     (λ v. record {
       settings = sym c2.settings_number.ensures ∙ c2.if-settings_number-ne0.false;
-      hertz = passed c1.known_rate.ensures c1.if-not-known_rate.false;
-      keyboard = passed c3.right.ensures c3.if-not-right.false;
+      hertz = c1.known_rate.ensures.yes c1.if-not-known_rate.false;
+      keyboard = c3.right.ensures.yes c3.if-not-right.false;
       heard = heard-in (goal.at.returns c).Else-not-heard_right;
       pitch = v;
       head = record { behind = c5.if-d-gt-FARTHEST.false };

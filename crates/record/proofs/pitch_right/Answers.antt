@@ -1,18 +1,18 @@
 -- `record::pitch_right` meets its contract, by the mode: 1 tracking, 0 searching, and no other.
 use native.Mathlib.Omega.{arith}
-use Rattle.whole.specs.Tests.{failed, passed, refused, decides_eq, decides_as}
+use Rattle.whole.specs.Tests.{refused, decides_eq, decides_as}
 use Rattle.record.specs.Parts.{right-tracking, tracking-right, right-searching, searching-right}
 use Rattle.record.proofs.pitch_right.Goals as goal
 
 pub returns-then-not-tone_right : goal.returns-then-not-tone_right
-returns-then-not-tone_right c = refused (λ p. failed c.tone_right.ensures c.if-not-tone_right.true p.pitch.tone)
+returns-then-not-tone_right c = refused (λ p. c.tone_right.ensures.no c.if-not-tone_right.true p.pitch.tone)
 
 pub returns-then-v-eq1 : goal.returns-then-v-eq1
 returns-then-v-eq1 c =
     let c2 = c in
     let c1 = c2 in
     decides_as c.tracker_right.ensures
-    (λ k. right-tracking c2.if-v-eq1.true (passed c1.tone_right.ensures c1.if-not-tone_right.false) k)
+    (λ k. right-tracking c2.if-v-eq1.true (c1.tone_right.ensures.yes c1.if-not-tone_right.false) k)
     (λ p. tracking-right c2.if-v-eq1.true p)
 
 pub returns-then-v-gt1 : goal.returns-then-v-gt1
@@ -24,5 +24,5 @@ returns c =
     let c2 = c3 in
     let c1 = c2 in
     decides_as (decides_eq _ _)
-    (λ z. right-searching (let l = c3.if-v-gt1.false in let n = c2.if-v-eq1.false in omega arith) (passed c1.tone_right.ensures c1.if-not-tone_right.false) z)
+    (λ z. right-searching (let l = c3.if-v-gt1.false in let n = c2.if-v-eq1.false in omega arith) (c1.tone_right.ensures.yes c1.if-not-tone_right.false) z)
     (λ p. searching-right c2.if-v-eq1.false p)

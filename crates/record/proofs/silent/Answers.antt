@@ -18,7 +18,7 @@ returns-then-s-i-ne0 c = refused (λ p. c.if-s-i-ne0.true (ap (of_z w16) (p c.lo
 pub loop-i-preserved : goal.loop-i-preserved
 loop-i-preserved c =
     let l = c.loop-i in
-    (omega arith, below_more _ l.i l.invariant.1 (sym (to_z-of_z (sfits_of c.t7-1.given)) ∙ ap (to_z w16) c.if-s-i-ne0.false))
+    (omega arith, below_more _ l.i l.invariant.1 (sym (to_z-of_z {w = w16} (sfits_of c.t7-1.given)) ∙ ap (to_z w16) c.if-s-i-ne0.false))
 
 pub returns : goal.returns
 returns c = granted (λ i l. c.loop-i.invariant.1 i (omega arith))

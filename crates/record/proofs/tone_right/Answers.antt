@@ -1,6 +1,6 @@
 -- `record::tone_right` meets its contract: what is kept decides, then without a period the rate does, with one the three ranges do.
 use native.Mathlib.Omega.{arith}
-use Rattle.whole.specs.Tests.{failed, passed, refused, decides_eq, decides_as}
+use Rattle.whole.specs.Tests.{refused, decides_eq, decides_as}
 use Rattle.rules.specs.Facts.{pitched, unpitched}
 use Rattle.rules.specs.Position.{tone-kept, rate_without, ranges_with}
 use Rattle.record.proofs.tone_right.Goals as goal
@@ -15,7 +15,7 @@ returns-then-t-eq0 c =
     decides_as (decides_eq _ _) (λ r. unpitched z r (omega arith)) (λ q. rate_without z q)
 
 pub returns-then-not-within : goal.returns-then-not-within
-returns-then-not-within c = refused (λ q. failed c.within.ensures c.if-not-within.true (ranges_with c.if-t-eq0.false q).0)
+returns-then-not-within c = refused (λ q. c.within.ensures.no c.if-not-within.true (ranges_with c.if-t-eq0.false q).0)
 
 pub returns-then-t-gt-NO_NOTE : goal.returns-then-t-gt-NO_NOTE
 returns-then-t-gt-NO_NOTE c = refused (λ q. omega (arith, (ranges_with c.if-t-eq0.false q).1))
@@ -26,7 +26,7 @@ returns c =
     let c3 = c4 in
     let c2 = c3 in
     let k = c2.if-t-gt255.false in
-    let p = passed c3.within.ensures c3.if-not-within.false in
+    let p = c3.within.ensures.yes c3.if-not-within.false in
     decides_as c.within-2.ensures
     (λ r. pitched p.0 p.1 c4.if-t-gt-NO_NOTE.false r.0 (omega (arith, r)) (omega (arith, k)))
     (λ q. (ranges_with c2.if-t-eq0.false q).2)
