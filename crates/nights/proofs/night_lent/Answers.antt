@@ -1,6 +1,5 @@
 -- `nights::night_lent` meets its contract: it is refused before its first block, or goes on block by block.
 use Rattle.std.proofs.Common.{ℕ, ◌<◌, ◌≤◌, List, length, ℤ, sym, refl, ap, subst, arith}
-use Rattle.whole.specs.Tests.{passed, failed}
 use Rattle.tuner.proofs.Fields.{voices-long}
 use Rattle.tuner.specs.declared.Tuner.{Tuner}
 use Rattle.tuner.specs.Tuners.{Good, kept_outs, Roomy}
@@ -21,7 +20,7 @@ outputs s = let a = s.args in four a.out.now a.first.now a.second.now a.third.no
 
 -- the record is good
 good-here : (e : Else-not-right) → Good (tuner e)
-good-here e = passed (e.right.ensures e.args.outs.now) e.if-not-right.false
+good-here e = (e.right.ensures e.args.outs.now).yes e.if-not-right.false
 
 -- where the night was judged
 abbrev start : After-judge-verdict → Start
@@ -41,7 +40,7 @@ begins-here : (e : Else-verdict-ne0) → let s = start e in (0 < s.args.size) ×
 begins-here e = night-begins (room-here e.before) e.judge-verdict.ensures e.if-verdict-ne0.false
 
 pub returns-then-not-right : goal.returns-then-not-right
-returns-then-not-right c = let s = c in night-nine (failed (c.right.ensures s.args.outs.now) c.if-not-right.true) c.refused.ensures.0 c.refused.ensures.1
+returns-then-not-right c = let s = c in night-nine ((c.right.ensures s.args.outs.now).no c.if-not-right.true) c.refused.ensures.0 c.refused.ensures.1
 
 pub overflow_cast-n : goal.overflow_cast-n
 overflow_cast-n c = omega (arith, (good-here (goal.at.overflow_cast-n c).Else-not-right).voices.few)

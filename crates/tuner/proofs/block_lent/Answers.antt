@@ -6,7 +6,7 @@ use native.Mathlib.Omega.{arith}
 use borrow.Author.Tests.{ne_eqb}
 use lib.IntN.{ℤ}
 use lib.ListN.{length}
-use Rattle.whole.specs.Tests.{passed, failed, cond_no}
+use Rattle.whole.specs.Tests.{cond_no}
 use Rattle.tuner.specs.declared.Tuner.{Tuner}
 use Rattle.tuner.specs.Tuners.{Good, kept_outs, Roomy, Verdict, record_out_of_range, answer_by}
 use Rattle.tuner.specs.Parted.{tuner_of}
@@ -25,7 +25,7 @@ outputs s = let a = s.args in four a.out.now a.first.now a.second.now a.third.no
 
 -- the record is good
 good-here : (e : Else-not-right) → Good (tuner e)
-good-here e = passed (e.right.ensures e.args.outs.now) e.if-not-right.false
+good-here e = (e.right.ensures e.args.outs.now).yes e.if-not-right.false
 
 -- where the block was judged
 abbrev start : After-judge-verdict → Start
@@ -53,7 +53,7 @@ unfolding answer_by
 returns-then-not-right c =
     let e = c in
     let s = c in
-    took_by {t' = tuner s} (record_out_of_range (failed (e.right.ensures s.args.outs.now) e.if-not-right.true)) refl refl (λ h. absurd (omega (arith, h))) (c.plain.ensures s.args.n refl) refl refl
+    took_by {t' = tuner s} (record_out_of_range ((e.right.ensures s.args.outs.now).no e.if-not-right.true)) refl refl (λ h. absurd (omega (arith, h))) (c.plain.ensures s.args.n refl) refl refl
 
 pub overflow_cast-n : goal.overflow_cast-n
 overflow_cast-n c = omega (arith, (good-here (goal.at.overflow_cast-n c).Else-not-right).voices.few)

@@ -3,7 +3,6 @@ use mathlib.Core.Path.{refl}
 use native.Mathlib.Omega.{arith}
 use mathlib.Core.List.{List, []}
 use lib.IntN.{ℤ}
-use Rattle.whole.specs.Tests.{passed, failed}
 use Rattle.tuner.specs.declared.Tuner.{Tuner}
 use Rattle.tuner.specs.Parted.{tuner_of}
 use Rattle.rules.specs.Table.{rate-upto}
@@ -17,10 +16,10 @@ tuner s outs = let a = s.args in tuner_of a.n a.energies.now a.correlations.now 
 
 -- the record is good
 good-here : (c : Else-not-right) (outs : List ℤ) → Good (tuner c outs)
-good-here c outs = passed (c.right.ensures outs) c.if-not-right.false
+good-here c outs = (c.right.ensures outs).yes c.if-not-right.false
 
 pub returns-then-not-right : goal.returns-then-not-right
-returns-then-not-right c = λ outs. record_out_of_range (failed (c.right.ensures outs) c.if-not-right.true) refl
+returns-then-not-right c = λ outs. record_out_of_range ((c.right.ensures outs).no c.if-not-right.true) refl
 
 pub overflow_cast-n : goal.overflow_cast-n
 overflow_cast-n c = omega (arith, rate-upto (good-here (goal.at.overflow_cast-n c).Else-not-right []).lead.hertz)

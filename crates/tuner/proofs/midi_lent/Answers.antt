@@ -2,7 +2,6 @@
 use mathlib.Core.Path.{refl, ap}
 use mathlib.Core.List.{List}
 use lib.IntN.{ℤ}
-use Rattle.whole.specs.Tests.{passed, failed}
 use Rattle.tuner.specs.declared.Tuner.{Tuner}
 use Rattle.tuner.specs.Parted.{tuner_of}
 use Rattle.tuner.specs.Tuners.{with_numbers}
@@ -15,9 +14,9 @@ abbrev tuner : Start → List ℤ → Tuner
 tuner s outs = let a = s.args in tuner_of a.n a.energies.now a.correlations.now a.heard.now a.eighths.now outs
 
 pub returns-then-not-right : goal.returns-then-not-right
-returns-then-not-right c = λ outs. done-nine (failed (c.right.ensures outs) c.if-not-right.true)
+returns-then-not-right c = λ outs. done-nine ((c.right.ensures outs).no c.if-not-right.true)
 
 pub returns : goal.returns
 returns c =
     let e = c in
-    λ outs. done-taken (passed (e.right.ensures outs) e.if-not-right.false) refl (ap (with_numbers (tuner e outs)) c.keyed.ensures)
+    λ outs. done-taken ((e.right.ensures outs).yes e.if-not-right.false) refl (ap (with_numbers (tuner e outs)) c.keyed.ensures)

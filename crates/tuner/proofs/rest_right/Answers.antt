@@ -1,6 +1,6 @@
 -- `tuner::rest_right` meets its contract: test by test.
 use native.Mathlib.Omega.{arith}
-use Rattle.whole.specs.Tests.{refused, passed, failed, decides_as}
+use Rattle.whole.specs.Tests.{refused, passed, decides_as}
 use Rattle.tuner.proofs.rest_right.Goals as goal
 
 pub returns-then-n-ne-LAYOUT : goal.returns-then-n-ne-LAYOUT
@@ -10,7 +10,7 @@ pub returns-then-n-gt1 : goal.returns-then-n-gt1
 returns-then-n-gt1 c = refused (λ p. omega (arith, p.1))
 
 pub returns-then-not-right : goal.returns-then-not-right
-returns-then-not-right c = refused (λ p. failed c.right.ensures c.if-not-right.true p.2)
+returns-then-not-right c = refused (λ p. c.right.ensures.no c.if-not-right.true p.2)
 
 pub returns : goal.returns
 returns c =

@@ -1,11 +1,11 @@
 -- `tuner::right` meets its contract: what the lead does not test, and then the lead.
 use mathlib.Core.Path.{refl}
-use Rattle.whole.specs.Tests.{refused, passed, failed, decides_as}
+use Rattle.whole.specs.Tests.{refused, passed, decides_as}
 use Rattle.tuner.specs.Tuners.{tested_last}
 use Rattle.tuner.proofs.right.Goals as goal
 
 pub returns-then-not-rest_right : goal.returns-then-not-rest_right
-returns-then-not-rest_right c = λ outs. refused (λ g. failed c.rest_right.ensures c.if-not-rest_right.true (g.layout, g.listed, g.list, g.voices))
+returns-then-not-rest_right c = λ outs. refused (λ g. c.rest_right.ensures.no c.if-not-rest_right.true (g.layout, g.listed, g.list, g.voices))
 
 pub returns : goal.returns
 returns c =
