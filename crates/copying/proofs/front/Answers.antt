@@ -6,4 +6,4 @@ use Rattle.copying.proofs.front.Goals as goal
 pub returns : goal.returns
 returns c =
     let s = c in
-    joined-one refl s.requires.0 s.requires.1 c.lay.ensures.0 c.lay.ensures.1
+    joined-one refl s.requires.0 s.requires.1 c.lay.ensures.laid c.lay.ensures.samples

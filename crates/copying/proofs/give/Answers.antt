@@ -23,4 +23,4 @@ returns c =
     let n = taken-length (goal.at.returns c).Start in
     let a = c.args in
     let e : 0 + length (take a.n a.kept.now) ≡ a.n = omega arith in
-    c.lay.ensures.0 ∙ ap (λ (m : ℕ). take a.n a.kept.now ++ drop m a.out.now) e
+    c.lay.ensures.laid ∙ ap (λ (m : ℕ). take a.n a.kept.now ++ drop m a.out.now) e

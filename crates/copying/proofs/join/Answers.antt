@@ -14,4 +14,4 @@ pub returns : goal.returns
 returns c =
     let f = c in
     let s = f in
-    joined-two _ refl s.requires.0 f.front.ensures c.lay.ensures.0 c.lay.ensures.1
+    joined-two _ refl s.requires.0 f.front.ensures c.lay.ensures.laid c.lay.ensures.samples

@@ -8,4 +8,4 @@ use Rattle.copying.proofs.keep.Goals as goal
 pub returns : goal.returns
 returns c =
     let s = c in
-    c.lay.ensures.0 ∙ laid-part s.args.into.now s.args.all.now s.args.n (length s.args.into.now) (s.args.n + length s.args.into.now) refl refl s.requires
+    c.lay.ensures.laid ∙ laid-part s.args.into.now s.args.all.now s.args.n (length s.args.into.now) (s.args.n + length s.args.into.now) refl refl s.requires

@@ -1,8 +1,8 @@
 use mathlib.Core.Path.{◌≡◌, refl, sym, ap, ◌∙◌, subst}
-use Prim.Native.Nat.{◌+◌, ◌-◌}
+use Prim.Native.Nat.{◌+◌}
 use native.Mathlib.Omega.{arith}
 use native.Mathlib.Numerals.{add-one}
-use borrow.Author.Rules.{sfits_of}
+use Rattle.std.proofs.Common.{rules}
 use lib.IntN.{ℤ, pos}
 use lib.ListN.{length, get_or, take, drop, set, length-set}
 use lib.Seq.{paste, paste-zero, paste-suc, take-length}
@@ -21,26 +21,25 @@ loop-i-preserved c =
     let l = c.loop-i in
     let a = c.args in
     let x = get_or a.xs.now l.i (pos 0) in
-    let e : to_z w16 (of_z w16 x) ≡ x = to_z-of_z (sfits_of c.x-1.given) in (
+    let f : SFits w16 x = search rules in
+    let e : to_z w16 (of_z w16 x) ≡ x = to_z-of_z f in (
       omega arith,
       (
         length-set l.into (a.from + l.i) (to_z w16 (of_z w16 x)) ∙ l.invariant.1.0,
         (λ n. set (l.invariant.1.1 n) (a.from + l.i) (e n))
             ∙ paste-suc a.into.now a.from a.xs.now l.i (pos 0) (omega arith) (omega arith)
             ∙ ap (paste a.into.now a.from a.xs.now) (sym (add-one l.i)),
-        λ r. samples-put l.into (a.from + l.i) (to_z w16 (of_z w16 x)) (subst (SFits w16) (sym e) (sfits_of c.x-1.given)) (omega arith) (l.invariant.1.2 r),
+        λ r. samples-put l.into (a.from + l.i) (to_z w16 (of_z w16 x)) (subst (SFits w16) (sym e) f) (omega arith) (l.invariant.1.2 r),
       ),
     )
 
 pub shape_of-into : goal.shape_of-into
 shape_of-into c = c.loop-i.invariant.1.0
 
-pub returns : goal.returns
-returns c =
+pub returns-clause-laid : goal.returns-clause-laid
+returns-clause-laid c =
     let a = c.args in
-    let e : c.loop-i.i ≡ length a.xs.now = omega arith in (
-      c.loop-i.invariant.1.1
-          ∙ ap (paste a.into.now a.from a.xs.now) e
-          ∙ ap (λ (l : List ℤ). take a.from a.into.now ++ l ++ drop (a.from + length a.xs.now) a.into.now) (take-length a.xs.now),
-      c.loop-i.invariant.1.2,
-    )
+    let e : c.loop-i.i ≡ length a.xs.now = omega arith in
+    c.loop-i.invariant.1.1
+    ∙ ap (paste a.into.now a.from a.xs.now) e
+    ∙ ap (λ (l : List ℤ). take a.from a.into.now ++ l ++ drop (a.from + length a.xs.now) a.into.now) (take-length a.xs.now)
