@@ -1,6 +1,5 @@
 use Prim.Native.Nat.{◌-◌}
 use native.Mathlib.Omega.{arith}
-use borrow.Author.Tests.{not-false}
 use Rattle.lists.specs.Folds.{level-one, level-four}
 use Rattle.lists.proofs.fours.Goals as goal
 
@@ -14,7 +13,7 @@ pub loop-to-preserved : goal.loop-to-preserved
 loop-to-preserved c =
     let a = c.args in
     let l = c.loop-to in
-    level-four a.notes.now a.n a.from (omega arith) l.to l.invariant (omega arith) (c.four.ensures (not-false _ c.if-not-four.false))
+    level-four a.notes.now a.n a.from (omega arith) l.to l.invariant (omega arith) (c.four.ensures c.if-not-four.false)
 
 pub returns : goal.returns
 returns c = c.loop-to.invariant

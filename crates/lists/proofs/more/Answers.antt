@@ -35,7 +35,7 @@ pub shape_of-store-then-one_note : goal.shape_of-store-then-one_note
 shape_of-store-then-one_note c =
     let s = c in
     let a = s.args in
-    kept-length a.last a.count a.n (sheet a.l a.store.now) a.notes.now s.requires.0 (returns c)
+    kept-length a.last a.count a.n (sheet a.l a.store.now) a.notes.now s.requires.0 (c.stretch.ensures ∙ level-whole (c.one_note.ensures c.if-one_note.true) s.requires.0 a.last a.count (sheet a.l a.store.now))
 
 pub loop-i-init : goal.loop-i-init
 unfolding after_notes last_note

@@ -1,19 +1,11 @@
+-- `reports::of_block` meets its contract: after i turns the first i samples are counted.
 use mathlib.Core.Path.{◌≡◌, sym, ap, ◌∙◌}
 use mathlib.Core.List.{List}
 use Prim.Native.Nat.{ℕ, ◌+◌, ◌-◌, ◌*◌, ◌≤◌}
 use native.Mathlib.Omega.{arith}
 use lib.ListN.{take, get_or}
 use Rattle.reports.specs.Counting.{pitched_in, distance_in, none-pitched, no_distance, pitched-more, distance-more, one_pitched_few}
-use Rattle.reports.proofs.of_block.Goals.{After-pitched_at-pitched}
 use Rattle.reports.proofs.of_block.Goals as goal
-
--- no sum is large
-record Counted (periods rates : List ℕ) (n pitched sum i : ℕ) : Type 0 where
-  within : i ≤ n
-  pitched-is : pitched ≡ pitched_in (take i periods)
-  sum_is : sum ≡ distance_in (take i rates)
-  pitched-few : pitched ≤ i
-  sum-few : sum ≤ 4294967296 * i
 
 pub loop-i-init : goal.loop-i-init
 loop-i-init c = record { within = omega arith; pitched-is = sym none-pitched; sum_is = sym no_distance; pitched-few = omega arith; sum-few = omega arith }
@@ -24,13 +16,8 @@ offset_bounds-periods-i c = omega (arith, c.requires.0)
 pub bounds-periods-i : goal.bounds-periods-i
 bounds-periods-i c = omega (arith, c.requires.0)
 
--- one sample more
-module _ (c : After-pitched_at-pitched invariant-loop decreases-loop) where
-  one-or-none : c.pitched_at-pitched.result ≤ 1
-  one-or-none = omega (arith, c.pitched_at-pitched.ensures, one_pitched_few (get_or c.args.periods.now c.loop-i.i 0))
-
 pub overflow_add-pitched : goal.overflow_add-pitched
-overflow_add-pitched c = let l = c in omega (arith, one-or-none c, l.loop-i.invariant.pitched-few, l.loop-i.invariant.within, l.requires.0)
+overflow_add-pitched c = let l = c in omega (arith, one_pitched_few (get_or c.args.periods.now c.loop-i.i 0), c.pitched_at-pitched.ensures, l.loop-i.invariant.pitched-few, l.loop-i.invariant.within, l.requires.0)
 
 pub offset_bounds-rates-i : goal.offset_bounds-rates-i
 offset_bounds-rates-i c = omega (arith, c.requires.0)
@@ -55,7 +42,7 @@ loop-i-preserved c =
       within = omega (arith, t);
       pitched-is = (λ j. v.pitched-is j + c.pitched_at-pitched.ensures j) ∙ sym (pitched-more a.periods.now l.loop-i.i (omega (arith, t, p.0, p.1)));
       sum_is = (λ j. v.sum_is j + c.distance-sum.ensures.0 j) ∙ sym (distance-more a.rates.now l.loop-i.i (omega (arith, t, p.0, p.2)));
-      pitched-few = omega (arith, v.pitched-few, one-or-none c);
+      pitched-few = omega (arith, v.pitched-few, one_pitched_few (get_or c.args.periods.now c.loop-i.i 0), c.pitched_at-pitched.ensures);
       sum-few = omega (arith, v.sum-few, c.distance-sum.ensures.1);
     }
 
