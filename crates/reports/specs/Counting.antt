@@ -154,8 +154,8 @@ one-within {f} r {t} h x =
 
 pub gives-within : {f : InForce} → ForceIn f → {t : Take} → Sane t → (xs : List ℤ) → Within (length xs) (figures_of (gives f t xs))
 unfolding gives
-gives-within {f} r {t} h [] = rw figures-none within_none
-gives-within {f} r {t} h (x ∷ xs) =
+gives-within {f} r {t = t} h [] = rw figures-none within_none
+gives-within {f} r {t = t} h (x ∷ xs) =
     let one = one-within r h x in
-    let rest = gives-within r {(stepped f t x).next} (stepped_sane r h x) xs in
+    let rest = gives-within r {t = (stepped f t x).next} (stepped_sane r h x) xs in
     rw (figures-append ((stepped f t x).given ∷ []) (gives f (stepped f t x).next xs)) (within_more (omega arith) (within-added _ _ one rest))
