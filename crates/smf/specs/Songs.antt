@@ -3,7 +3,7 @@
 -- `phase` is what the next byte is of: 0 the header's name, 1 its length, 2 the format, 3 how many tracks, 4 the division, 5 the rest of the header, 6 a chunk's name, 7 its size, 8 a track, 9 the body of another chunk.
 -- `whole` is the track's, of a byte of a track, and else 0.
 -- Refusals: 30 no Standard MIDI File, 31 a format that is not 0 or 1, 32 a division that does not say how long a tick is, 33 a header that is short, or a file that ends too early; and those of tracks.
-use Rattle.std.specs.Prelude.{Bool, false, not, cond, ◌&&◌, ◌||◌, ℕ, ◌+◌, ◌-◌, ◌*◌, ◌/◌, ◌%◌, leb, ltb, eqb}
+use Rattle.std.specs.Prelude.{Bool, false, not, cond, ◌&&◌, ◌||◌, ℕ, ◌+◌, ◌-◌, ◌*◌, ◌/◌, ◌%◌, ltb, eqb}
 use Rattle.tracks.specs.declared.Track.{Track}
 use Rattle.smf.specs.declared.Head.{Head}
 use Rattle.smf.specs.declared.Song.{Song}

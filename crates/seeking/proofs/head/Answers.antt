@@ -22,6 +22,6 @@ pub returns : goal.returns
 returns c =
     let q = c in
     let a = q.args in
-    c.Walked-on.ensures
+    c.walked_on.ensures
     ∙ (λ i. walked_on a.s.length a.s.mends (c.four.ensures i) (q.begin-w.ensures i))
     ∙ sym (headed-wave a.s a.bytes.now (sym q.is_wave.ensures ∙ q.if-not-is_wave.false))

@@ -2,4 +2,4 @@
 use Rattle.smf.proofs.tracked.Goals as goal
 
 pub returns : goal.returns
-returns c = rw (c.begin-t.ensures, c.one_more_lem.ensures)
+returns c = rw (c.begin-t.ensures, c.one_more.ensures)
