@@ -7,9 +7,11 @@ use Prim.Native.Nat.{ℕ, zero, suc}
 use Rattle.rules.specs.declared.InForce.{InForce}
 use Rattle.rules.specs.Rules.{Sound, Take, Step, growth, stepped, after}
 use Rattle.rules.specs.Facts.{ForceIn, InBounds}
-use Rattle.rules.specs.Sane.{Sane, stepped_sane}
-use Rattle.rules.specs.Blocks.{after-count}
-use Rattle.rules.specs.Local.{SameNewest, Agree, stepped_agree, reading-alike}
+use Rattle.rules.specs.Sane.{Sane}
+use Rattle.rules.proofs.Sane.{stepped_sane}
+use Rattle.rules.proofs.Blocks.{after-count}
+use Rattle.rules.specs.Local.{SameNewest, Agree}
+use Rattle.rules.proofs.Local.{stepped_agree, reading-alike}
 use Rattle.history.specs.History.{Event, sample, new-settings, byte, Course, force_at, happened, course_after, samples_in}
 use Rattle.voices.specs.Voices.{voice_rate, Voiced, voiced, voiced_by, voice_after, voice_gives, voice_account, Since, since_after}
 use Rattle.voices.specs.Accompanying.{voice_account_lem, beside_in_bounds}

@@ -6,7 +6,7 @@ use Rattle.std.proofs.Common.{sym, ◌∙◌, subst, arith, ne_eqb, length-drop,
 use Rattle.whole.specs.Tests.{cond_case, cond_no}
 use Rattle.rules.specs.declared.Settings.{Settings}
 use Rattle.rules.specs.Rules.{refuse, is_rate, settings_number, start_number}
-use Rattle.rules.specs.Ranges.{settings_not_nine}
+use Rattle.rules.proofs.Ranges.{settings_not_nine}
 use Rattle.rules.specs.Facts.{keeping}
 use Rattle.pitch.specs.declared.Pitch.{Pitch as KeptPitch}
 use Rattle.meters.specs.declared.Meter.{Meter}

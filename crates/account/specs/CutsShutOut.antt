@@ -9,10 +9,10 @@ use Rattle.whole.specs.Numbers.{fold}
 use Rattle.whole.specs.Ring.{var, con, ◌⊖◌, solve}
 use Rattle.rules.specs.declared.Tone.{Tone}
 use Rattle.rules.specs.Rules.{settings_number, heard, E, H, D, eighth_sample, eighth_due, meets_eps, meets_floor, passes, is_low, least_from, low_above, choice, found_by, found, least_place, best, is_lost, offset, period, moved, no_tone, Mode, searching, tracking, searched, tuned, tracked, step_due, listened_in, listened, input_at, fresh_take, eighths_after, stepped, defaults, kept_samples, kept_eighths, eighth_lags}
-use Rattle.rules.specs.Ranges.{unrefused-start, default_start}
+use Rattle.rules.proofs.Ranges.{unrefused-start, default_start}
 use Rattle.rules.specs.Facts.{ModeIn}
-use Rattle.rules.specs.Sane.{fresh_sane}
-use Rattle.rules.specs.Position.{behind_in_bounds, in_bounds_behind}
+use Rattle.rules.proofs.Sane.{fresh_sane}
+use Rattle.rules.proofs.Position.{behind_in_bounds, in_bounds_behind}
 use Rattle.keyboard.specs.Playing.{fresh_in}
 use Rattle.history.specs.History.{sample, new-settings, Course, happened, course_after}
 use Rattle.lists.specs.Folds.{later_in}

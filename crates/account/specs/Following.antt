@@ -7,10 +7,11 @@ use Rattle.std.proofs.Math.IntN.{nat_abs}
 use Rattle.rules.specs.declared.Settings.{Settings}
 use Rattle.rules.specs.Rules.{Sound, silence, Take, input_at, fresh_take, kept_samples, kept_eighths, eighth_lags, after, gives}
 use Rattle.rules.specs.Facts.{Right, energies_of, correlations_of, keeping}
-use Rattle.rules.specs.Position.{in_bounds_behind}
-use Rattle.rules.specs.Blocks.{after-count, after-sound}
-use Rattle.rules.specs.Sane.{after_sane}
-use Rattle.rules.specs.Local.{Agree, after_agree}
+use Rattle.rules.proofs.Position.{in_bounds_behind}
+use Rattle.rules.proofs.Blocks.{after-count, after-sound}
+use Rattle.rules.proofs.Sane.{after_sane}
+use Rattle.rules.specs.Local.{Agree}
+use Rattle.rules.proofs.Local.{after_agree}
 use Rattle.history.specs.History.{sample, new-settings, byte, Course, fresh_course, force_at, happened, course_after, given_by}
 use Rattle.history.specs.Courses.{with_take, course_samples, given-samples, course_bytes, CourseIn, course_force}
 use Rattle.pitch.specs.Pitches.{tracking_of, tracker_of, kept_of}

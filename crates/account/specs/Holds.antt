@@ -8,8 +8,8 @@ use Rattle.std.proofs.Math.ListN.{length}
 use Rattle.whole.specs.Ring.{var, con, ◌⊕◌, ◌⊖◌, solve}
 use Rattle.rules.specs.Rules.{Sound, input_at, heard_all, fresh_take, stepped, after, samples_out, eighth_lags}
 use Rattle.rules.specs.Facts.{InBounds, Right, WithoutPeriod, energies_of, correlations_of}
-use Rattle.rules.specs.Position.{behind_in_bounds}
-use Rattle.rules.specs.Sane.{always_in_bounds}
+use Rattle.rules.proofs.Position.{behind_in_bounds}
+use Rattle.rules.proofs.Sane.{always_in_bounds}
 use Rattle.history.specs.History.{Event, sample, new-settings, byte, Course, fresh_course, force_at, happened, course_after, given_by, samples_in}
 use Rattle.history.specs.Courses.{course_hertz, course_count, course_sound, course_force}
 use Rattle.history.specs.Accounts.{account}

@@ -13,10 +13,10 @@ use Rattle.std.proofs.Math.Seq.{take-length, take-append-add, drop-append_seam}
 use Rattle.whole.specs.Tests.{by, cond_case, cond_yes, cond_no}
 use Rattle.rules.specs.declared.Settings.{Settings}
 use Rattle.rules.specs.Rules.{input_at, gives, samples_out, defaults, cd_rate}
-use Rattle.rules.specs.Ranges.{unrefused-start, default_start}
+use Rattle.rules.proofs.Ranges.{unrefused-start, default_start}
 use Rattle.rules.specs.Facts.{InRange, SampleRate, InBounds}
-use Rattle.rules.specs.Position.{behind_in_bounds, in_bounds_behind}
-use Rattle.rules.specs.Blocks.{given-length, gives-length}
+use Rattle.rules.proofs.Position.{behind_in_bounds, in_bounds_behind}
+use Rattle.rules.proofs.Blocks.{given-length, gives-length}
 use Rattle.history.specs.History.{Event, sample, new-settings, byte, Course, fresh_course, course_after, given_by}
 use Rattle.history.specs.Courses.{course_force, course_after-append, given_by-append, given-bytes, course_hertz, CourseIn, EventsIn, fresh_course_in, course_in, events_in_append, samples_in_lem, bytes_in}
 use Rattle.reports.specs.declared.Figures.{Figures}

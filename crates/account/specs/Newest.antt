@@ -5,7 +5,7 @@ use Rattle.std.proofs.lemmas.List.{length-replicate, get_or-replicate}
 use Rattle.whole.specs.Lists.{length-list_of, get_or-list_of, is-list_of}
 use Rattle.rules.specs.Rules.{Sound, silence, heard_all, Mode, searching, tracking, Pitch, kept_samples}
 use Rattle.rules.specs.Facts.{ModeIn, PitchIn, value_at, Right, energies_of, correlations_of, keeping}
-use Rattle.rules.specs.Hearing.{heard_all-append}
+use Rattle.rules.proofs.Hearing.{heard_all-append}
 use Rattle.rules.specs.Local.{SameNewest}
 use Rattle.pitch.specs.Pitches.{tracking_of, tracker_of, kept_of}
 use Rattle.pitch.specs.Keeping.{right-energies, right-correlations, listed-right}

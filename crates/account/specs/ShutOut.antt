@@ -9,8 +9,8 @@ use Rattle.std.proofs.Math.ListN.{length, take, length-take}
 use Rattle.std.proofs.lemmas.List.{take-append-le}
 use Rattle.std.proofs.Math.Seq.{take-append_seam}
 use Rattle.rules.specs.Rules.{cd_rate, silence, heard, defaults, step_due, listened, listened_in, no_tone, input_at, cycle_repeated, cycle_dropped, cycles, growth, sample_at, curve, held, through, whole_of, fraction_of, reading, fresh_take, eighth_due, eighths_after, stepped, gives, samples_out, gathered, longest_block}
-use Rattle.rules.specs.Blocks.{gives-length}
-use Rattle.rules.specs.Sane.{tracking_is_not_searching}
+use Rattle.rules.proofs.Blocks.{gives-length}
+use Rattle.rules.proofs.Sane.{tracking_is_not_searching}
 use Rattle.history.specs.History.{sample, fresh_course, happened, course_after, given_by}
 use Rattle.rules.specs.Facts.{pitched, value_at}
 use Rattle.record.specs.Records.{fresh_pitch}

@@ -9,7 +9,7 @@ use Rattle.std.proofs.lemmas.List.{length-map}
 use Rattle.std.proofs.Math.Seq.{take-append-add}
 use Rattle.whole.specs.Tests.{cond_case}
 use Rattle.rules.specs.Rules.{Given, input_at, gives, samples_out}
-use Rattle.rules.specs.Blocks.{samples_out-append}
+use Rattle.rules.proofs.Blocks.{samples_out-append}
 use Rattle.history.specs.History.{Event, fresh_course, given_by}
 use Rattle.history.specs.Courses.{given_by-append}
 use Rattle.voices.specs.Voices.{Voiced, voice_outs}

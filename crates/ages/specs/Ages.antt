@@ -6,8 +6,8 @@ use Rattle.std.proofs.Math.Decide.{ℕ_discrete}
 use Rattle.std.proofs.lemmas.List.{take-set-le}
 use Rattle.std.specs.Int.{w16}
 use Rattle.rules.specs.Rules.{Sound, silence, heard, heard_all, older}
-use Rattle.rules.specs.Hearing.{heard_all-more, all-heard}
-use Rattle.rules.specs.Energies.{older-heard}
+use Rattle.rules.proofs.Hearing.{heard_all-more, all-heard}
+use Rattle.rules.proofs.Energies.{older-heard}
 use Rattle.rules.specs.Facts.{value_at}
 
 -- the sound of the first m samples of a store

@@ -10,8 +10,8 @@ use Rattle.std.proofs.Math.Dec.{leb}
 use Rattle.whole.specs.Tests.{and_no}
 use Rattle.rules.specs.declared.Settings.{Settings}
 use Rattle.rules.specs.Rules.{Sound, E, D, passes, meets_eps, meets_floor, is_low, low_above, found_by, found}
-use Rattle.rules.specs.Energies.{E-grows}
-use Rattle.rules.specs.Choosing.{is_none}
+use Rattle.rules.proofs.Energies.{E-grows}
+use Rattle.rules.proofs.Choosing.{is_none}
 
 -- of the energies e, at the lags from 2 on, the one at lag 110 is below what the floor asks at lag 3
 pub record Quiet (g : Settings) (e : List ℕ) : Type 0 where

@@ -9,7 +9,7 @@ use Rattle.std.proofs.lemmas.Bool.{lt-leb}
 use Rattle.whole.specs.Tests.{by, and_no}
 use Rattle.rules.specs.declared.Settings.{Settings}
 use Rattle.rules.specs.Rules.{Sound, E, D, passes, meets_eps, is_low, least_from, low_above, choice, found_by, found}
-use Rattle.rules.specs.Energies.{E-grows}
+use Rattle.rules.proofs.Energies.{E-grows}
 use Rattle.finding.specs.declared.Lows.{Lows}
 use Rattle.finding.specs.Finding.{Measured, distance-at}
 

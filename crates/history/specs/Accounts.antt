@@ -7,7 +7,7 @@ use Rattle.whole.specs.Ring.{var, con, ◌⊕◌, ◌⊖◌, solve}
 use Rattle.rules.specs.declared.InForce.{InForce}
 use Rattle.rules.specs.declared.Settings.{Settings}
 use Rattle.rules.specs.Rules.{Take, Given, cycles, growth, fresh_take, stepped, gathered, all_repeated, all_dropped}
-use Rattle.rules.specs.Blocks.{gathered-append}
+use Rattle.rules.proofs.Blocks.{gathered-append}
 use Rattle.history.specs.History.{Event, sample, new-settings, byte, Course, fresh_course, force_at, happened, course_after, given_by, rates_used, total_of}
 
 -- ---- the account

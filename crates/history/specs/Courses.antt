@@ -4,7 +4,8 @@ use Rattle.std.proofs.Common.{sym, ap, ◌∙◌, suc-add, add-suc, add-zero}
 use Rattle.rules.specs.declared.Settings.{Settings}
 use Rattle.rules.specs.Rules.{Take, Given, heard_all, stepped, after, gives}
 use Rattle.rules.specs.Facts.{InRange, SampleRate, ForceIn}
-use Rattle.rules.specs.Sane.{Sane, fresh_sane, stepped_sane}
+use Rattle.rules.specs.Sane.{Sane}
+use Rattle.rules.proofs.Sane.{fresh_sane, stepped_sane}
 use Rattle.keyboard.specs.declared.Keyboard.{Keyboard}
 use Rattle.keyboard.specs.Keys.{played, KeyboardIn}
 use Rattle.keyboard.specs.Playing.{fresh_in, after_byte_in, on_channel_in}

@@ -4,8 +4,9 @@ use Rattle.std.specs.Prelude.{◌≡◌, refl, List, [], ◌∷◌, ℕ, suc, �
 use Rattle.std.proofs.Common.{ap, ◌∙◌}
 use Rattle.rules.specs.Rules.{Sound, silence, heard, Take, Given, fresh_take, stepped, samples_out}
 use Rattle.rules.specs.Facts.{value_at, SixteenBits}
-use Rattle.rules.specs.Hearing.{all-heard}
-use Rattle.rules.specs.Unpitched.{Clear, fresh-clear, stepped-clear, Level, fresh-level, stepped-level, stepped_late}
+use Rattle.rules.proofs.Hearing.{all-heard}
+use Rattle.rules.specs.Unpitched.{Clear, Level}
+use Rattle.rules.proofs.Unpitched.{fresh-clear, stepped-clear, fresh-level, stepped-level, stepped_late}
 use Rattle.history.specs.History.{Event, sample, new-settings, byte, Course, fresh_course, force_at, happened, course_after, given_by, samples_in, WithoutPeriodTheorem, NonePitched, FourLate}
 
 -- ---- the tone

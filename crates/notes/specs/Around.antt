@@ -6,9 +6,10 @@ use Rattle.std.proofs.Math.Option.{some}
 use Rattle.whole.specs.Tests.{by, yes_and_no}
 use Rattle.rules.specs.Rules.{table, first_note, notes, note_period, of_scale, away, wanted}
 use Rattle.rules.specs.Facts.{SampleRate}
-use Rattle.rules.specs.Table.{table-length}
+use Rattle.rules.proofs.Table.{table-length}
 use Rattle.rules.specs.Tuning.{IsWanted}
-use Rattle.rules.specs.Notes.{end, wanted-some, is-wanted, table-falls}
+use Rattle.rules.specs.Notes.{end}
+use Rattle.rules.proofs.Notes.{wanted-some, is-wanted, table-falls}
 
 -- what stands at the place of a note
 pub at_place : (hertz : ℕ) {t : List ℕ} → t ≡ table hertz → (k : ℕ) → get_or t k 0 ≡ note_period hertz (first_note hertz + k)

@@ -4,7 +4,7 @@ use Rattle.std.proofs.Common.{arith, SFits}
 use Rattle.std.specs.Int.{w16}
 use Rattle.rules.specs.declared.Settings.{Settings}
 use Rattle.rules.specs.Rules.{Sound, D}
-use Rattle.rules.specs.Distance.{D-within}
+use Rattle.rules.proofs.Distance.{D-within}
 use Rattle.rules.specs.Facts.{value_at}
 use Rattle.ages.specs.Ages.{Samples}
 use Rattle.sums.specs.Kept.{RightAt, Kept}

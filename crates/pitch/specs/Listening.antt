@@ -11,10 +11,10 @@ use Rattle.rules.specs.declared.InForce.{InForce}
 use Rattle.rules.specs.declared.Tone.{Tone}
 use Rattle.rules.specs.Rules.{Sound, Mode, searching, tracking, Pitch, no_tone, no_period, searched, found, tracked, tuned, best, period, moved, is_lost, eighth_due, step_due, listened_in, listened, eighth_lags}
 use Rattle.rules.specs.Facts.{InRange, ForceIn, ToneIn, unpitched, LagsIn, ModeIn, PitchIn, Right}
-use Rattle.rules.specs.Choosing.{found_range}
-use Rattle.rules.specs.Notes.{tuned_in}
-use Rattle.rules.specs.Sane.{tracking_is_not_searching}
-use Rattle.rules.specs.Ranges.{ranges}
+use Rattle.rules.proofs.Choosing.{found_range}
+use Rattle.rules.proofs.Notes.{tuned_in}
+use Rattle.rules.proofs.Sane.{tracking_is_not_searching}
+use Rattle.rules.proofs.Ranges.{ranges}
 use Rattle.sums.specs.Kept.{Kept}
 use Rattle.finding.specs.Finding.{lag_of}
 use Rattle.passing.specs.Distances.{Modest}

@@ -8,7 +8,8 @@ use Rattle.whole.specs.Bounds.{Within, w_add, w_sub, w_mul}
 use Rattle.whole.specs.Words.{held as size}
 use Rattle.whole.specs.Ring.{Expr, var, con, ◌⊕◌, ◌⊖◌, ◌⊗◌, solve}
 use Rattle.rules.specs.Rules.{curve}
-use Rattle.rules.specs.Through.{square_x, cube_x, curve_x, natural}
+use Rattle.rules.specs.Through.{square_x, cube_x, curve_x}
+use Rattle.rules.proofs.Through.{natural}
 
 -- (2p - 5a + 4b - q)v + (3a - p - 3b + q)v^2 with v = u/4096, in 1/4096^2
 unfoldable pub bend : ℤ → ℤ → ℤ → ℤ → ℕ → ℤ

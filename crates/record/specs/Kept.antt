@@ -11,9 +11,9 @@ use Rattle.whole.specs.Lists.{length-list_of}
 use Rattle.whole.specs.Sums.{sum-within, total-zero}
 use Rattle.rules.specs.declared.InForce.{InForce}
 use Rattle.rules.specs.Rules.{Sound, heard, heard_all, sq, E, H, eighth_due, eighth_sample, eighths_after, Take, after, stepped}
-use Rattle.rules.specs.Energies.{E-same, H-same}
+use Rattle.rules.proofs.Energies.{E-same, H-same}
 use Rattle.rules.specs.Facts.{value_at, Right, keeping}
-use Rattle.rules.specs.Hearing.{all-heard}
+use Rattle.rules.proofs.Hearing.{all-heard}
 use Rattle.ages.specs.Ages.{ago-at, Samples}
 use Rattle.record.specs.declared.Heard.{Heard}
 use Rattle.record.specs.Records.{sound_of, made, heard_after}

@@ -5,7 +5,7 @@ use Rattle.whole.specs.Tests.{Decides, by, yes_and_no, decides_as}
 use Rattle.rules.specs.declared.Settings.{Settings}
 use Rattle.rules.specs.Rules.{Sound, silence, heard_all, searching, tracking, kept_samples, kept_eighths, eighth_lags}
 use Rattle.rules.specs.Facts.{ToneIn, LagsIn, PitchIn, value_at, Right}
-use Rattle.rules.specs.Sane.{tracking_is_not_searching}
+use Rattle.rules.proofs.Sane.{tracking_is_not_searching}
 use Rattle.ages.specs.Ages.{ago, Samples}
 use Rattle.tracking.specs.declared.Tracker.{Tracker}
 use Rattle.pitch.specs.declared.Pitch.{Pitch as KeptPitch}

@@ -8,7 +8,7 @@ use Rattle.std.proofs.Math.ListN.{length}
 use Rattle.whole.specs.Tests.{by, cond_case, cond_yes, cond_no, yes_and_no}
 use Rattle.rules.specs.declared.Settings.{Settings}
 use Rattle.rules.specs.Rules.{Given, gives, take_limit, longest_block}
-use Rattle.rules.specs.Blocks.{given-length}
+use Rattle.rules.proofs.Blocks.{given-length}
 use Rattle.record.specs.Records.{heard_after}
 use Rattle.tuner.specs.declared.Voice.{Voice}
 use Rattle.tuner.specs.declared.Tuner.{Tuner}

@@ -6,9 +6,10 @@ use Rattle.rules.specs.declared.InForce.{InForce}
 use Rattle.rules.specs.declared.Tone.{Tone}
 use Rattle.rules.specs.Rules.{Take, Given, away, fresh_rate, stepped, gives, gathered, all_repeated, all_dropped}
 use Rattle.rules.specs.Facts.{ForceIn, ToneIn}
-use Rattle.rules.specs.Blocks.{gathered-append}
-use Rattle.rules.specs.Position.{tone-rate}
-use Rattle.rules.specs.Sane.{Sane, stepped_sane, at_most_one_cycle}
+use Rattle.rules.proofs.Blocks.{gathered-append}
+use Rattle.rules.proofs.Position.{tone-rate}
+use Rattle.rules.specs.Sane.{Sane}
+use Rattle.rules.proofs.Sane.{stepped_sane, at_most_one_cycle}
 use Rattle.reports.specs.declared.Figures.{Figures}
 use Rattle.reports.specs.Reports.{pitched_of, distance_of, figures_of, added, no_figures}
 

@@ -3,9 +3,6 @@ pub mod Facts
 pub mod Sounds
 pub mod Tuning
 pub mod Ranges
-pub mod Hearing
-pub mod Energies
-pub mod Distance
 pub mod Choosing
 pub mod Periods
 pub mod Every
@@ -14,10 +11,8 @@ pub mod Notes
 pub mod Smoothing
 pub mod Through
 pub mod Position
-pub mod Blocks
 pub mod Sane
 pub mod Local
 pub mod Held
 pub mod Unpitched
 pub mod Worked
-pub mod Computed

@@ -9,8 +9,9 @@ use Rattle.rules.specs.declared.Settings.{Settings}
 use Rattle.rules.specs.declared.Tone.{Tone}
 use Rattle.rules.specs.Rules.{no_note, Given, Take, Step, fresh_take, stepped, gives}
 use Rattle.rules.specs.Facts.{InRange, SampleRate, ForceIn, ToneIn, pitched, unpitched}
-use Rattle.rules.specs.Ranges.{ranges}
-use Rattle.rules.specs.Sane.{Sane, fresh_sane, stepped_sane}
+use Rattle.rules.proofs.Ranges.{ranges}
+use Rattle.rules.specs.Sane.{Sane}
+use Rattle.rules.proofs.Sane.{fresh_sane, stepped_sane}
 use Rattle.keyboard.specs.declared.Keyboard.{Keyboard}
 use Rattle.keyboard.specs.Keys.{fresh, played}
 use Rattle.history.specs.History.{Event, sample, byte, Course, fresh_course, force_at, happened, course_after, given_by}

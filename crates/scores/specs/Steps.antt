@@ -11,7 +11,7 @@ use Rattle.rules.specs.declared.InForce.{InForce}
 use Rattle.rules.specs.declared.Tone.{Tone}
 use Rattle.rules.specs.Rules.{scale_mode, Sound, heard, passes, is_low, least_from, low_above, choice, found_by, found, is_lost, best, period, moved, wanted_note, goal_of, goal, smooth_rate, smooth_kept, tuned, tracked, Mode, searching, tracking, Pitch, no_period, searched, eighth_due, step_due, listened_in, listened, growth, reading, eighths_after, Take, Step, stepped}
 use Rattle.rules.specs.Facts.{LagsIn, ModeIn}
-use Rattle.rules.specs.Periods.{period_range}
+use Rattle.rules.proofs.Periods.{period_range}
 use Rattle.rules.specs.Sane.{Sane}
 use Rattle.lists.specs.Lists.{sung_note}
 use Rattle.scores.specs.Scores.{by_keys}

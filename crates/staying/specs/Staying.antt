@@ -13,11 +13,12 @@ use Rattle.whole.specs.Lists.{length-list_of}
 use Rattle.rules.specs.declared.Settings.{Settings}
 use Rattle.rules.specs.declared.InForce.{InForce}
 use Rattle.rules.specs.Rules.{silence, no_tone, Take, Given, stepped, defaults, cd_rate, start_number, gives, samples_out}
-use Rattle.rules.specs.Ranges.{unrefused-start, default_start}
+use Rattle.rules.proofs.Ranges.{unrefused-start, default_start}
 use Rattle.rules.specs.Facts.{InRange, SampleRate, ForceIn, unpitched, value_at, keeping}
-use Rattle.rules.specs.Position.{behind_in_bounds, in_bounds_behind}
-use Rattle.rules.specs.Blocks.{gives-length, given-length}
-use Rattle.rules.specs.Sane.{Sane, after_sane}
+use Rattle.rules.proofs.Position.{behind_in_bounds, in_bounds_behind}
+use Rattle.rules.proofs.Blocks.{gives-length, given-length}
+use Rattle.rules.specs.Sane.{Sane}
+use Rattle.rules.proofs.Sane.{after_sane}
 use Rattle.keyboard.specs.declared.Keyboard.{Keyboard}
 use Rattle.keyboard.specs.Keys.{KeyboardIn}
 use Rattle.keyboard.specs.Playing.{fresh_in, played_in, on_channel_in}

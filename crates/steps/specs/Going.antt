@@ -6,7 +6,7 @@ use Rattle.std.proofs.Math.Decide.{ℕ_discrete}
 use Rattle.rules.specs.declared.InForce.{InForce}
 use Rattle.rules.specs.declared.Tone.{Tone}
 use Rattle.rules.specs.Rules.{Take, Given, Step, after, gives, stepped, longest_block, kept_eighths}
-use Rattle.rules.specs.Blocks.{after_more, gives_more, given-length}
+use Rattle.rules.proofs.Blocks.{after_more, gives_more, given-length}
 use Rattle.rules.specs.Facts.{value_at}
 use Rattle.rules.specs.Position.{Paced}
 use Rattle.passing.specs.Distances.{Long}

@@ -7,7 +7,7 @@ use Rattle.std.proofs.Math.ListN.{length}
 use Rattle.rules.specs.declared.InForce.{InForce}
 use Rattle.rules.specs.declared.Tone.{Tone}
 use Rattle.rules.specs.Rules.{Sound, Take, Given, Step, Growth, growth, input_at, heard, reading, after, gives, stepped, samples_out, gathered, all_repeated, all_dropped, farthest, longest_block}
-use Rattle.rules.specs.Blocks.{samples_out-append, gathered-more}
+use Rattle.rules.proofs.Blocks.{samples_out-append, gathered-more}
 use Rattle.rules.specs.Facts.{value_at}
 use Rattle.rules.specs.Position.{Paced}
 use Rattle.ages.specs.Ages.{ago, ago-next}

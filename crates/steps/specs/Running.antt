@@ -6,7 +6,8 @@ use Rattle.rules.specs.declared.Tone.{Tone}
 use Rattle.rules.specs.Rules.{Sound, Take, Given, Step, Pitch, farthest, input_at, heard, eighths_after, listened, growth, reading, after, gives, stepped, samples_out, all_repeated, all_dropped, take_limit, longest_block, kept_eighths}
 use Rattle.ages.specs.Ages.{ago, ago-next, ago-fits}
 use Rattle.rules.specs.Facts.{value_at}
-use Rattle.rules.specs.Position.{Paced, tone-paced}
+use Rattle.rules.specs.Position.{Paced}
+use Rattle.rules.proofs.Position.{tone-paced}
 use Rattle.pitch.specs.Pitches.{pitch_of, PitchRight}
 use Rattle.passing.specs.Distances.{Long}
 use Rattle.steps.specs.declared.Progress.{Progress}

@@ -2,7 +2,7 @@
 use Rattle.std.specs.Prelude.{◌≡◌, refl, List, ℕ, zero, suc, ◌+◌, ◌*◌, ◌≤◌, ◌<◌, ℤ, pos, get_or}
 use Rattle.std.proofs.Common.{sym, ◌∙◌, arith}
 use Rattle.rules.specs.Rules.{Sound, heard, eighth_lags}
-use Rattle.rules.specs.Energies.{no-energy, E-same, H-same}
+use Rattle.rules.proofs.Energies.{no-energy, E-same, H-same}
 use Rattle.rules.specs.Facts.{Right}
 
 -- 0 heard after n samples of 0

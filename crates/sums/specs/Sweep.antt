@@ -4,7 +4,7 @@ use Rattle.std.proofs.Common.{ap, ◌∙◌, le_refl, arith, below_more, length-
 use Rattle.std.specs.Int.{w16, w64}
 use Rattle.whole.specs.Words.{Bits, num}
 use Rattle.rules.specs.Rules.{Sound, E, H}
-use Rattle.rules.specs.Energies.{E-within, H-within}
+use Rattle.rules.proofs.Energies.{E-within, H-within}
 use Rattle.rules.specs.Facts.{value_at, Right}
 use Rattle.sums.specs.Kept.{RightAt, Enough}
 

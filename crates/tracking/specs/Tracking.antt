@@ -4,8 +4,9 @@ use Rattle.std.proofs.Common.{ap, arith}
 use Rattle.rules.specs.declared.Settings.{Settings}
 use Rattle.rules.specs.Rules.{Sound, D, best, is_lost, moved}
 use Rattle.rules.specs.Rules as rules
-use Rattle.rules.specs.Choosing.{First, first_of_same, is-place}
-use Rattle.rules.specs.Periods.{period_range}
+use Rattle.rules.specs.Choosing.{First}
+use Rattle.rules.proofs.Choosing.{first_of_same, is-place}
+use Rattle.rules.proofs.Periods.{period_range}
 use Rattle.ages.specs.Ages.{ago, ago-fits}
 use Rattle.sums.specs.Kept.{Enough, Kept}
 use Rattle.rules.specs.Facts.{Right}

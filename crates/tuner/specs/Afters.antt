@@ -8,8 +8,9 @@ use Rattle.std.proofs.Math.Nat.{zero-add}
 use Rattle.std.proofs.Math.IntN.{pos, nat_abs}
 use Rattle.std.proofs.Math.ListN.{length, drop, length-append, length-drop}
 use Rattle.rules.specs.Rules.{Sound, silence, Take, Given, input_at, after, gives, samples_out, all_repeated, all_dropped}
-use Rattle.rules.specs.Hearing.{heard_all-append}
-use Rattle.rules.specs.Position.{Behind, behind-one}
+use Rattle.rules.proofs.Hearing.{heard_all-append}
+use Rattle.rules.specs.Position.{Behind}
+use Rattle.rules.proofs.Position.{behind-one}
 use Rattle.rules.specs.Facts.{Right, keeping}
 use Rattle.ages.specs.Ages.{ago}
 use Rattle.passing.specs.Distances.{Long}

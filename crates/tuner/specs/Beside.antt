@@ -12,10 +12,11 @@ use Rattle.rules.specs.declared.InForce.{InForce}
 use Rattle.rules.specs.declared.Tone.{Tone}
 use Rattle.rules.specs.Rules.{Sound, silence, heard_all, Take, Given, input_at, stepped, after, gives}
 use Rattle.rules.specs.Facts.{ForceIn, ToneIn, value_at}
-use Rattle.rules.specs.Hearing.{heard_all-append}
-use Rattle.rules.specs.Position.{behind-one}
-use Rattle.rules.specs.Sane.{Sane, stepped_sane, after_sane}
-use Rattle.rules.specs.Blocks.{after_more, after-count, after-sound}
+use Rattle.rules.proofs.Hearing.{heard_all-append}
+use Rattle.rules.proofs.Position.{behind-one}
+use Rattle.rules.specs.Sane.{Sane}
+use Rattle.rules.proofs.Sane.{stepped_sane, after_sane}
+use Rattle.rules.proofs.Blocks.{after_more, after-count, after-sound}
 use Rattle.ages.specs.Ages.{ago}
 use Rattle.copying.specs.Copies.{Joined}
 use Rattle.record.specs.Records.{sound_of}

@@ -10,8 +10,8 @@ use Rattle.rules.specs.declared.InForce.{InForce}
 use Rattle.rules.specs.declared.Tone.{Tone}
 use Rattle.rules.specs.Rules.{Sound, Given, farthest, gives, samples_out, take_limit, longest_block, kept_samples}
 use Rattle.rules.specs.Facts.{ForceIn, SampleRate}
-use Rattle.rules.specs.Blocks.{given-length}
-use Rattle.rules.specs.Position.{behind_in_bounds, tone-rate}
+use Rattle.rules.proofs.Blocks.{given-length}
+use Rattle.rules.proofs.Position.{behind_in_bounds, tone-rate}
 use Rattle.rules.specs.Sane.{Sane}
 use Rattle.ages.specs.Ages.{Samples}
 use Rattle.passing.specs.Distances.{Long}

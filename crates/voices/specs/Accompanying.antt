@@ -9,8 +9,10 @@ use Rattle.rules.specs.declared.InForce.{InForce}
 use Rattle.rules.specs.declared.Tone.{Tone}
 use Rattle.rules.specs.Rules.{no_note, Sound, Take, Step, input_at, cycles, cycle_repeated, cycle_dropped, growth, stepped, after}
 use Rattle.rules.specs.Facts.{ForceIn, ToneIn, pitched, unpitched, InBounds, SampleRate}
-use Rattle.rules.specs.Position.{Behind, behind_in_bounds, growth_in_bounds}
-use Rattle.rules.specs.Sane.{Sane, stepped_sane}
+use Rattle.rules.specs.Position.{Behind}
+use Rattle.rules.proofs.Position.{behind_in_bounds, growth_in_bounds}
+use Rattle.rules.specs.Sane.{Sane}
+use Rattle.rules.proofs.Sane.{stepped_sane}
 use Rattle.voices.specs.Voices.{voice_rate, Voiced, voiced, voiced_by, voice_after, voice_gives, voice_rates, voice_cycles, voice_account, Since, since_by, since_after, VoiceAccount, VoiceBounds, VoiceCutting}
 use Rattle.voices.specs.Singing.{Tracked, Kept, rate-none, rate-kept}
 

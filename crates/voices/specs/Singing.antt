@@ -14,9 +14,11 @@ use Rattle.std.proofs.Math.ListN.{set, drop, length-append}
 use Rattle.whole.specs.Tests.{by, cond_yes, cond_no, and_left, and_right, and_no, yes_and_no}
 use Rattle.rules.specs.Rules.{longest_block, no_note, table, first_note, cd_table, film_table, note_period, least_period, greatest_period, farthest, input_at, Growth, growth, reading, raw_rate, wanted_period}
 use Rattle.rules.specs.Facts.{SampleRate, OfTable}
-use Rattle.rules.specs.Table.{at_each_note}
-use Rattle.rules.specs.Notes.{end, period_of_table, period-below, period-above}
-use Rattle.rules.specs.Position.{Paced, growth-keeps, growth-drops, growth-repeats}
+use Rattle.rules.proofs.Table.{at_each_note}
+use Rattle.rules.specs.Notes.{end}
+use Rattle.rules.proofs.Notes.{period_of_table, period-below, period-above}
+use Rattle.rules.specs.Position.{Paced}
+use Rattle.rules.proofs.Position.{growth-keeps, growth-drops, growth-repeats}
 use Rattle.ages.specs.Ages.{ago}
 use Rattle.reading.specs.Gliding.{one_more_lem}
 use Rattle.voices.specs.Voices.{unison, voice_note, voice_period, voice_rate, Voiced, voiced}

@@ -4,7 +4,7 @@ use Rattle.whole.specs.Words.{Bits, arg, cast, shr, loop, fit, is, ok_of}
 use Rattle.whole.specs.Adding.{run-start, run}
 use Rattle.whole.specs.Numbers.{floor_div, sum}
 use Rattle.rules.specs.Rules.{eighth_sample}
-use Rattle.rules.specs.Hearing.{eighth-fits}
+use Rattle.rules.proofs.Hearing.{eighth-fits}
 use Rattle.ages.specs.Ages.{ago, ago-fits}
 use Rattle.ages.proofs.eighth_sample.Goals.{After-back-x, After-loop-k}
 use Rattle.ages.proofs.eighth_sample.Goals as goal

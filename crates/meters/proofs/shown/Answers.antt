@@ -4,8 +4,8 @@ use Prim.Native.Nat.{ℕ}
 use native.Mathlib.Omega.{arith}
 use borrow.Author.Tests.{eq-eqb, ne_eqb}
 use Rattle.rules.specs.Rules.{wanted_period}
-use Rattle.rules.specs.Notes.{wanted_period_upto}
-use Rattle.rules.specs.Position.{ranges_with}
+use Rattle.rules.proofs.Notes.{wanted_period_upto}
+use Rattle.rules.proofs.Position.{ranges_with}
 use Rattle.pitch.specs.declared.Pitch.{Pitch as KeptPitch}
 use Rattle.pitch.specs.Listening.{is-tracking}
 use Rattle.meters.specs.declared.Meter.{Meter}

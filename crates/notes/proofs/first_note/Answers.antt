@@ -1,6 +1,6 @@
 -- `notes::first_note` meets its contract: by whether the rate is 44,100.
 use mathlib.Core.Path.{sym}
-use Rattle.rules.specs.Table.{at-cd, at-film}
+use Rattle.rules.proofs.Table.{at-cd, at-film}
 use Rattle.notes.proofs.first_note.Goals as goal
 
 pub returns-then-hertz-eq-CD_RATE : goal.returns-then-hertz-eq-CD_RATE

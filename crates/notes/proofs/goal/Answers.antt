@@ -1,8 +1,8 @@
 -- `notes::goal` meets its contract: by the mode, the goal of the scale's note or of the key.
 use mathlib.Core.Path.{sym, ap, ◌∙◌}
 use Rattle.rules.specs.Rules.{goal_of, goal}
-use Rattle.rules.specs.Notes.{note_of_scale, note_of_keyboard}
-use Rattle.rules.specs.Ranges.{ranges}
+use Rattle.rules.proofs.Notes.{note_of_scale, note_of_keyboard}
+use Rattle.rules.proofs.Ranges.{ranges}
 use Rattle.notes.proofs.goal.Goals as goal
 
 pub goal_of_scale-requires : goal.goal_of_scale-requires

@@ -2,7 +2,7 @@
 use mathlib.Core.Path.{ap, ◌∙◌}
 use native.Mathlib.Omega.{arith}
 use Rattle.rules.specs.Rules.{raw_toward, goal_of}
-use Rattle.rules.specs.Notes.{wanted_period_range}
+use Rattle.rules.proofs.Notes.{wanted_period_range}
 use Rattle.notes.proofs.goal_of_key.Goals as goal
 
 pub raw_toward-raw-requires : goal.raw_toward-raw-requires

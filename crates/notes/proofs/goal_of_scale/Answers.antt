@@ -1,7 +1,7 @@
 -- `notes::goal_of_scale` meets its contract. Each array is the table of its rate.
 use mathlib.Core.Path.{sym}
 use Rattle.rules.specs.Rules.{cd_table, film_table}
-use Rattle.rules.specs.Table.{at-cd, at-film}
+use Rattle.rules.proofs.Table.{at-cd, at-film}
 use Rattle.notes.proofs.goal_of_scale.Goals as goal
 
 pub goal_among-requires : goal.goal_among-requires

@@ -4,7 +4,7 @@ use Prim.Native.Nat.{◌+◌, ◌/◌}
 use native.Mathlib.Omega.{arith}
 use lib.ListN.{get_or}
 use Rattle.rules.specs.Rules.{first_note, note_period}
-use Rattle.rules.specs.Table.{table-span}
+use Rattle.rules.proofs.Table.{table-span}
 use Rattle.notes.specs.Around.{at_place, as_long, lower-half, upper_half}
 use Rattle.notes.proofs.halved.Goals.{Start}
 use Rattle.notes.proofs.halved.Goals as goal

@@ -2,7 +2,7 @@
 use Rattle.whole.specs.Tests.{granted, decides_eq, decides_as}
 use Rattle.rules.specs.Rules.{film_rate}
 use Rattle.rules.specs.Facts.{cd, film}
-use Rattle.rules.specs.Ranges.{not_cd}
+use Rattle.rules.proofs.Ranges.{not_cd}
 use Rattle.notes.proofs.known_rate.Goals as goal
 
 pub returns-then-hertz : goal.returns-then-hertz

@@ -2,7 +2,7 @@ use mathlib.Core.Path.{◌≡◌, sym, ◌∙◌}
 use Prim.Native.Nat.{◌+◌, ◌-◌}
 use native.Mathlib.Omega.{arith}
 use Rattle.rules.specs.Rules.{first_note}
-use Rattle.rules.specs.Table.{table-span}
+use Rattle.rules.proofs.Table.{table-span}
 use Rattle.notes.specs.Around.{none_yet, none_below}
 use Rattle.notes.proofs.last_of_scale.Goals as goal
 

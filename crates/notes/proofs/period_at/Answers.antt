@@ -2,7 +2,7 @@
 use mathlib.Core.Path.{refl}
 use native.Mathlib.Omega.{arith}
 use Rattle.rules.specs.Rules.{cd_table, film_table}
-use Rattle.rules.specs.Table.{at-cd, at-film}
+use Rattle.rules.proofs.Table.{at-cd, at-film}
 use Rattle.notes.proofs.period_at.Goals as goal
 
 pub bounds-place : goal.bounds-place

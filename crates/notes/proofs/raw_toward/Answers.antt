@@ -3,7 +3,7 @@ use mathlib.Core.Path.{sym, ap, ◌∙◌}
 use Prim.Native.Nat.{◌<◌}
 use native.Mathlib.Omega.{arith}
 use Rattle.rules.specs.Rules.{raw_toward}
-use Rattle.rules.specs.Notes.{raw-fits, toward-none, toward_outside, toward-within}
+use Rattle.rules.proofs.Notes.{raw-fits, toward-none, toward_outside, toward-within}
 use Rattle.notes.proofs.raw_toward.Goals as goal
 
 pub returns-then-wanted-eq0 : goal.returns-then-wanted-eq0

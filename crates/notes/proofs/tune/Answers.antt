@@ -3,9 +3,9 @@ use mathlib.Core.Path.{ap, ◌∙◌}
 use native.Mathlib.Omega.{arith}
 use Rattle.rules.specs.declared.Goal.{Goal}
 use Rattle.rules.specs.Rules.{smooth_rate, smooth_kept, tuned}
-use Rattle.rules.specs.Notes.{goal_in}
-use Rattle.rules.specs.Position.{tone-rate, tone-kept}
-use Rattle.rules.specs.Ranges.{ranges}
+use Rattle.rules.proofs.Notes.{goal_in}
+use Rattle.rules.proofs.Position.{tone-rate, tone-kept}
+use Rattle.rules.proofs.Ranges.{ranges}
 use Rattle.notes.proofs.tune.Goals as goal
 
 pub smooth-s-requires : goal.smooth-s-requires

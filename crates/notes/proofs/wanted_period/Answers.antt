@@ -4,7 +4,7 @@ use Prim.Native.Nat.{ℕ, ◌-◌}
 use native.Mathlib.Omega.{arith}
 use lib.ListN.{get_or}
 use Rattle.rules.specs.Rules.{table, note_period}
-use Rattle.rules.specs.Notes.{period_of_table, period-below, period-above}
+use Rattle.rules.proofs.Notes.{period_of_table, period-below, period-above}
 use Rattle.notes.proofs.wanted_period.Goals as goal
 
 pub returns-then-note-first : goal.returns-then-note-first

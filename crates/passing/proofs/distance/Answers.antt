@@ -9,7 +9,7 @@ use mir.Syntax.{w64}
 use mir.Val.{Fits, to_z, of_z}
 use Rattle.whole.specs.Words.{Bits, num, lit, sub, sub-ok, mul, mul_ok, fit}
 use Rattle.rules.specs.Rules.{D}
-use Rattle.rules.specs.Distance.{D-is, D-within}
+use Rattle.rules.proofs.Distance.{D-is, D-within}
 use Rattle.sums.specs.Sweep.{energy-small, correlation-held}
 use Rattle.passing.specs.Distances.{One}
 use Rattle.passing.proofs.distance.Goals as goal

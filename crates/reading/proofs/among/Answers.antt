@@ -6,7 +6,7 @@ use mir.Syntax.{w16}
 use mir.Facts.{to_z-of_z}
 use Rattle.rules.specs.Rules.{through}
 use Rattle.rules.specs.Facts.{value_at}
-use Rattle.rules.specs.Through.{through-none}
+use Rattle.rules.proofs.Through.{through-none}
 use Rattle.reading.proofs.among.Goals as goal
 
 pub returns-then-u-eq0 : goal.returns-then-u-eq0

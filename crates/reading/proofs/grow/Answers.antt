@@ -3,7 +3,7 @@ use mathlib.Core.Path.{refl, sym}
 use mathlib.Core.List.{[], ◌∷◌}
 use native.Mathlib.Nat.{add-zero}
 use native.Mathlib.Omega.{arith}
-use Rattle.rules.specs.Position.{growth-keeps, growth-drops, growth-repeats}
+use Rattle.rules.proofs.Position.{growth-keeps, growth-drops, growth-repeats}
 use Rattle.reading.specs.Gliding.{grown}
 use Rattle.reading.proofs.grow.Goals as goal
 

@@ -7,7 +7,7 @@ use mir.Syntax.{w16, w64}
 use mir.Val.{SFits, to_z, of_z}
 use mir.Facts.{to_z-of_z}
 use Rattle.rules.specs.Rules.{held}
-use Rattle.rules.specs.Through.{held_fits}
+use Rattle.rules.proofs.Through.{held_fits}
 use Rattle.reading.proofs.held.Goals.{Else-z-gt32767}
 use Rattle.reading.proofs.held.Goals as goal
 

@@ -1,6 +1,6 @@
 -- `record::settings_number` meets its contract: its tests are the definition's, in their order, so the first that fails gives the number.
 use Rattle.rules.specs.Rules.{scale_mode, keyboard_mode, settings_number}
-use Rattle.rules.specs.Ranges.{is_within, not_within}
+use Rattle.rules.proofs.Ranges.{is_within, not_within}
 use Rattle.record.proofs.settings_number.Goals as goal
 
 pub returns-then-not-within : goal.returns-then-not-within

@@ -1,6 +1,6 @@
 -- `record::start_number` meets its contract: the sample rate is tested, then the settings.
 use Rattle.rules.specs.Rules.{start_number}
-use Rattle.rules.specs.Ranges.{known, unknown}
+use Rattle.rules.proofs.Ranges.{known, unknown}
 use Rattle.record.proofs.start_number.Goals as goal
 
 pub returns-then-not-known_rate : goal.returns-then-not-known_rate

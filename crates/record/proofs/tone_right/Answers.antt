@@ -2,7 +2,7 @@
 use native.Mathlib.Omega.{arith}
 use Rattle.whole.specs.Tests.{refused, decides_eq, decides_as}
 use Rattle.rules.specs.Facts.{pitched, unpitched}
-use Rattle.rules.specs.Position.{tone-kept, rate_without, ranges_with}
+use Rattle.rules.proofs.Position.{tone-kept, rate_without, ranges_with}
 use Rattle.record.proofs.tone_right.Goals as goal
 
 pub returns-then-t-gt255 : goal.returns-then-t-gt255

@@ -9,7 +9,7 @@ use mir.Syntax.{w16}
 use mir.Val.{SFits, to_z, of_z}
 use mir.Facts.{to_z-of_z}
 use Rattle.rules.specs.Rules.{eighth_sample}
-use Rattle.rules.specs.Hearing.{eighth-fits}
+use Rattle.rules.proofs.Hearing.{eighth-fits}
 use Rattle.ages.specs.Ages.{ago, ago-fits}
 use Rattle.sums.specs.Kept.{Enough}
 use Rattle.steps.specs.Eighths.{put-room, put-older, put-eighths, put-silence, as_many}

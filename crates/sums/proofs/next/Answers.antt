@@ -10,7 +10,7 @@ use mir.Facts.{to_z-of_z}
 use Rattle.whole.specs.Words.{Bits}
 use Rattle.rules.specs.Rules.{sq, E}
 use Rattle.rules.specs.Sounds.{next_h}
-use Rattle.rules.specs.Energies.{E-slides, H-next}
+use Rattle.rules.proofs.Energies.{E-slides, H-next}
 use Rattle.ages.specs.Ages.{ago, ago-fits}
 use Rattle.sums.specs.Sweep.{energy-small, correlation-held}
 use Rattle.sums.proofs.next.Goals.{After-back-y, After-back-z, After-square-2, Start}

@@ -6,7 +6,7 @@ use borrow.Author.Rules.{sfits_of}
 use mir.Syntax.{w16}
 use mir.Facts.{to_z-of_z}
 use Rattle.rules.specs.Rules.{sq}
-use Rattle.rules.specs.Energies.{E-shift}
+use Rattle.rules.proofs.Energies.{E-shift}
 use Rattle.ages.specs.Ages.{ago, ago-fits}
 use Rattle.sums.specs.Sweep.{energy-small}
 use Rattle.sums.proofs.one_lag_more.Goals.{Start}

@@ -2,7 +2,8 @@ use mathlib.Core.Path.{◌≡◌, refl, ◌∙◌, subst}
 use mathlib.Core.Logic.{⊎_elim}
 use Prim.Native.Nat.{ℕ, ◌-◌}
 use native.Mathlib.Omega.{arith}
-use Rattle.rules.specs.Choosing.{First, first-start, first-take, first_keep}
+use Rattle.rules.specs.Choosing.{First}
+use Rattle.rules.proofs.Choosing.{first-start, first-take, first_keep}
 use Rattle.tracking.specs.Tracking.{place}
 use Rattle.tracking.proofs.least.Goals as goal
 

@@ -9,7 +9,7 @@ use mir.Facts.{to_z-of_z}
 use Rattle.whole.specs.Words.{Bits, num, lit, add, add_ok, sub, sub-ok, mul, mul_ok}
 use Rattle.whole.specs.Numbers.{floor_div}
 use Rattle.rules.specs.Rules.{offset}
-use Rattle.rules.specs.Periods.{offset-within}
+use Rattle.rules.proofs.Periods.{offset-within}
 use Rattle.tracking.proofs.vertex.Goals.{After-bend-m}
 use Rattle.tracking.proofs.vertex.Goals as goal
 

@@ -4,7 +4,7 @@ use Prim.Native.Nat.{◌-◌}
 use native.Mathlib.Omega.{arith}
 use lib.ListN.{take, drop, length-append, length-drop}
 use lib.Seq.{length-take-le}
-use Rattle.rules.specs.Table.{rate-upto}
+use Rattle.rules.proofs.Table.{rate-upto}
 use Rattle.lists.specs.Counting.{counted-within}
 use Rattle.reports.specs.Counting.{pitched_in}
 use Rattle.tuner.specs.Outputs.{glided-long}

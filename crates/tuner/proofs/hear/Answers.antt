@@ -1,7 +1,7 @@
 -- `tuner::hear` meets its contract: the numbers say what is in force and where the block begins.
 use mathlib.Core.Path.{refl}
 use native.Mathlib.Omega.{arith}
-use Rattle.rules.specs.Table.{rate-upto}
+use Rattle.rules.proofs.Table.{rate-upto}
 use Rattle.tuner.proofs.hear.Goals as goal
 
 pub overflow_cast-f : goal.overflow_cast-f

@@ -5,7 +5,7 @@ use mathlib.Core.List.{List, []}
 use lib.IntN.{ℤ}
 use Rattle.tuner.specs.declared.Tuner.{Tuner}
 use Rattle.tuner.specs.Parted.{tuner_of}
-use Rattle.rules.specs.Table.{rate-upto}
+use Rattle.rules.proofs.Table.{rate-upto}
 use Rattle.tuner.specs.Tuners.{Good, record_out_of_range, read}
 use Rattle.tuner.proofs.meter_lent.Goals.{Else-not-right, Start}
 use Rattle.tuner.proofs.meter_lent.Goals as goal

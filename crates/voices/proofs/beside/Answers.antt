@@ -2,7 +2,7 @@
 use mathlib.Core.Path.{refl, sym}
 use Prim.Native.Nat.{◌<◌}
 use native.Mathlib.Omega.{arith}
-use Rattle.rules.specs.Notes.{wanted_period_range}
+use Rattle.rules.proofs.Notes.{wanted_period_range}
 use Rattle.voices.specs.Voices.{voice_note, voice_period}
 use Rattle.voices.specs.Singing.{rate-none}
 use Rattle.voices.proofs.beside.Goals as goal

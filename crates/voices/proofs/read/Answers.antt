@@ -7,7 +7,8 @@ use mir.Syntax.{w16}
 use mir.Facts.{to_z-of_z}
 use Rattle.rules.specs.Rules.{farthest, through}
 use Rattle.rules.specs.Facts.{value_at}
-use Rattle.rules.specs.Position.{reading-behind, whole_behind, fraction_behind}
+use Rattle.rules.specs.Position.{whole_behind, fraction_behind}
+use Rattle.rules.proofs.Position.{reading-behind}
 use Rattle.ages.specs.Ages.{ago, ago-at}
 use Rattle.voices.proofs.read.Goals as goal
 

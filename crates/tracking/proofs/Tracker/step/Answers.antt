@@ -7,7 +7,7 @@ use native.Mathlib.Omega.{arith}
 use Rattle.whole.specs.Tests.{yes_and_no}
 use Rattle.rules.specs.Rules.{Sound, best, is_lost, moved}
 use Rattle.rules.specs.Rules as rules
-use Rattle.rules.specs.Periods.{moved_range, moved-best}
+use Rattle.rules.proofs.Periods.{moved_range, moved-best}
 use Rattle.ages.specs.Ages.{ago}
 use Rattle.sums.specs.Kept.{Kept}
 use Rattle.passing.specs.Distances.{Distances, Small, small-energies, small-distances}

@@ -1,7 +1,7 @@
 -- The patent's recurrences (4) and (5) equal the direct sums, at any lag and for any sound, the eighth-rate one too; a lag more takes two squares;
 -- and the sums of 16-bit samples are bounded. All by one law of sums: a window that moves on by one (`slide`).
-use Rattle.std.specs.Prelude.{◌≡◌, refl, ℕ, zero, suc, ◌+◌, ◌-◌, ◌*◌, ◌^◌, ◌≤◌, ◌<◌, ℤ, pos, nat_abs, ◌+ℤ◌, ◌-ℤ◌, ◌*ℤ◌}
-use Rattle.std.proofs.Common.{sym, ◌∙◌, zero-add, suc-add, arith, SFits}
+use Rattle.std.specs.Prelude.{◌≡◌, refl, ℕ, suc, ◌+◌, ◌-◌, ◌*◌, ◌^◌, ◌≤◌, ◌<◌, ℤ, pos, ◌+ℤ◌, ◌-ℤ◌, ◌*ℤ◌}
+use Rattle.std.proofs.Common.{◌∙◌, zero-add, suc-add, arith, SFits}
 use Rattle.std.proofs.Math.Path.{ap}
 use Rattle.std.specs.Int.{w16}
 use Rattle.whole.specs.Bounds.{Within, square_zero, w_mul}

@@ -1,6 +1,6 @@
 -- What is heard, one sample after the other: the sound after a list of samples.
 use Rattle.std.specs.Prelude.{◌≡◌, refl, List, [], ◌∷◌, ◌++◌, ℤ}
-use Rattle.std.proofs.Common.{sym, ap, ◌∙◌, arith, SFits}
+use Rattle.std.proofs.Common.{arith, SFits}
 use Prim.Native.Nat.{ℕ, zero, suc, ◌^◌}
 use Rattle.std.specs.Int.{w16}
 use Rattle.whole.specs.Sums.{sum-mag}

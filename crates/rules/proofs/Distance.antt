@@ -8,12 +8,12 @@ use Rattle.std.proofs.Math.IntN.{pos}
 use Rattle.std.specs.Int.{w16}
 use Rattle.whole.specs.Bounds.{square_pos, square_zero, w_sub, w_mul}
 use Rattle.whole.specs.Words.{held}
-use Rattle.whole.specs.Ring.{Expr, var, con, ◌⊕◌, ◌⊖◌, ◌⊗◌, solve}
-use Rattle.whole.specs.Sums.{adds, addsℤ, fold-split, fold-below, pos_total, total-zero, total-term, total-within}
+use Rattle.whole.specs.Ring.{var, con, ◌⊕◌, ◌⊖◌, ◌⊗◌, solve}
+use Rattle.whole.specs.Sums.{adds, fold-split, fold-below, pos_total, total-zero, total-term, total-within}
 use Rattle.whole.specs.Numbers.{fold, sum, total}
 use Rattle.rules.specs.Rules.{Sound, sq, E, H, D}
 use Rattle.rules.specs.Sounds.{apart, DistanceApart, DistanceIs, DistanceZero}
-use Rattle.rules.specs.Energies.{E-same, H-same}
+use Rattle.rules.proofs.Energies.{E-same, H-same}
 
 squares : (a b : ℕ → ℤ) (n : ℕ)
     → sum (λ (k : ℕ). pos (sq (a k))) n +ℤ sum (λ (k : ℕ). pos (sq (b k))) n -ℤ pos 2 *ℤ sum (λ (k : ℕ). a k *ℤ b k) n ≡ sum (λ (k : ℕ). pos (sq (a k -ℤ b k))) n
