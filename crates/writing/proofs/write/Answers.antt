@@ -7,7 +7,6 @@ use Rattle.riff.specs.Stores.{stored_then, sets-front}
 use Rattle.wave.specs.Waves.{known}
 use Rattle.writing.specs.Canonical.{sample_bytes, header, canonical, written}
 use native.Mathlib.Omega.{arith}
-use borrow.Author.Tests.{not-true, not-false}
 use Rattle.writing.specs.Writing.{rate-unknown, too_long, too_small, writable, write_refused, length-header, length-canonical}
 use Rattle.wave.specs.Rates.{known_small}
 use Rattle.writing.proofs.write.Goals.{Else-not-known}
