@@ -1,5 +1,5 @@
 -- In silence every sum is 0: where the squares of the newest samples add up to 0, each of these samples is 0.
-use Rattle.std.specs.Prelude.{◌≡◌, refl, List, ℕ, ◌+◌, ◌*◌, ◌≤◌, ◌<◌, ℤ, ◌*ℤ◌, length, get_or}
+use Rattle.std.specs.Prelude.{◌≡◌, refl, List, ℕ, ◌+◌, ◌*◌, ◌≤◌, ◌<◌, ℤ, ◌*ℤ◌, length}
 use Rattle.std.proofs.Common.{sym, ◌∙◌}
 use Rattle.std.proofs.Math.Path.{ap}
 use native.Mathlib.Omega.{arith}
@@ -8,7 +8,7 @@ use Rattle.whole.specs.Bounds.{nat_abs_mul, nat_abs-zero, square_zero}
 use Rattle.whole.specs.Numbers.{sum}
 use Rattle.whole.specs.Sums.{addsℤ, fold-below, sum-within, total-term, total-grows}
 use Rattle.rules.specs.Rules.{Sound, sq, E, H}
-use Rattle.rules.specs.Facts.{value_at, Right}
+use Rattle.rules.specs.Facts.{Right}
 use Rattle.sums.specs.Kept.{squares, Zeros}
 
 zero-times : (z : ℤ) → pos 0 *ℤ z ≡ pos 0

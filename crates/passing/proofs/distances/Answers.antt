@@ -1,17 +1,17 @@
 use mathlib.Core.Path.{◌≡◌, refl, ◌∙◌}
-use Prim.Native.Nat.{ℕ, ◌+◌, ◌-◌, ◌<◌}
+use Prim.Native.Nat.{ℕ, ◌+◌, ◌<◌}
 use native.Mathlib.Omega.{arith}
 use borrow.Author.Count.{below_more}
-use borrow.Author.Rules.{sfits_of, read_below}
+use borrow.Author.Rules.{rules, read_below}
 use lib.ListN.{length, length-set}
 use lib.Seq.{get_or-set_same}
+use lib.IntN.{ℤ}
 use mir.Syntax.{w64}
-use mir.Val.{to_z, of_z}
+use mir.Val.{SFits, to_z, of_z}
 use mir.Facts.{to_z-of_z}
 use Rattle.rules.specs.Rules.{D}
 use Rattle.rules.specs.Facts.{value_at}
 use Rattle.passing.specs.Distances.{one_of}
-use Rattle.passing.proofs.distances.Goals.{After-b-1}
 use Rattle.passing.proofs.distances.Goals as goal
 
 pub loop-i-init : goal.loop-i-init
@@ -24,13 +24,11 @@ pub bounds-h-i : goal.bounds-h-i
 bounds-h-i c = omega (arith, c.requires.right.correlations)
 
 -- the correlation read is the one kept
-kept : (c : After-b-1 invariant-loop decreases-loop)
-    → to_z w64 (of_z w64 (value_at c.args.h.now c.loop-i.i))
-    ≡ value_at c.args.h.now c.loop-i.i
-kept c = to_z-of_z {w = w64} (sfits_of c.b-1.given)
+kept : {z : ℤ} → SFits w64 z → to_z w64 (of_z w64 z) ≡ z
+kept f = to_z-of_z f
 
 pub distance-requires : goal.distance-requires
-distance-requires c = rw (kept c) (one_of c.requires c.loop-i.i (omega arith))
+distance-requires c = rw (kept {z = value_at c.args.h.now c.loop-i.i} (search rules)) (one_of c.requires c.loop-i.i (omega arith))
 
 pub loop-i-preserved : goal.loop-i-preserved
 loop-i-preserved c =
@@ -41,7 +39,7 @@ loop-i-preserved c =
       length-set l.d l.i c.distance.result ∙ l.invariant.1,
       λ x low r. below_more _ _
           (λ j h. read_below ℕ l.d l.i j c.distance.result 0 (D x (low + j)) h (l.invariant.2 x low r j h))
-          (get_or-set_same l.d l.i c.distance.result 0 w ∙ c.distance.ensures x (low + l.i) (record { energy = r.energy l.i k; correlation = kept c ∙ r.correlation l.i k })),
+          (get_or-set_same l.d l.i c.distance.result 0 w ∙ c.distance.ensures x (low + l.i) (record { energy = r.energy l.i k; correlation = kept {z = value_at c.args.h.now c.loop-i.i} (search rules) ∙ r.correlation l.i k })),
     )
 
 pub shape_of-d : goal.shape_of-d

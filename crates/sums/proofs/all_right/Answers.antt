@@ -1,9 +1,7 @@
 use mathlib.Core.Path.{refl, sym, ap, ◌∙◌}
-use mathlib.Core.Bool.{false}
-use Prim.Native.Nat.{◌-◌}
 use native.Mathlib.Omega.{arith}
 use borrow.Author.Count.{below_more}
-use borrow.Author.Rules.{sfits_of}
+use borrow.Author.Rules.{rules}
 use mir.Syntax.{w64}
 use mir.Val.{to_z, of_z}
 use mir.Facts.{to_z-of_z}
@@ -48,9 +46,9 @@ loop-i-preserved c =
           (record {
             energy = c.if-a-sum.false ∙ l.invariant.1;
             correlation =
-                sym (to_z-of_z {w = w64} {z = z} (sfits_of c.b-1.given))
+                sym (to_z-of_z {w = w64} {z = z} (search rules))
                 ∙ ap (to_z w64) c.if-b-c.false
-                ∙ to_z-of_z {w = w64} {z = r.result} (sfits_of r.type-inv)
+                ∙ to_z-of_z {w = w64} {z = r.result} (record { sfits = r.type_inv })
                 ∙ r.ensures;
           }),
     )

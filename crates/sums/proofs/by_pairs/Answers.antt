@@ -1,11 +1,11 @@
-use mathlib.Core.Path.{◌≡◌, refl, ap, ◌∙◌}
+use mathlib.Core.Path.{◌≡◌, ap, ◌∙◌}
 use mathlib.Core.List.{List}
-use Prim.Native.Nat.{ℕ, ◌+◌, ◌*◌, ◌-◌, ◌≤◌}
+use Prim.Native.Nat.{ℕ, ◌+◌, ◌*◌, ◌≤◌}
 use native.Mathlib.Omega.{arith}
-use borrow.Author.Rules.{sfits_of}
+use borrow.Author.Rules.{rules}
 use lib.IntN.{ℤ, pos, nat_abs, ◌+ℤ◌, ◌-ℤ◌, ◌*ℤ◌}
 use mir.Syntax.{w16, w32, w64}
-use mir.Val.{to_z, of_z}
+use mir.Val.{SFits, to_z, of_z}
 use mir.Facts.{to_z-of_z}
 use Rattle.whole.specs.Words.{Bits, arg≤, lit, num, loop, cast, cast_ok, add, add_ok, mul, mul_ok, is}
 use Rattle.whole.specs.Adding.{run-start, run, run_ok}
@@ -16,10 +16,10 @@ use Rattle.sums.proofs.by_pairs.Goals.{After-high_part-highs, After-loop-i, Afte
 use Rattle.sums.proofs.by_pairs.Goals as goal
 
 pub loop-i-init : goal.loop-i-init
-loop-i-init c = (run-start _ _ _ refl, run-start _ _ _ refl, omega arith)
+loop-i-init c = (run-start _ _, run-start _ _, omega arith)
 
 -- what a turn adds
-module _ (c : After-pair-p invariant-loop decreases-loop) where
+module _ (c : After-pair-p) where
   abbrev store : List ℤ
   store = c.args.s.now
 
@@ -38,56 +38,60 @@ module _ (c : After-pair-p invariant-loop decreases-loop) where
 
   term : to_z w32 (of_z w32 c.pair-p.result) ≡ paired (products store newer older) turn
   term =
-      to_z-of_z {w = w32} {z = c.pair-p.result} (sfits_of c.pair-p.type-inv)
+      let f1 : SFits w16 (value_at store (newer + 2 * turn)) = search rules in
+      let f2 : SFits w16 (value_at store (older + 2 * turn)) = search rules in
+      let f3 : SFits w16 (value_at store (newer + 2 * turn + 1)) = search rules in
+      let f4 : SFits w16 (value_at store (older + 2 * turn + 1)) = search rules in
+      to_z-of_z {w = w32} {z = c.pair-p.result} (record { sfits = c.pair-p.type_inv })
       ∙ c.pair-p.ensures.0
-      ∙ (λ j. to_z-of_z {w = w16} {z = value_at store (newer + 2 * turn)} (sfits_of c.pair-arg-1.given) j *ℤ to_z-of_z {w = w16} {z = value_at store (older + 2 * turn)} (sfits_of c.pair-arg-in-loop-i-1.given) j -ℤ pos 1
-      +ℤ to_z-of_z {w = w16} {z = value_at store (newer + 2 * turn + 1)} (sfits_of c.pair-arg-in-loop-i-2-1.given) j *ℤ to_z-of_z {w = w16} {z = value_at store (older + 2 * turn + 1)} (sfits_of c.pair-arg-in-loop-i-3-1.given) j)
+      ∙ (λ j. to_z-of_z {w = w16} {z = value_at store (newer + 2 * turn)} f1 j *ℤ to_z-of_z {w = w16} {z = value_at store (older + 2 * turn)} f2 j -ℤ pos 1
+      +ℤ to_z-of_z {w = w16} {z = value_at store (newer + 2 * turn + 1)} f3 j *ℤ to_z-of_z {w = w16} {z = value_at store (older + 2 * turn + 1)} f4 j)
       ∙ (λ j. products store newer older (2 * turn) -ℤ pos 1 +ℤ value_at store (on newer j) *ℤ value_at store (on older j))
 
-top : (c : After-high_part-highs invariant-loop decreases-loop) → Bits w32 32768 (of_z w32 c.high_part-highs.result) (high_of (paired (products (store c) (newer c) (older c)) (turn c)))
-top c = is (c.high_part-highs.ensures.0 ∙ ap high_of (term c)) (arg≤ c.high_part-highs.ensures.1 (sfits_of c.high_part-highs.type-inv))
+top : {h p x : ℤ} → h ≡ high_of p → p ≡ x → nat_abs h ≤ 32768 → SFits w32 h → Bits w32 32768 (of_z w32 h) (high_of x)
+top e t n f = is (e ∙ ap high_of t) (arg≤ n f)
 
-bottom : (c : After-low_part-lows invariant-loop decreases-loop) → Bits w32 65536 (of_z w32 c.low_part-lows.result) (low_of (paired (products (store c) (newer c) (older c)) (turn c)))
-bottom c = is (c.low_part-lows.ensures.0 ∙ ap low_of (term c)) (arg≤ c.low_part-lows.ensures.1 (sfits_of c.low_part-lows.type-inv))
+bottom : {l p x : ℤ} → l ≡ low_of p → p ≡ x → nat_abs l ≤ 65536 → SFits w32 l → Bits w32 65536 (of_z w32 l) (low_of x)
+bottom e t n f = is (e ∙ ap low_of t) (arg≤ n f)
 
 pub high_part-highs-requires : goal.high_part-highs-requires
-high_part-highs-requires c = rw (to_z-of_z {w = w32} {z = c.pair-p.result} (sfits_of c.pair-p.type-inv)) c.pair-p.ensures.1
+high_part-highs-requires c = rw (to_z-of_z {w = w32} {z = c.pair-p.result} (record { sfits = c.pair-p.type_inv })) c.pair-p.ensures.1
 
 pub overflow_add-highs : goal.overflow_add-highs
-overflow_add-highs c = run_ok 440 c.loop-i.invariant.0 (top c) (omega arith) tt
+overflow_add-highs c = run_ok 440 c.loop-i.invariant.0 (top c.high_part-highs.ensures.0 (term (goal.at.overflow_add-highs c).After-pair-p) c.high_part-highs.ensures.1 (record { sfits = c.high_part-highs.type_inv })) (omega arith) tt
 
 pub low_part-lows-requires : goal.low_part-lows-requires
-low_part-lows-requires c = rw (to_z-of_z {w = w32} {z = c.pair-p.result} (sfits_of c.pair-p.type-inv)) c.pair-p.ensures.1
+low_part-lows-requires c = rw (to_z-of_z {w = w32} {z = c.pair-p.result} (record { sfits = c.pair-p.type_inv })) c.pair-p.ensures.1
 
 pub overflow_add-lows : goal.overflow_add-lows
-overflow_add-lows c = run_ok 440 c.loop-i.invariant.1 (bottom c) (omega arith) tt
+overflow_add-lows c = run_ok 440 c.loop-i.invariant.1 (bottom c.low_part-lows.ensures.0 (term (goal.at.overflow_add-lows c).After-pair-p) c.low_part-lows.ensures.1 (record { sfits = c.low_part-lows.type_inv })) (omega arith) tt
 
 pub loop-i-preserved : goal.loop-i-preserved
 loop-i-preserved c =
     let l = c.loop-i in
-    (run 440 l.invariant.0 (top c) (omega arith) tt, run 440 l.invariant.1 (bottom c) (omega arith) tt, omega arith)
+    (run 440 l.invariant.0 (top c.high_part-highs.ensures.0 (term (goal.at.loop-i-preserved c).After-pair-p) c.high_part-highs.ensures.1 (record { sfits = c.high_part-highs.type_inv })) (omega arith) tt, run 440 l.invariant.1 (bottom c.low_part-lows.ensures.0 (term (goal.at.loop-i-preserved c).After-pair-p) c.low_part-lows.ensures.1 (record { sfits = c.low_part-lows.type_inv })) (omega arith) tt, omega arith)
 
 -- the sums at the end
-module _ (c : After-loop-i invariant-loop decreases-loop) where
+module _ (c : After-loop-i) where
   abbrev f : ℕ → ℤ
   f = products c.args.s.now c.args.to c.args.from
 
   abbrev turns : ℕ
   turns = c.loop-i.i
 
-  all-highs : Bits w32 (32768 * 440) c.loop-i.highs (sum (λ (k : ℕ). high_of (paired f k)) turns)
-  all-highs = loop w32 c.loop-i.highs (32768 * 440) c.loop-i.invariant.0.reads (omega (arith, c.loop-i.invariant.0.size))
+  all-highs : Bits w32 (32768 * 440) c.loop-i.highs-bits (sum (λ (k : ℕ). high_of (paired f k)) turns)
+  all-highs = loop w32 c.loop-i.highs-bits (32768 * 440) c.loop-i.invariant.0.reads (omega (arith, c.loop-i.invariant.0.size))
 
-  all-lows : Bits w32 (65536 * 440) c.loop-i.lows (sum (λ (k : ℕ). low_of (paired f k)) turns)
-  all-lows = loop w32 c.loop-i.lows (65536 * 440) c.loop-i.invariant.1.reads (omega (arith, c.loop-i.invariant.1.size))
+  all-lows : Bits w32 (65536 * 440) c.loop-i.lows-bits (sum (λ (k : ℕ). low_of (paired f k)) turns)
+  all-lows = loop w32 c.loop-i.lows-bits (65536 * 440) c.loop-i.invariant.1.reads (omega (arith, c.loop-i.invariant.1.size))
 
-  wide : Bits w64 (32768 * 440) (of_z w64 (to_z w32 c.loop-i.highs)) (sum (λ (k : ℕ). high_of (paired f k)) turns)
+  wide : Bits w64 (32768 * 440) (of_z w64 (to_z w32 c.loop-i.highs-bits)) (sum (λ (k : ℕ). high_of (paired f k)) turns)
   wide = cast all-highs tt
 
-  placed : Bits w64 (32768 * 440 * 65536) (of_z w64 (to_z w64 (of_z w64 (to_z w32 c.loop-i.highs)) *ℤ pos 65536)) (sum (λ (k : ℕ). high_of (paired f k)) turns *ℤ pos 65536)
+  placed : Bits w64 (32768 * 440 * 65536) (of_z w64 (to_z w64 (of_z w64 (to_z w32 c.loop-i.highs-bits)) *ℤ pos 65536)) (sum (λ (k : ℕ). high_of (paired f k)) turns *ℤ pos 65536)
   placed = mul wide (lit w64 65536) tt
 
-  both : Bits w64 (32768 * 440 * 65536 + 65536 * 440) (of_z w64 (to_z w64 (of_z w64 (to_z w64 (of_z w64 (to_z w32 c.loop-i.highs)) *ℤ pos 65536)) +ℤ to_z w64 (of_z w64 (to_z w32 c.loop-i.lows)))) (sum (λ (k : ℕ). high_of (paired f k)) turns *ℤ pos 65536 +ℤ sum (λ (k : ℕ). low_of (paired f k)) turns)
+  both : Bits w64 (32768 * 440 * 65536 + 65536 * 440) (of_z w64 (to_z w64 (of_z w64 (to_z w64 (of_z w64 (to_z w32 c.loop-i.highs-bits)) *ℤ pos 65536)) +ℤ to_z w64 (of_z w64 (to_z w32 c.loop-i.lows-bits)))) (sum (λ (k : ℕ). high_of (paired f k)) turns *ℤ pos 65536 +ℤ sum (λ (k : ℕ). low_of (paired f k)) turns)
   both = add placed (cast {w' = w64} all-lows tt) tt
 
   -- how many pairs there were

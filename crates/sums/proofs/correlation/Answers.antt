@@ -3,7 +3,7 @@ use mathlib.Core.Path.{◌≡◌, ap, ◌∙◌}
 use mathlib.Core.List.{List}
 use Prim.Native.Nat.{ℕ, suc, ◌+◌, ◌*◌, ◌-◌, ◌/◌, ◌^◌}
 use native.Mathlib.Omega.{arith}
-use borrow.Author.Rules.{sfits_of}
+use borrow.Author.Rules.{rules}
 use lib.IntN.{ℤ, ◌*ℤ◌}
 use mir.Syntax.{w16, w32, w64}
 use mir.Val.{of_z}
@@ -19,7 +19,7 @@ pub returns-then-pairs-lag : goal.returns-then-pairs-lag
 returns-then-pairs-lag c =
     let a = c.args in
     let all : 2 * (a.lag / 2) ≡ a.lag = omega arith in
-    to_z-of_z {w = w64} {z = c.by_pairs-sum.result} (sfits_of c.by_pairs-sum.type-inv)
+    to_z-of_z {w = w64} {z = c.by_pairs-sum.result} (record { sfits = c.by_pairs-sum.type_inv })
     ∙ c.by_pairs-sum.ensures.0
     ∙ ap (sum (products a.s.now (a.m - a.lag) (a.m - 2 * a.lag))) all
     ∙ oldest_products a.s.now a.m a.lag (omega arith) (omega arith)
@@ -41,7 +41,7 @@ module _ (c : After-product) where
   most : Bits w64 (2 ^ 40) (of_z w64 c.by_pairs-sum.result) (sum f (2 * (lag / 2)))
   most =
       is c.by_pairs-sum.ensures.0
-      (arg≤ c.by_pairs-sum.ensures.1 (sfits_of c.by_pairs-sum.type-inv))
+      (arg≤ c.by_pairs-sum.ensures.1 (record { sfits = c.by_pairs-sum.type_inv }))
 
   newer : m - 1 ≡ m - lag + 2 * (lag / 2)
   newer = omega arith
@@ -52,9 +52,9 @@ module _ (c : After-product) where
   last : Bits w32 (2 ^ 30) (of_z w32 c.product.result) (f (2 * (lag / 2)))
   last =
       is (c.product.ensures.0
-      ∙ (λ i. to_z-of_z {w = w16} {z = value_at store (m - 1)} (sfits_of c.product-arg-1.given) i *ℤ to_z-of_z {w = w16} {z = value_at store (m - lag - 1)} (sfits_of c.product-arg-2-1.given) i)
+      ∙ (λ i. to_z-of_z {w = w16} {z = value_at store (m - 1)} (search rules) i *ℤ to_z-of_z {w = w16} {z = value_at store (m - lag - 1)} (search rules) i)
       ∙ (λ i. value_at store (newer i) *ℤ value_at store (older i)))
-      (arg≤ c.product.ensures.1 (sfits_of c.product.type-inv))
+      (arg≤ c.product.ensures.1 (record { sfits = c.product.type_inv }))
 
 pub overflow_cast-result : goal.overflow_cast-result
 overflow_cast-result c = cast_ok (last (goal.at.overflow_cast-result c).After-product) tt

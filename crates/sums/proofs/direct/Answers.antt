@@ -1,6 +1,5 @@
 -- `sums::direct` meets its contract: E is the sum of squares of twice the lag, and both sums are ensured.
 use mathlib.Core.Path.{◌∙◌}
-use borrow.Author.Rules.{sfits_of}
 use mir.Syntax.{w64}
 use mir.Facts.{to_z-of_z}
 use Rattle.ages.specs.Ages.{ago}
@@ -12,5 +11,5 @@ returns c =
     let a = c.args in
     record {
       energy = c.energy-e.ensures ∙ E-squares (ago a.s.now a.m) a.lag;
-      correlation = to_z-of_z {w = w64} {z = c.correlation-h.result} (sfits_of c.correlation-h.type-inv) ∙ c.correlation-h.ensures;
+      correlation = to_z-of_z {w = w64} {z = c.correlation-h.result} (record { sfits = c.correlation-h.type_inv }) ∙ c.correlation-h.ensures;
     }

@@ -1,7 +1,7 @@
 use mathlib.Core.Path.{◌≡◌, sym, ap, ◌∙◌}
 use Prim.Native.Nat.{ℕ, ◌+◌, ◌-◌}
 use native.Mathlib.Omega.{arith}
-use borrow.Author.Rules.{sfits_of}
+use borrow.Author.Rules.{rules}
 use mir.Syntax.{w16}
 use mir.Facts.{to_z-of_z}
 use Rattle.whole.specs.Sums.{adds, fold-zero, fold_step}
@@ -19,7 +19,7 @@ loop-i-preserved c =
     let l = c.loop-i in
     let a = c.args in
     let e : c.square-sum.result ≡ sq (value_at a.s.now (a.m - a.count + l.i)) =
-    c.square-sum.ensures.0 ∙ ap sq (to_z-of_z {w = w16} {z = value_at a.s.now (a.m - a.count + l.i)} (sfits_of c.square-arg-1.given))
+    c.square-sum.ensures.0 ∙ ap sq (to_z-of_z {w = w16} {z = value_at a.s.now (a.m - a.count + l.i)} (search rules))
     in ((λ j. l.invariant.0 j + e j) ∙ sym (fold_step adds (λ (k : ℕ). sq (value_at a.s.now (a.m - a.count + k))) l.i), omega arith, omega arith)
 
 pub returns : goal.returns

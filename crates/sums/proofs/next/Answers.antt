@@ -2,7 +2,6 @@
 use mathlib.Core.Path.{◌≡◌, sym, ap, ◌∙◌}
 use Prim.Native.Nat.{suc, ◌+◌, ◌*◌, ◌^◌, ◌≤◌}
 use native.Mathlib.Omega.{arith}
-use borrow.Author.Rules.{sfits_of}
 use lib.IntN.{◌+ℤ◌, ◌-ℤ◌, ◌*ℤ◌}
 use mir.Syntax.{w16, w64}
 use mir.Val.{to_z, of_z}
@@ -21,10 +20,10 @@ newest : (c : Start) → to_z w16 (of_z w16 c.args.x) ≡ ago c.args.s.now c.arg
 newest c = to_z-of_z c.ranges.x ∙ c.requires.1
 
 middle : (c : After-back-y) → to_z w16 (of_z w16 c.back-y.result) ≡ ago c.args.s.now c.args.m c.args.lag
-middle c = to_z-of_z {w = w16} {z = c.back-y.result} (sfits_of c.back-y.type-inv) ∙ c.back-y.ensures
+middle c = to_z-of_z {w = w16} {z = c.back-y.result} (record { sfits = c.back-y.type_inv }) ∙ c.back-y.ensures
 
 oldest : (c : After-back-z) → to_z w16 (of_z w16 c.back-z.result) ≡ ago c.args.s.now c.args.m (2 * c.args.lag)
-oldest c = to_z-of_z {w = w16} {z = c.back-z.result} (sfits_of c.back-z.type-inv) ∙ c.back-z.ensures
+oldest c = to_z-of_z {w = w16} {z = c.back-z.result} (record { sfits = c.back-z.type_inv }) ∙ c.back-z.ensures
 
 -- the sums before them
 small : (c : Start) → c.args.t.e ≤ 2 ^ 41
@@ -61,7 +60,7 @@ returns c =
     record {
       energy = omega (arith, slides (goal.at.returns c).After-square-2);
       correlation =
-          to_z-of_z {w = w64} {z = c.turned-h.result} (sfits_of c.turned-h.type-inv)
+          to_z-of_z {w = w64} {z = c.turned-h.result} (record { sfits = c.turned-h.type_inv })
           ∙ c.turned-h.ensures
           ∙ (λ i. ((held (goal.at.returns c).Start).reads ∙ s.requires.2.correlation) i +ℤ x i *ℤ y i -ℤ y i *ℤ z i)
           ∙ sym (H-next (ago s.args.s.now s.args.m) s.args.lag);

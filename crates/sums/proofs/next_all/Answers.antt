@@ -1,7 +1,6 @@
 use mathlib.Core.Path.{◌∙◌}
-use Prim.Native.Nat.{suc, ◌-◌}
+use Prim.Native.Nat.{suc}
 use native.Mathlib.Omega.{arith}
-use borrow.Author.Rules.{sfits_of}
 use mir.Syntax.{w16}
 use mir.Facts.{to_z-of_z}
 use Rattle.ages.specs.Ages.{ago-fits}
@@ -18,7 +17,7 @@ next-t-requires c =
     let b = c.back-x in
     let room = room_at s.requires.0 l.i (omega arith) in (
       room,
-      to_z-of_z {w = w16} {z = b.result} (sfits_of b.type-inv) ∙ b.ensures,
+      to_z-of_z {w = w16} {z = b.result} (record { sfits = b.type_inv }) ∙ b.ensures,
       stored (λ k. ago-fits room.samples s.args.m (suc k)) (omega (arith, room.upto)) (sweep-left l.invariant.1 (right-each s.requires.1 l.i (omega arith))),
     )
 

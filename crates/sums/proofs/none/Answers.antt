@@ -1,8 +1,7 @@
 use mathlib.Core.Path.{sym, ap, ◌∙◌}
-use Prim.Native.Nat.{◌-◌}
 use native.Mathlib.Omega.{arith}
 use borrow.Author.Count.{below_more}
-use borrow.Author.Rules.{sfits_of}
+use borrow.Author.Rules.{rules}
 use mir.Syntax.{w64}
 use mir.Val.{to_z, of_z}
 use mir.Facts.{to_z-of_z}
@@ -23,7 +22,7 @@ pub loop-i-preserved : goal.loop-i-preserved
 loop-i-preserved c =
     let l = c.loop-i in
     let z = value_at c.args.h.now l.i in
-    (omega arith, below_more _ l.i l.invariant.1 (c.if-e-i-ne0.false, sym (to_z-of_z {w = w64} {z = z} (sfits_of c.t10-1.given)) ∙ ap (to_z w64) c.if-h-i-ne0.false))
+    (omega arith, below_more _ l.i l.invariant.1 (c.if-e-i-ne0.false, sym (to_z-of_z {w = w64} {z = z} (search rules)) ∙ ap (to_z w64) c.if-h-i-ne0.false))
 
 pub returns : goal.returns
 returns c = granted (λ j l. c.loop-i.invariant.1 j (omega arith))

@@ -2,7 +2,6 @@
 use mathlib.Core.Path.{◌≡◌, ap, ◌∙◌}
 use Prim.Native.Nat.{◌+◌, ◌*◌, ◌^◌, ◌≤◌}
 use native.Mathlib.Omega.{arith}
-use borrow.Author.Rules.{sfits_of}
 use mir.Syntax.{w16}
 use mir.Facts.{to_z-of_z}
 use Rattle.rules.specs.Rules.{sq}
@@ -26,9 +25,9 @@ pub returns : goal.returns
 returns c =
     let a = c.args in
     let y : c.square.result ≡ sq (ago a.s.now a.m (2 * a.lag)) =
-    c.square.ensures.0 ∙ ap sq (to_z-of_z {w = w16} {z = c.back-y.result} (sfits_of c.back-y.type-inv) ∙ c.back-y.ensures)
+    c.square.ensures.0 ∙ ap sq (to_z-of_z {w = w16} {z = c.back-y.result} (record { sfits = c.back-y.type_inv }) ∙ c.back-y.ensures)
     in
     let z : c.square-2.result ≡ sq (ago a.s.now a.m (2 * a.lag + 1)) =
-    c.square-2.ensures.0 ∙ ap sq (to_z-of_z {w = w16} {z = c.back-z.result} (sfits_of c.back-z.type-inv) ∙ c.back-z.ensures)
+    c.square-2.ensures.0 ∙ ap sq (to_z-of_z {w = w16} {z = c.back-z.result} (record { sfits = c.back-z.type_inv }) ∙ c.back-z.ensures)
     in
     omega (arith, c.requires.1, E-shift (ago a.s.now a.m) a.lag)

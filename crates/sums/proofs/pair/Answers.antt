@@ -2,7 +2,6 @@
 use mathlib.Core.Path.{ap, ◌∙◌}
 use Prim.Native.Nat.{◌-◌, ◌^◌}
 use native.Mathlib.Omega.{arith}
-use borrow.Author.Rules.{sfits_of}
 use lib.IntN.{pos, nat_abs, ◌-ℤ◌, ◌*ℤ◌}
 use mir.Syntax.{w32}
 use mir.Val.{of_z}
@@ -16,10 +15,10 @@ module _ (c : After-product) where
   one : Bits w32 (2 ^ 30 - 1) (of_z w32 c.product_less.result) (c.args.a *ℤ c.args.b -ℤ pos 1)
   one =
       is (c.product_less.ensures.0 ∙ (λ i. to_z-of_z c.ranges.a i *ℤ to_z-of_z c.ranges.b i -ℤ pos 1))
-      (arg≤ (omega (arith, c.product_less.ensures.1)) (sfits_of c.product_less.type-inv))
+      (arg≤ (omega (arith, c.product_less.ensures.1)) (record { sfits = c.product_less.type_inv }))
 
   other : Bits w32 (2 ^ 30) (of_z w32 c.product.result) (c.args.c *ℤ c.args.d)
-  other = is (c.product.ensures.0 ∙ (λ i. to_z-of_z c.ranges.c i *ℤ to_z-of_z c.ranges.d i)) (arg≤ c.product.ensures.1 (sfits_of c.product.type-inv))
+  other = is (c.product.ensures.0 ∙ (λ i. to_z-of_z c.ranges.c i *ℤ to_z-of_z c.ranges.d i)) (arg≤ c.product.ensures.1 (record { sfits = c.product.type_inv }))
 
 pub overflow_add-result : goal.overflow_add-result
 overflow_add-result c = add_ok (one (goal.at.overflow_add-result c).After-product) (other (goal.at.overflow_add-result c).After-product) tt

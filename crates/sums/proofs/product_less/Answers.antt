@@ -2,7 +2,6 @@
 use mathlib.Core.Path.{◌≡◌, ap, ◌∙◌}
 use Prim.Native.Nat.{◌-◌, ◌^◌}
 use native.Mathlib.Omega.{arith}
-use borrow.Author.Rules.{sfits_of}
 use lib.IntN.{ℤ, pos, nat_abs, ◌-ℤ◌, ◌*ℤ◌}
 use mir.Syntax.{w32}
 use mir.Val.{to_z, of_z}
@@ -24,12 +23,12 @@ module _ (c : After-product) where
   small = record { within = omega (arith, less_small x y c.ranges.x c.ranges.y) }
 
   less : to_z w32 (of_z w32 c.product.result) -ℤ pos 1 ≡ x *ℤ y -ℤ pos 1
-  less = ap (λ (z : ℤ). z -ℤ pos 1) (to_z-of_z {w = w32} {z = c.product.result} (sfits_of c.product.type-inv) ∙ c.product.ensures.0 ∙ (λ i. to_z-of_z c.ranges.x i *ℤ to_z-of_z c.ranges.y i))
+  less = ap (λ (z : ℤ). z -ℤ pos 1) (to_z-of_z {w = w32} {z = c.product.result} (record { sfits = c.product.type_inv }) ∙ c.product.ensures.0 ∙ (λ i. to_z-of_z c.ranges.x i *ℤ to_z-of_z c.ranges.y i))
 
 pub overflow_sub-result : goal.overflow_sub-result
 overflow_sub-result c = ok_of (less (goal.at.overflow_sub-result c).After-product) (fit (small (goal.at.overflow_sub-result c).After-product) tt)
 
 pub returns : goal.returns
 returns c =
-    let e = (kept_of_lem (less (goal.at.returns c).After-product) (fit (small (goal.at.returns c).After-product) tt) (small (goal.at.returns c).After-product)).reads in
+    let e = (kept_of_lem {w = w32} (less (goal.at.returns c).After-product) (fit (small (goal.at.returns c).After-product) tt) (small (goal.at.returns c).After-product)).reads in
     (e, omega (arith, ap nat_abs e, (small (goal.at.returns c).After-product).within))
