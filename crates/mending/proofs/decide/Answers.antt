@@ -2,7 +2,7 @@
 use mathlib.Core.Path.{◌≡◌, sym, ap, ◌∙◌}
 use mathlib.Core.Bool.{Bool, cond, ◌||◌}
 use Prim.Native.Nat.{◌+◌}
-use borrow.Author.Tests.{le-leb, lt-leb, leb-true, not-true, not-false}
+use borrow.Author.Tests.{le-leb, lt-leb, leb-true}
 use lib.Dec.{leb, eqb}
 use Rattle.whole.specs.Tests.{cond_yes, cond_no, and_right}
 use Rattle.wave.specs.Judged.{no_fmt_found}

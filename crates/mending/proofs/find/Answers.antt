@@ -2,7 +2,6 @@
 use mathlib.Core.Path.{◌≡◌, sym, ◌∙◌}
 use mathlib.Core.Bool.{true}
 use native.Mathlib.Omega.{arith}
-use borrow.Author.Tests.{not-true, not-false}
 use Rattle.wave.specs.Waves.{is_wave}
 use Rattle.wave.specs.Judging.{wave-long}
 use Rattle.mending.specs.Deciding.{not_wave, decided-is}
