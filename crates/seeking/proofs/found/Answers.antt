@@ -2,7 +2,7 @@
 use mathlib.Core.Path.{◌≡◌, sym, ap, ◌∙◌}
 use Prim.Native.Nat.{◌+◌, ◌/◌}
 use native.Mathlib.Omega.{arith}
-use borrow.Author.Tests.{not-true, not-false, leb-true}
+use borrow.Author.Tests.{leb-true}
 use lib.Dec.{leb}
 use Rattle.whole.specs.Tests.{and_right}
 use Rattle.riff.specs.declared.Found.{Found}
@@ -16,11 +16,11 @@ pub returns-then-number-ne0 : goal.returns-then-number-ne0
 returns-then-number-ne0 c =
     let q = c in
     let s = q.args.s in
-    c.no_take.ensures ∙ ap no_take q.number_of.ensures ∙ sym (found-refused s (λ z. c.if-number-ne0.true (q.number_of.ensures ∙ z)))
+    c.no_take.ensures ∙ ap no_take q.number_of-number.ensures ∙ sym (found-refused s (λ z. c.if-number-ne0.true (q.number_of-number.ensures ∙ z)))
 
 -- no refusal, and whether the data chunk lies in the file
 taken : (c : After-is_reached) → number_of c.args.s ≡ 0
-taken c = sym c.number_of.ensures ∙ c.if-number-ne0.false
+taken c = sym c.number_of-number.ensures ∙ c.if-number-ne0.false
 
 lies : (c : After-is_reached) → let s = c.args.s in c.is_reached.result ≡ reached (found_by s.data) s.length
 lies c = c.is_reached.ensures ∙ ap (λ (f : Found). reached f c.args.s.length) c.found_by-data.ensures

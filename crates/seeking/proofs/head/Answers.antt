@@ -1,7 +1,6 @@
 -- `seeking::head` meets its contract: the test is the definition's, and the RIFF size is read at its place.
 use mathlib.Core.Path.{sym, ◌∙◌}
 use native.Mathlib.Omega.{arith}
-use borrow.Author.Tests.{not-true, not-false}
 use Rattle.wave.specs.Judging.{wave-long}
 use Rattle.seeking.specs.Seeks.{seek_of, walked_on}
 use Rattle.seeking.specs.Asking.{headed-none, headed-wave}

@@ -19,7 +19,7 @@ tested : (c : After-goes_on) →
 tested c =
     let e = c in
     let s = e.args.s in
-    let g = c.goes_on.ensures ∙ (λ i. leb ((e.walk_of-w.ensures i).at + 8) (e.end_of.ensures.0 i)) in
+    let g = c.goes_on.ensures ∙ (λ i. leb ((e.walk_of-w.ensures i).at + 8) (e.end_of-end.ensures.0 i)) in
     ap (λ (t : Bool). leb (2 ^ 63) s.length || not t) (sym g)
 
 pub returns-then-s-goes_on : goal.returns-then-s-goes_on
@@ -31,7 +31,7 @@ step-next-requires c =
     let g = q in
     let a = g.args in
     let n = neither (leb (2 ^ 63) a.s.length) (not g.goes_on.result) q.if-s-goes_on.false in
-    (leb-true _ _ (sym g.goes_on.ensures ∙ not-false _ n.1), omega (arith, g.end_of.ensures.1, leb-false (2 ^ 63) a.s.length n.0))
+    (leb-true _ _ (sym g.goes_on.ensures ∙ not-false _ n.1), omega (arith, g.end_of-end.ensures.1, leb-false (2 ^ 63) a.s.length n.0))
 
 pub returns : goal.returns
 returns c =
@@ -44,5 +44,5 @@ returns c =
     c.walked_on.ensures
     ∙ ap (walked_on a.s.length a.s.mends a.s.riff)
     (c.step-next.ensures
-    ∙ (λ i. stepped (e.end_of.ensures.0 i) (w i) (record { at = (w i).at; name = fours.four.ensures i; size = fours.four-2.ensures i })))
+    ∙ (λ i. stepped (e.end_of-end.ensures.0 i) (w i) (record { at = (w i).at; name = fours.four.ensures i; size = fours.four-2.ensures i })))
     ∙ sym (stepped-on a.s a.bytes.now (tested (goal.at.returns c).After-goes_on ∙ q.if-s-goes_on.false))
