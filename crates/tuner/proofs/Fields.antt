@@ -1,9 +1,9 @@
 -- What the types of numbers and of a tuner say of their arrays. A proof of a function with the numbers n as its first parameter cites `voices-long c.args.n _ c.good.0`, with c its `Start`.
 -- Assumes nothing.
-use mathlib.Core.Path.{◌≡◌, sym, ◌∙◌}
+use mathlib.Core.Path.{◌≡◌}
 use mathlib.Core.List.{List}
 use borrow.Author.Rules.{length_unmapped}
-use lib.ListN.{length, length-map}
+use lib.ListN.{length}
 use mir.Val.{Val}
 use denote.Laws.{Is}
 use Rattle.record.proofs.Fields.{field-samples}
@@ -11,12 +11,11 @@ use Rattle.record.specs.Parts.{Stores}
 use Rattle.tuner.specs.declared.Numbers.{Numbers}
 use Rattle.tuner.specs.declared.Tuner.{Tuner}
 use Rattle.tuner.specs.Tuners.{heard_by}
-use Rattle.tuner.specs.contracts.Voice.{the_field}
 use Rattle.tuner.specs.contracts.Numbers as numbers
 use Rattle.tuner.specs.contracts.Tuner.{the_row}
 
 pub voices-long : (n : Numbers) (vs : List Val) → Is numbers.the_row n vs → length n.voices ≡ 3
-voices-long n vs p = sym (length-map n.voices the_field.into) ∙ p.1.1.1.1.1.1.1.1.1.1.1.1.1.0.1.0.1
+voices-long n vs p = p.1.1.1.1.1.1.1.1.1.1.1.1.1.0.1.0.1
 
 pub stores : (t : Tuner) (vs : List Val) → Is the_row t vs → Stores (heard_by t)
 stores t vs p =

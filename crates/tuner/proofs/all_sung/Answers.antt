@@ -9,12 +9,7 @@ use Rattle.tuner.specs.declared.Voice.{Voice}
 use Rattle.tuner.specs.Tuners.{VoiceIn}
 use Rattle.tuner.specs.Following.{SangBeside, SungTo}
 use Rattle.tuner.specs.Voices.{rest_more, sung-none, sang-long, sung-more}
-use Rattle.tuner.proofs.all_sung.Goals.{Start}
 use Rattle.tuner.proofs.all_sung.Goals as goal
-
--- there are three
-voices-here : (s : Start invariant-loop decreases-loop) → length s.args.vs ≡ 3
-voices-here s = search rules
 
 pub loop-j-init : goal.loop-j-init
 loop-j-init c = (omega arith, refl, λ k h. refl, λ go out g. sung-none c.args.vs c.args.outs.now go out)
@@ -72,8 +67,9 @@ loop-j-preserved c =
     let j = l.loop-j.j in
     let v = l.loop-j.invariant in
     let t : j < a.chosen = omega arith in
+    let three : length a.vs ≡ 3 = search rules in
     let d = c.sung in
-    let o = d.new.1.1.1.1.1.1.0 in
+    let o = d.new.out in
     let from = 512 * (j + 1) in
     let sang = subst (λ (w : Voice). SangBeside a.hertz a.periods.now a.notes.now a.s.now a.b w d.result o) (v.2 j (omega arith)) d.ensures in
     let long = sang-long p.4 sang in
@@ -83,7 +79,7 @@ loop-j-preserved c =
       length-append (take from l.loop-j.outs) (o ++ rest)
           ∙ omega (arith, length-take-le from l.loop-j.outs (omega (arith, fits)), length-append o rest, length-drop (from + 512 - from) (drop from l.loop-j.outs), length-drop from l.loop-j.outs, long, fits, v.1),
       rest_more a.vs l.loop-j.r d.result j v.2,
-      sung-more j l.loop-j.outs o from (from + 512 - from) (omega arith) (omega arith) t (omega (arith, voices-here l, p.0.few, t)) fits long v.3 sang,
+      sung-more j l.loop-j.outs o from (from + 512 - from) (omega arith) (omega arith) t (omega (arith, three, p.0.few, t)) fits long v.3 sang,
     )
 
 pub shape_of-outs : goal.shape_of-outs
@@ -94,4 +90,4 @@ returns c =
     let l = c in
     let a = l.args in
     let e : l.loop-j.j ≡ a.chosen = omega (arith, l.loop-j.invariant.0) in
-    (λ go out g. subst (λ (n : ℕ). SungTo n a.vs a.outs.now go out l.loop-j.r l.loop-j.outs) e (l.loop-j.invariant.3 go out g), l.loop-j.invariant.1 ∙ l.requires.5)
+    record { sung = λ go out g. subst (λ (n : ℕ). SungTo n a.vs a.outs.now go out l.loop-j.r l.loop-j.outs) e (l.loop-j.invariant.3 go out g); long = l.loop-j.invariant.1 ∙ l.requires.5 }

@@ -1,6 +1,5 @@
 -- `tuner::begin_number` meets its contract: the tests in their order.
 use mathlib.Core.Path.{sym, ◌∙◌}
-use borrow.Author.Tests.{not-true, not-false}
 use Rattle.tuner.specs.Starts.{number_own, number_17, number-on}
 use Rattle.tuner.proofs.begin_number.Goals as goal
 
@@ -9,14 +8,11 @@ returns-then-number-ne0 c = let a = c.args in let e = c.start_number-number.ensu
 
 pub returns-then-not-store_fits : goal.returns-then-not-store_fits
 returns-then-not-store_fits c =
-    let e = c in
-    let a = e.args in
-    sym (number_17 a.hertz a.s a.listed a.intervals.now a.numbers (sym e.start_number-number.ensures ∙ e.if-number-ne0.false) (sym c.store_fits.ensures ∙ not-true _ c.if-not-store_fits.true))
+    let a = c.args in
+    sym (number_17 a.hertz a.s a.listed a.intervals.now a.numbers (sym c.start_number-number.ensures ∙ c.if-number-ne0.false) (sym c.store_fits.ensures ∙ c.if-not-store_fits.true))
 
 pub returns : goal.returns
 returns c =
-    let f = c in
-    let e = f in
-    let a = e.args in
+    let a = c.args in
     c.intervals_number.ensures
-    ∙ sym (number-on a.hertz a.s a.listed a.intervals.now a.numbers (sym e.start_number-number.ensures ∙ e.if-number-ne0.false) (sym f.store_fits.ensures ∙ not-false _ f.if-not-store_fits.false))
+    ∙ sym (number-on a.hertz a.s a.listed a.intervals.now a.numbers (sym c.start_number-number.ensures ∙ c.if-number-ne0.false) (sym c.store_fits.ensures ∙ c.if-not-store_fits.false))

@@ -11,9 +11,7 @@ use Rattle.tuner.proofs.begun_again.Goals as goal
 pub returns : goal.returns
 unfolding begun_again
 returns c =
-    let b = c in
-    let s = b in
-    let n = s.args.t1 in
+    let n = c.args.n in
     c.fresh_numbers.ensures
-    ∙ (λ i. fresh_numbers n.hertz n.settings n.listed n.chosen (b.level-first.ensures i ∷ b.level-second.ensures i ∷ b.level-third.ensures i ∷ []))
-    ∙ ap (fresh_numbers n.hertz n.settings n.listed n.chosen) (sym (three (λ (v : Voice). level_voice v.interval) n.voices (voices-long n _ s.well-formed.0)))
+    ∙ (λ i. fresh_numbers n.hertz n.settings n.listed n.chosen (c.level-first.ensures i ∷ c.level-second.ensures i ∷ c.level-third.ensures i ∷ []))
+    ∙ ap (fresh_numbers n.hertz n.settings n.listed n.chosen) (sym (three (λ (v : Voice). level_voice v.interval) n.voices (voices-long n _ c.well_formed.0)))

@@ -13,8 +13,7 @@ give-requires c = let p = c.requires in let q = p.2 c.if-verdict-le1.true in (p.
 
 pub returns-then-verdict-le1 : goal.returns-then-verdict-le1
 returns-then-verdict-le1 c =
-    let t = c in
-    ((refl, t.answer_by-answer.ensures), c.give.ensures ∙ sym (cond_yes _ _ (le-leb _ 1 t.if-verdict-le1.true)))
+    record { answer = (refl, c.answer_by-answer.ensures); outs = c.give.ensures ∙ sym (cond_yes _ _ (le-leb _ 1 c.if-verdict-le1.true)) }
 
 pub returns-else-verdict-le1 : goal.returns-else-verdict-le1
-returns-else-verdict-le1 c = ((refl, c.answer_by-answer.ensures), sym (cond_no _ _ (lt-leb _ 1 c.if-verdict-le1.false)))
+returns-else-verdict-le1 c = record { answer = (refl, c.answer_by-answer.ensures); outs = sym (cond_no _ _ (lt-leb _ 1 c.if-verdict-le1.false)) }

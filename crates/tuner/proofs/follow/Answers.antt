@@ -28,7 +28,7 @@ all_sung-beside-requires c =
     let s = c in
     let p = s.requires in
     let d = c.led-g in
-    let o = d.new.1.1.1.1.1.0 in
+    let o = d.new.out in
     (p.voices, p.hertz, p.tracked, p.stored, p.few, length-append o (drop 512 s.args.outs.now) ∙ omega (arith, glided-long p.few d.ensures, length-drop 512 s.args.outs.now, p.places))
 
 pub listed-goes_on-requires : goal.listed-goes_on-requires
@@ -39,7 +39,7 @@ listed-goes_on-requires c =
     (p.few, p.long.notes, p.long.periods, p.count, p.list, omega (arith, c.count_of.ensures, counted-within 0 a.periods.now a.b))
 
 pub shape_of-outs : goal.shape_of-outs
-shape_of-outs c = c.all_sung-beside.ensures.1 ∙ sym c.requires.places
+shape_of-outs c = c.all_sung-beside.ensures.long ∙ sym c.requires.places
 
 pub returns : goal.returns
 returns c =
@@ -51,17 +51,18 @@ returns c =
     let on = c.listed-goes_on in
     let w = c.settled-r in
     let many = c.count_of in
-    let pitched : a.b - many.result ≡ pitched_in (take a.b a.periods.now) = omega (arith, many.ensures, pitched-counted a.periods.now a.b (omega (arith, p.few, p.long.periods))) in (
-      record {
+    let pitched : a.b - many.result ≡ pitched_in (take a.b a.periods.now) = omega (arith, many.ensures, pitched-counted a.periods.now a.b (omega (arith, p.few, p.long.periods))) in
+    record {
+      followed = record {
         lead = d.result;
-        out = d.new.1.1.1.1.1.0;
+        out = d.new.out;
         glided = d.ensures;
         pitch = w.ensures;
         numbers =
             λ i. numbers_with a.n a.q.count w.result d.result.behind
             (record { number = a.number; length = a.b; repeated = d.result.repeated; dropped = d.result.dropped; pitched = pitched i; strayed = c.strayed.ensures i }) on.result sang.result;
         list = on.ensures;
-        voices = sang.ensures.0;
-      },
-      sang.ensures.1,
-    )
+        voices = sang.ensures.sung;
+      };
+      long = sang.ensures.long;
+    }

@@ -7,15 +7,11 @@ use Rattle.tuner.specs.declared.Tuner.{Tuner}
 use Rattle.tuner.specs.Parted.{tuner_of}
 use Rattle.rules.proofs.Table.{rate-upto}
 use Rattle.tuner.specs.Tuners.{Good, record_out_of_range, read}
-use Rattle.tuner.proofs.meter_lent.Goals.{Else-not-right, Start}
+use Rattle.tuner.proofs.meter_lent.Goals.{Else-not-right}
 use Rattle.tuner.proofs.meter_lent.Goals as goal
 
--- the tuner, whatever outputs it keeps
-abbrev tuner : Start → List ℤ → Tuner
-tuner s outs = let a = s.args in tuner_of a.n a.energies.now a.correlations.now a.heard.now a.eighths.now outs
-
--- the record is good
-good-here : (c : Else-not-right) (outs : List ℤ) → Good (tuner c outs)
+-- the record is good, whatever outputs it keeps
+good-here : (c : Else-not-right) (outs : List ℤ) → let a = c.args in Good (tuner_of a.n a.energies.now a.correlations.now a.heard.now a.eighths.now outs)
 good-here c outs = (c.right.ensures outs).yes c.if-not-right.false
 
 pub returns-then-not-right : goal.returns-then-not-right

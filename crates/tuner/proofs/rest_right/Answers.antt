@@ -1,6 +1,6 @@
 -- `tuner::rest_right` meets its contract: test by test.
 use native.Mathlib.Omega.{arith}
-use Rattle.whole.specs.Tests.{refused, passed, decides_as}
+use Rattle.whole.specs.Tests.{refused, decides_as}
 use Rattle.tuner.proofs.rest_right.Goals as goal
 
 pub returns-then-n-ne-LAYOUT : goal.returns-then-n-ne-LAYOUT
@@ -14,5 +14,4 @@ returns-then-not-right c = refused (λ p. c.right.ensures.no c.if-not-right.true
 
 pub returns : goal.returns
 returns c =
-    let l = c in
-    decides_as c.voices_right.ensures (λ v. (l.if-n-ne-LAYOUT.false, omega arith, passed l.right.ensures l.if-not-right.false, v)) (λ p. p.3)
+    decides_as c.voices_right.ensures (λ v. (c.if-n-ne-LAYOUT.false, omega arith, c.right.ensures.yes c.if-not-right.false, v)) (λ p. p.3)

@@ -1,6 +1,6 @@
 -- `tuner::right` meets its contract: what the lead does not test, and then the lead.
 use mathlib.Core.Path.{refl}
-use Rattle.whole.specs.Tests.{refused, passed, decides_as}
+use Rattle.whole.specs.Tests.{refused, decides_as}
 use Rattle.tuner.specs.Tuners.{tested_last}
 use Rattle.tuner.proofs.right.Goals as goal
 
@@ -9,6 +9,5 @@ returns-then-not-rest_right c = λ outs. refused (λ g. c.rest_right.ensures.no 
 
 pub returns : goal.returns
 returns c =
-    let e = c in
-    let p = passed e.rest_right.ensures e.if-not-rest_right.false in
-    λ outs. decides_as (c.All-right.ensures (tested_last e.args.n.last) refl) (λ l. record { layout = p.0; lead = l; listed = p.1; list = p.2; voices = p.3 }) (λ g. g.lead)
+    let p = c.rest_right.ensures.yes c.if-not-rest_right.false in
+    λ outs. decides_as (c.all_right.ensures (tested_last c.args.n.last) refl) (λ l. record { layout = p.0; lead = l; listed = p.1; list = p.2; voices = p.3 }) (λ g. g.lead)

@@ -14,14 +14,12 @@ begun-n-requires c = let a = c.args in λ e. number-few a.hertz a.s a.listed a.i
 
 pub returns : goal.returns
 returns c =
-    let b = c in
-    let n = b in
-    let a = n.args in
+    let a = c.args in
     record {
-      number = n.begin_number-number.ensures;
+      number = c.begin_number-number.ensures;
       tuner =
           c.silent.ensures
-          ∙ by (eqb n.begin_number-number.result 0)
-          (λ e. b.begun-n.ensures.0 (eqb-true n.begin_number-number.result 0 e) ∙ sym (cond_yes _ default_tuner e))
-          (λ e. b.begun-n.ensures.1 (omega (arith, eqb-false n.begin_number-number.result 0 e)) ∙ sym (cond_no (fresh_tuner a.hertz a.s (kept_list a.listed) a.intervals.now) _ e));
+          ∙ by (eqb c.begin_number-number.result 0)
+          (λ e. c.begun-n.ensures.fresh (eqb-true c.begin_number-number.result 0 e) ∙ sym (cond_yes _ default_tuner e))
+          (λ e. c.begun-n.ensures.default (omega (arith, eqb-false c.begin_number-number.result 0 e)) ∙ sym (cond_no (fresh_tuner a.hertz a.s (kept_list a.listed) a.intervals.now) _ e));
     }

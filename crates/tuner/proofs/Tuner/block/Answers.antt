@@ -3,4 +3,4 @@ use Rattle.tuner.proofs.Fields.{stores, outs-long}
 use Rattle.tuner.proofs.Tuner.block.Goals as goal
 
 pub block_lent-d-requires : goal.block_lent-d-requires
-block_lent-d-requires c = let s = c in (stores s.args.self _ s.well-formed.0, outs-long s.args.self _ s.well-formed.0)
+block_lent-d-requires c = (stores c.args.self _ c.well_formed.0, outs-long c.args.self _ c.well_formed.0)

@@ -6,7 +6,7 @@ use Rattle.tuner.proofs.Fields.{stores}
 use Rattle.tuner.proofs.Tuner.change.Goals as goal
 
 pub change_lent-d-requires : goal.change_lent-d-requires
-change_lent-d-requires c = let s = c in stores s.args.self _ s.well-formed.0
+change_lent-d-requires c = stores c.args.self _ c.well_formed.0
 
 pub returns : goal.returns
 returns c =

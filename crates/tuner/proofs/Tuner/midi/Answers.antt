@@ -6,7 +6,7 @@ use Rattle.tuner.proofs.Fields.{stores}
 use Rattle.tuner.proofs.Tuner.midi.Goals as goal
 
 pub midi_lent-d-requires : goal.midi_lent-d-requires
-midi_lent-d-requires c = let s = c in stores s.args.self _ s.well-formed.0
+midi_lent-d-requires c = stores c.args.self _ c.well_formed.0
 
 pub returns : goal.returns
 returns c =

@@ -5,7 +5,7 @@ use Rattle.tuner.specs.Starts.{judged_not, judged-taken}
 use Rattle.tuner.proofs.Tuner.reset.Goals as goal
 
 pub returns-then-number-ne0 : goal.returns-then-number-ne0
-returns-then-number-ne0 c = judged_not c.good2.ensures c.reset_number-number.ensures c.if-number-ne0.true
+returns-then-number-ne0 c = judged_not c.good.ensures c.reset_number-number.ensures c.if-number-ne0.true
 
 pub returns : goal.returns
-returns c = let e = c in judged-taken e.good2.ensures e.reset_number-number.ensures e.if-number-ne0.false (c.silent.ensures ∙ ap silent_tuner c.begun_again.ensures)
+returns c = let e = c in judged-taken e.good.ensures e.reset_number-number.ensures e.if-number-ne0.false (c.silent.ensures ∙ ap silent_tuner c.begun_again.ensures)
