@@ -1,5 +1,5 @@
 -- Laws of refusals: the number answered is that of the first test that holds, and 0 says that none does.
-use Rattle.std.specs.Prelude.{◌≡◌, refl, ◌⊎◌, Bool, true, false, ◌&&◌, List, [], ◌∷◌, ◌++◌, ℕ, suc, ◌<◌, ltb}
+use Rattle.std.specs.Prelude.{◌≡◌, refl, Bool, true, false, ◌&&◌, List, [], ◌∷◌, ◌++◌, ℕ, suc, ◌<◌, ltb}
 use Rattle.std.proofs.Common.{inl, inr, ⊎_elim, arith, ltb-true}
 use Rattle.riff.specs.Riff.{refused_by, Applies, Least, none_applies, least}
 use Rattle.whole.specs.Tests.{by, yes_and_no, and_left, and_right}
