@@ -4,7 +4,6 @@ use mathlib.Core.Bool.{false, ◌&&◌, and-false}
 use mathlib.Core.List.{List}
 use Prim.Native.Nat.{ℕ, ◌+◌, ◌-◌, ◌*◌, ◌^◌, ◌<◌}
 use native.Mathlib.Omega.{arith}
-use borrow.Author.Rules.{sfits_of}
 use borrow.Author.Tests.{lt-ltb, le-ltb}
 use lib.Dec.{T, ltb}
 use lib.IntN.{ℤ, pos, nat_abs, ◌+ℤ◌}
@@ -63,7 +62,7 @@ module _ (c : After-vertex-v) where
   at-best = num {n = 2 ^ 18} {z = pos base} (omega (arith, c.requires.0.inside)) tt
 
   beside : Bits w64 128 (of_z w64 c.vertex-v.result) c.vertex-v.result
-  beside = arg≤ c.vertex-v.ensures.1 (sfits_of c.vertex-v.type-inv)
+  beside = arg≤ c.vertex-v.ensures.1 (record { sfits = c.vertex-v.type_inv })
 
   whole : Bits w64 (2 ^ 18 + 128) (of_z w64 (to_z w64 base +ℤ to_z w64 (of_z w64 c.vertex-v.result))) (pos base +ℤ c.vertex-v.result)
   whole = add at-best beside tt

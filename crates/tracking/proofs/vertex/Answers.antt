@@ -1,7 +1,6 @@
 -- `tracking::vertex` meets its contract: the numbers divided are those of `offset`, small enough for 64 bits, and `offset-within` gives the range.
 use mathlib.Core.Path.{◌≡◌, ◌∙◌}
 use Prim.Native.Nat.{ℕ, ◌+◌, ◌*◌, ◌^◌, ◌≤◌}
-use borrow.Author.Rules.{sfits_of}
 use lib.IntN.{pos, ◌+ℤ◌, ◌-ℤ◌, ◌*ℤ◌}
 use mir.Syntax.{w64}
 use mir.Val.{to_z, of_z}
@@ -51,7 +50,7 @@ returns c =
     let m = c.bend-m.ensures.0 in
     let t = (add (twice p.2 p.3) (under (goal.at.returns c).After-bend-m) tt).reads in
     let e : to_z w64 (of_z w64 c.floor_div.result) ≡ offset a.d1 a.d2 a.d3 =
-    to_z-of_z {w = w64} (sfits_of c.floor_div.type-inv)
+    to_z-of_z {w = w64} (record { sfits = c.floor_div.type_inv })
     ∙ c.floor_div.ensures
     ∙ (λ i. floor_div (t i) (2 * c.bend-m.result))
     ∙ (λ i. floor_div (pos 2 *ℤ (pos 128 *ℤ (pos a.d1 -ℤ pos a.d3)) +ℤ pos (m i)) (2 * m i))

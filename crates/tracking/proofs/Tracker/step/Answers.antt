@@ -1,22 +1,23 @@
 -- `tracking::Tracker::step` meets its contract: d holds D of the eight lags, so the first least of them is the best, and each part answers by its rule.
 use mathlib.Core.Path.{◌≡◌, refl, sym, ap, ◌∙◌}
-use mathlib.Core.Bool.{true, false, not}
+use mathlib.Core.Bool.{Bool, true, false, not}
 use mathlib.Core.List.{List}
 use Prim.Native.Nat.{ℕ, ◌+◌}
+use lib.ListN.{get_or}
 use native.Mathlib.Omega.{arith}
 use Rattle.whole.specs.Tests.{yes_and_no}
-use Rattle.rules.specs.Rules.{Sound, best, is_lost, moved}
+use Rattle.rules.specs.Rules.{Sound, D, E, best, is_lost, moved}
 use Rattle.rules.specs.Rules as rules
 use Rattle.rules.proofs.Periods.{moved_range, moved-best}
 use Rattle.ages.specs.Ages.{ago}
 use Rattle.sums.specs.Kept.{Kept}
 use Rattle.passing.specs.Distances.{Distances, Small, small-energies, small-distances}
 use Rattle.tracking.specs.Tracking.{kept, is-best}
-use Rattle.tracking.proofs.Tracker.step.Goals.{After-least-at, After-lost, Start}
+use Rattle.tracking.proofs.Tracker.step.Goals.{After-least-at, Start}
 use Rattle.tracking.proofs.Tracker.step.Goals as goal
 
-sums : (: Start) → Kept 8 s.args.self.e s.args.self.h
-sums = kept s.requires.1 s.requires.4 s.requires.5
+sums : (s : Start) → Kept 8 s.args.self.e s.args.self.h
+sums s = kept s.requires.1 s.requires.4 s.requires.5
 
 pub distances-requires : goal.distances-requires
 distances-requires c = sums (goal.at.distances-requires c).Start
@@ -29,24 +30,23 @@ module _ (c : After-least-at) where
   low = c.args.self.low
 
   abbrev d : List ℕ
-  d = c.distances.new.0
+  d = c.distances.new.d
 
   measured : Distances x low 8 d
   measured = c.distances.ensures x low c.requires.5
 
   small : Small 8 d
-  small = let k = sums c.before.before.before.before.before.before.before.before.before in small-distances k (c.distances.ensures k.sound k.low k.right)
+  small = let k = kept c.requires.1 c.requires.4 c.requires.5 in small-distances k (c.distances.ensures k.sound k.low k.right)
 
   at-best : c.least-at.result ≡ best x low
   at-best = is-best measured c.least-at.ensures
 
-judged : (c : After-lost)
-    → c.lost.result ≡ is_lost c.args.g (x c.before) (low c.before + best (x c.before) (low c.before)) c.args.self.last
-judged c =
-    let l = c in
-    let i = l.least-at.ensures.inside in
-    c.lost.ensures (x c.before) ((measured c.before).distance l.least-at.result i) (l.requires.5.energy l.least-at.result i)
-    ∙ ap (λ (at : ℕ). is_lost l.args.g (x c.before) (low c.before + at) l.args.self.last) (at-best c.before)
+  judged : {r : Bool} → ((y : Sound) → get_or d c.least-at.result 0 ≡ D y (low + c.least-at.result) → get_or c.args.self.e c.least-at.result 0 ≡ E y (low + c.least-at.result) → r ≡ is_lost c.args.g y (low + c.least-at.result) c.args.self.last)
+      → r ≡ is_lost c.args.g x (low + best x low) c.args.self.last
+  judged f =
+      let i = c.least-at.ensures.inside in
+      f x (measured.distance c.least-at.result i) (c.requires.5.energy c.least-at.result i)
+      ∙ ap (λ (at : ℕ). is_lost c.args.g x (low + at) c.args.self.last) at-best
 
 pub lost-requires : goal.lost-requires
 lost-requires c =
@@ -65,7 +65,7 @@ no k = absurd (yes_and_no k refl)
 pub returns-then-lost : goal.returns-then-lost
 returns-then-lost c =
     record {
-      kept = ap not (sym c.if-lost.true ∙ judged (goal.at.returns-then-lost c).After-lost);
+      kept = ap not (sym c.if-lost.true ∙ judged (goal.at.returns-then-lost c).After-least-at c.lost.ensures);
       period = no;
       from = no;
       upto = no;
@@ -102,7 +102,7 @@ returns c =
     let r = moved_range (low (goal.at.returns c).After-least-at) at l.requires.0 l.requires.1 in
     let b = moved-best (low (goal.at.returns c).After-least-at) at l.least-at.ensures.inside in
     record {
-      kept = ap not (sym n.if-lost.false ∙ judged (goal.at.returns c).After-lost);
+      kept = ap not (sym n.if-lost.false ∙ judged (goal.at.returns c).After-least-at c.lost.ensures);
       period = λ k. p.is ∙ ap (rules.period (x (goal.at.returns c).After-least-at) (low (goal.at.returns c).After-least-at)) (at-best (goal.at.returns c).After-least-at);
       from = λ k. p.from;
       upto = λ k. p.upto;
