@@ -15,8 +15,9 @@ use Rattle.rules.proofs.Sane.{fresh_sane}
 use Rattle.rules.proofs.Position.{behind_in_bounds, in_bounds_behind}
 use Rattle.keyboard.specs.Playing.{fresh_in}
 use Rattle.history.specs.History.{sample, new-settings, Course, happened, course_after}
-use Rattle.lists.specs.Folds.{later_in}
-use Rattle.history.specs.Courses.{CourseIn, happened_in}
+use Rattle.lists.proofs.Folds.{later_in}
+use Rattle.history.specs.Courses.{CourseIn}
+use Rattle.history.proofs.Courses.{happened_in}
 use Rattle.pitch.specs.declared.Pitch.{Pitch as KeptPitch}
 use Rattle.pitch.specs.Pitches.{PitchRight, tracking_of}
 use Rattle.pitch.specs.Keeping.{listed-right, kept-right}

@@ -13,7 +13,8 @@ use Rattle.rules.proofs.Sane.{after_sane}
 use Rattle.rules.specs.Local.{Agree}
 use Rattle.rules.proofs.Local.{after_agree}
 use Rattle.history.specs.History.{sample, new-settings, byte, Course, fresh_course, force_at, happened, course_after, given_by}
-use Rattle.history.specs.Courses.{with_take, course_samples, given-samples, course_bytes, CourseIn, course_force}
+use Rattle.history.specs.Courses.{with_take, CourseIn}
+use Rattle.history.proofs.Courses.{course_samples, given-samples, course_bytes, course_force}
 use Rattle.pitch.specs.Pitches.{tracking_of, tracker_of, kept_of}
 use Rattle.pitch.specs.Keeping.{right-energies, right-correlations, kept-pitch}
 use Rattle.record.specs.Records.{sound_of, fresh_pitch, made, heard_after}

@@ -11,9 +11,9 @@ use Rattle.rules.specs.Facts.{InBounds, Right, WithoutPeriod, energies_of, corre
 use Rattle.rules.proofs.Position.{behind_in_bounds}
 use Rattle.rules.proofs.Sane.{always_in_bounds}
 use Rattle.history.specs.History.{Event, sample, new-settings, byte, Course, fresh_course, force_at, happened, course_after, given_by, samples_in}
-use Rattle.history.specs.Courses.{course_hertz, course_count, course_sound, course_force}
-use Rattle.history.specs.Accounts.{account}
-use Rattle.history.specs.Unpitched.{without_period, four_late_lem}
+use Rattle.history.proofs.Courses.{course_hertz, course_count, course_sound, course_force}
+use Rattle.history.proofs.Accounts.{account}
+use Rattle.history.proofs.Unpitched.{without_period, four_late_lem}
 use Rattle.pitch.specs.Pitches.{PitchRight, kept_of}
 use Rattle.pitch.specs.Keeping.{listed-right, kept-right}
 use Rattle.meters.specs.declared.Meter.{Meter}

@@ -18,10 +18,11 @@ use Rattle.rules.specs.Facts.{InRange, SampleRate, InBounds}
 use Rattle.rules.proofs.Position.{behind_in_bounds, in_bounds_behind}
 use Rattle.rules.proofs.Blocks.{given-length, gives-length}
 use Rattle.history.specs.History.{Event, sample, new-settings, byte, Course, fresh_course, course_after, given_by}
-use Rattle.history.specs.Courses.{course_force, course_after-append, given_by-append, given-bytes, course_hertz, CourseIn, EventsIn, fresh_course_in, course_in, events_in_append, samples_in_lem, bytes_in}
+use Rattle.history.specs.Courses.{CourseIn, EventsIn}
+use Rattle.history.proofs.Courses.{course_force, course_after-append, given_by-append, given-bytes, course_hertz, fresh_course_in, course_in, events_in_append, samples_in_lem, bytes_in}
 use Rattle.reports.specs.declared.Figures.{Figures}
 use Rattle.reports.specs.Reports.{figures_of, added, no_figures}
-use Rattle.reports.specs.Counting.{figures-append, figures-none}
+use Rattle.reports.proofs.Counting.{figures-append, figures-none}
 use Rattle.voices.specs.Voices.{voice_after, voice_gives, voice_outs}
 use Rattle.voices.specs.Accompanying.{voice_bounds}
 use Rattle.record.specs.Records.{heard_after}

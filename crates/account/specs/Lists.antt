@@ -12,12 +12,12 @@ use Rattle.whole.specs.Tests.{cond_case, cond_yes, cond_no}
 use Rattle.rules.specs.declared.Settings.{Settings}
 use Rattle.rules.specs.Rules.{no_note, Given, stepped, fresh_take, no_tone, gives, defaults, cd_rate}
 use Rattle.history.specs.History.{Event, sample, new-settings, byte, Course, fresh_course, happened, course_after, given_by}
-use Rattle.history.specs.Courses.{given_by-append, given_by-length, given-bytes, course_count}
+use Rattle.history.proofs.Courses.{given_by-append, given_by-length, given-bytes, course_count}
 use Rattle.lists.specs.declared.Listing.{Listing}
 use Rattle.singers.specs.Singers.{kept_interval}
 use Rattle.lists.specs.Lists.{Sheet, sung_note, notes_sung, last_note, sheet, empty_listing, after_notes, after_pieces, IsList}
-use Rattle.lists.specs.Folds.{after_notes-append}
-use Rattle.lists.specs.Afresh.{however_cut}
+use Rattle.lists.proofs.Folds.{after_notes-append}
+use Rattle.lists.proofs.Afresh.{however_cut}
 use Rattle.tuner.specs.declared.Tuner.{Tuner}
 use Rattle.tuner.specs.declared.Answer.{Answer}
 use Rattle.tuner.specs.Tuners.{take_of, force_of, fresh_numbers, silent_tuner, fresh_tuner, default_tuner, list_after, after_block, Took, kept_list, begun_again, with_keys, Done}

@@ -11,7 +11,7 @@ use Rattle.whole.specs.Tests.{cond_case}
 use Rattle.rules.specs.Rules.{Given, input_at, gives, samples_out}
 use Rattle.rules.proofs.Blocks.{samples_out-append}
 use Rattle.history.specs.History.{Event, fresh_course, given_by}
-use Rattle.history.specs.Courses.{given_by-append}
+use Rattle.history.proofs.Courses.{given_by-append}
 use Rattle.voices.specs.Voices.{Voiced, voice_outs}
 use Rattle.tuner.specs.declared.Voice.{Voice}
 use Rattle.tuner.specs.declared.Tuner.{Tuner}

@@ -1,10 +1,7 @@
 pub mod Lists
 pub mod Runs
-pub mod Stores
 pub mod Folds
 pub mod Afresh
 pub mod Worked
-pub mod Sung
-pub mod Longest
 pub mod Counting
 pub mod Hushes

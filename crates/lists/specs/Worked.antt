@@ -1,7 +1,7 @@
 -- Worked lists: one table, and one statement over it, about the definitions.
-use Rattle.std.specs.Prelude.{◌≡◌, refl, List, [], ◌∷◌, ℕ, replicate}
+use Rattle.std.specs.Prelude.{◌≡◌, List, [], ◌∷◌, ℕ, replicate}
 use Rattle.rules.specs.Rules.{no_note}
-use Rattle.lists.specs.Lists.{put, empty_listing, Sheet, sheet, begins, begun, listing_after, store_after, after_note, after_notes, last_note, after_pieces}
+use Rattle.lists.specs.Lists.{empty_listing, Sheet, sheet, after_pieces}
 
 -- the notes of some blocks, given to a store of so many numbers, all 7; the store then, and how many runs are left out
 pub record Worked : Type 0 where
@@ -33,7 +33,3 @@ lists =
     -- no room for a row
     ∷ record { blocks = (60 ∷ 62 ∷ []) ∷ []; room = 2; store = 7 ∷ 7 ∷ []; left = 2 }
     ∷ []
-
-pub lists_hold : AllHold lists
-unfolding AllHold lists after_pieces after_notes after_note listing_after begins begun store_after put last_note
-lists_hold = (refl, refl, (refl, refl, (refl, refl, (refl, refl, tt))))

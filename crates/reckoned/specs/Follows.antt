@@ -9,7 +9,7 @@ use Rattle.whole.specs.Tests.{by, cond_yes, cond_no}
 use Rattle.rules.specs.declared.Settings.{Settings}
 use Rattle.rules.specs.Rules.{Given, gives, defaults, cd_rate}
 use Rattle.history.specs.History.{Event, sample, new-settings, byte, fresh_course, given_by}
-use Rattle.history.specs.Courses.{given_by-append, given-bytes}
+use Rattle.history.proofs.Courses.{given_by-append, given-bytes}
 use Rattle.tuner.specs.declared.Tuner.{Tuner}
 use Rattle.tuner.specs.declared.Answer.{Answer}
 use Rattle.tuner.specs.Tuners.{take_of, force_of, default_tuner, Took, Done, Changed}

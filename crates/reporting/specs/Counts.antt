@@ -19,7 +19,8 @@ use Rattle.staying.specs.Staying.{good-force, good_sane, took_number, took-keeps
 use Rattle.lines.specs.Lines.{Line, start, change, block, reset, mode, channel, midi, unreadable, Desk, numbered, with_four, with_mode, with_channel, begins, Said, begun, not_begun, changed, taken, begun-again, mode-changed, channel-changed, keyed, not_read}
 use Rattle.reports.specs.declared.Figures.{Figures}
 use Rattle.reports.specs.Reports.{figures_of, no_figures}
-use Rattle.reports.specs.Counting.{Within, within_none, figures-none, gives-within}
+use Rattle.reports.specs.Counting.{Within}
+use Rattle.reports.proofs.Counting.{within_none, figures-none, gives-within}
 use Rattle.reporting.specs.Reporting.{brought_by}
 
 -- what the answer to a line counts: nothing where it is refused or given again

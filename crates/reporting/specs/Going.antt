@@ -11,7 +11,7 @@ use Rattle.lines.specs.Laws.{read-long}
 use Rattle.lines.specs.Ones.{said-one}
 use Rattle.reports.specs.declared.Figures.{Figures}
 use Rattle.reports.specs.Reports.{no_figures, takes_lines, total_of, report_of}
-use Rattle.reports.specs.Counting.{within_none, figures-none}
+use Rattle.reports.proofs.Counting.{within_none, figures-none}
 use Rattle.reporting.specs.declared.Reporting.{Reporting}
 use Rattle.reporting.specs.Reporting.{Takes, takes_after, Through, Reported, no_more, last_line, one_byte, line-ends, Report}
 use Rattle.reporting.specs.Keeping.{reporting, Few, Keeps, few, LineReported, SoFar}

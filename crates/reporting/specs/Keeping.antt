@@ -19,8 +19,9 @@ use Rattle.lines.specs.Laws.{no-places}
 use Rattle.lines.specs.Lines.{read, desk, begins, Said, Answered, answered, no_room}
 use Rattle.reports.specs.declared.Figures.{Figures}
 use Rattle.reports.specs.Reports.{figures_of, added, no_figures, figures_line, takes_lines, total_of, too_many, report_of}
-use Rattle.reports.specs.Counting.{Within, most, within_none, within_more, within-added, figures-none, figures-append}
-use Rattle.reports.specs.Writing.{line-short}
+use Rattle.reports.specs.Counting.{Within, most}
+use Rattle.reports.proofs.Counting.{within_none, within_more, within-added, figures-none, figures-append}
+use Rattle.reports.proofs.Writing.{line-short}
 use Rattle.reporting.specs.declared.Reporting.{Reporting}
 use Rattle.reporting.specs.Reporting.{Takes, brought_by, with_given, takes_after, Reported, Report}
 use Rattle.reporting.specs.Counts.{On, counted_of, said-counts}

@@ -15,7 +15,8 @@ use Rattle.rules.proofs.Sane.{fresh_sane, stepped_sane}
 use Rattle.keyboard.specs.declared.Keyboard.{Keyboard}
 use Rattle.keyboard.specs.Keys.{fresh, played}
 use Rattle.history.specs.History.{Event, sample, byte, Course, fresh_course, force_at, happened, course_after, given_by}
-use Rattle.history.specs.Courses.{given_by-append, course_bytes, given-bytes, given-samples, with_keyboard}
+use Rattle.history.specs.Courses.{with_keyboard}
+use Rattle.history.proofs.Courses.{given_by-append, course_bytes, given-bytes, given-samples}
 use Rattle.lists.specs.Lists.{Row, sung_note, notes_sung, note_at}
 use Rattle.scores.specs.Scores.{listed_at, turn, scored, by_keys, list_for, BackAgain}
 use Rattle.scores.specs.Listed.{listed-is}

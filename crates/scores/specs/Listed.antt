@@ -10,7 +10,7 @@ use Rattle.std.proofs.Math.Dec.{ltb}
 use Rattle.whole.specs.Tests.{by, and_left, and_right, yes_and_no}
 use Rattle.rules.specs.Rules.{no_note}
 use Rattle.lists.specs.Lists.{Row, runs, note_at, LongestRuns, InRow}
-use Rattle.lists.specs.Longest.{rows_are_runs}
+use Rattle.lists.proofs.Longest.{rows_are_runs}
 use Rattle.scores.specs.Scores.{listed_at}
 
 module _ (notes : List ℕ) (i : ℕ) where

@@ -26,11 +26,13 @@ use Rattle.steps.specs.Going.{Going}
 use Rattle.steps.specs.Heading.{paced-all, ran, ready-left, ended-left}
 use Rattle.lists.specs.declared.Listing.{Listing}
 use Rattle.lists.specs.Lists.{Sheet, sheet, sung_note, notes_sung, after_notes, ListingIn}
-use Rattle.lists.specs.Hushes.{hushed, hushed-sung}
+use Rattle.lists.specs.Hushes.{hushed}
+use Rattle.lists.proofs.Hushes.{hushed-sung}
 use Rattle.lists.specs.Counting.{one_if, counted}
 use Rattle.reports.specs.declared.Figures.{Figures}
 use Rattle.reports.specs.Reports.{figures_of}
-use Rattle.reports.specs.Counting.{one_pitched, pitched_in, distance_in, pitched-more, none-pitched, block-counted}
+use Rattle.reports.specs.Counting.{one_pitched, pitched_in, distance_in}
+use Rattle.reports.proofs.Counting.{pitched-more, none-pitched, block-counted}
 use Rattle.voices.specs.Singing.{TrackedAll}
 use Rattle.record.specs.declared.Heard.{Heard}
 use Rattle.record.specs.Parts.{Stores}

@@ -2,7 +2,8 @@ use mathlib.Core.Path.{◌≡◌, refl, sym, ap, ◌∙◌}
 use Prim.Native.Nat.{◌+◌, ◌-◌}
 use native.Mathlib.Omega.{arith}
 use lib.ListN.{get_or}
-use Rattle.lists.specs.Counting.{counted, one-within, counted-within, counted-more}
+use Rattle.lists.specs.Counting.{counted}
+use Rattle.lists.proofs.Counting.{one-within, counted-within, counted-more}
 use Rattle.lists.proofs.count_of.Goals as goal
 
 pub loop-i-init : goal.loop-i-init

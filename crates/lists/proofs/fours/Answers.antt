@@ -1,6 +1,6 @@
 use Prim.Native.Nat.{◌-◌}
 use native.Mathlib.Omega.{arith}
-use Rattle.lists.specs.Folds.{level-one, level-four}
+use Rattle.lists.proofs.Folds.{level-one, level-four}
 use Rattle.lists.proofs.fours.Goals as goal
 
 pub loop-to-init : goal.loop-to-init

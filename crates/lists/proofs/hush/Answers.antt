@@ -7,7 +7,8 @@ use native.Mathlib.Omega.{arith}
 use lib.Dec.{eqb}
 use lib.ListN.{get_or, set}
 use Rattle.rules.specs.Rules.{no_note}
-use Rattle.lists.specs.Hushes.{hushed, hushed-behind, hushed-more}
+use Rattle.lists.specs.Hushes.{hushed}
+use Rattle.lists.proofs.Hushes.{hushed-behind, hushed-more}
 use Rattle.lists.proofs.hush.Goals as goal
 
 pub loop-i-init : goal.loop-i-init

@@ -1,6 +1,6 @@
 use Prim.Native.Nat.{◌-◌}
 use native.Mathlib.Omega.{arith}
-use Rattle.lists.specs.Folds.{level-more}
+use Rattle.lists.proofs.Folds.{level-more}
 use Rattle.lists.proofs.level.Goals as goal
 
 pub fours-to-requires : goal.fours-to-requires

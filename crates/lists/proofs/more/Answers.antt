@@ -3,7 +3,8 @@ use Prim.Native.Nat.{ℕ, ◌+◌, ◌-◌}
 use native.Mathlib.Omega.{arith}
 use lib.ListN.{get_or, take}
 use Rattle.lists.specs.Lists.{sheet, after_notes, last_note}
-use Rattle.lists.specs.Folds.{after_stretch, level-last, level-next, level-whole, kept_in, kept-length}
+use Rattle.lists.specs.Folds.{after_stretch}
+use Rattle.lists.proofs.Folds.{level-last, level-next, level-whole, kept_in, kept-length}
 use Rattle.lists.proofs.more.Goals as goal
 
 pub one_note-requires : goal.one_note-requires

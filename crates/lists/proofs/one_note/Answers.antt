@@ -3,7 +3,7 @@ use mathlib.Core.Path.{refl, sym, ◌∙◌}
 use native.Mathlib.Omega.{arith}
 use borrow.Author.Tests.{eqb-true}
 use Rattle.whole.specs.Tests.{yes_and_no}
-use Rattle.lists.specs.Counting.{all-counted}
+use Rattle.lists.proofs.Counting.{all-counted}
 use Rattle.lists.proofs.one_note.Goals as goal
 
 pub returns-then-n-eq0 : goal.returns-then-n-eq0

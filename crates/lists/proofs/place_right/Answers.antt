@@ -2,7 +2,7 @@
 use native.Mathlib.Omega.{arith}
 use Rattle.whole.specs.Tests.{granted, decides_eq, decides_as}
 use Rattle.lists.specs.Lists.{listed, left_out}
-use Rattle.lists.specs.Folds.{no_place_lem}
+use Rattle.lists.proofs.Folds.{no_place_lem}
 use Rattle.lists.proofs.place_right.Goals as goal
 
 pub returns-then-place-rows : goal.returns-then-place-rows

@@ -2,7 +2,7 @@
 use native.Mathlib.Omega.{arith}
 use Prim.Native.Nat.{◌+◌, ◌*◌}
 use lib.ListN.{set, length-set}
-use Rattle.lists.specs.Stores.{put_is}
+use Rattle.lists.proofs.Stores.{put_is}
 use Rattle.lists.proofs.put.Goals as goal
 
 pub bounds-store-at-2 : goal.bounds-store-at-2

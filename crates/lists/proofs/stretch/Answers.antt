@@ -5,7 +5,8 @@ use native.Mathlib.Omega.{arith}
 use lib.ListN.{length}
 use Rattle.lists.specs.declared.Listing.{Listing}
 use Rattle.lists.specs.Lists.{room, sheet, listing_after, store_after}
-use Rattle.lists.specs.Folds.{after_stretch, first-within}
+use Rattle.lists.specs.Folds.{after_stretch}
+use Rattle.lists.proofs.Folds.{first-within}
 use Rattle.lists.proofs.stretch.Goals.{After-listed-with}
 use Rattle.lists.proofs.stretch.Goals as goal
 

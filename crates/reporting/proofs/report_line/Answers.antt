@@ -3,7 +3,8 @@ use mathlib.Core.Path.{sym, subst}
 use mathlib.Core.List.{List}
 use Prim.Native.Nat.{ℕ}
 use native.Mathlib.Omega.{arith}
-use Rattle.reports.specs.Counting.{Within, most, within_more}
+use Rattle.reports.specs.Counting.{Within, most}
+use Rattle.reports.proofs.Counting.{within_more}
 use Rattle.reporting.specs.Counts.{On}
 use Rattle.reporting.specs.Keeping.{keeps-room, LineSaid, line-said, begun-count, line-begun, line_on, line_went_on}
 use Rattle.reporting.proofs.report_line.Goals.{After-answer_line-d}

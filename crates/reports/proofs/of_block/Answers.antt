@@ -4,7 +4,8 @@ use mathlib.Core.List.{List}
 use Prim.Native.Nat.{ℕ, ◌+◌, ◌-◌, ◌*◌, ◌≤◌}
 use native.Mathlib.Omega.{arith}
 use lib.ListN.{take, get_or}
-use Rattle.reports.specs.Counting.{pitched_in, distance_in, none-pitched, no_distance, pitched-more, distance-more, one_pitched_few}
+use Rattle.reports.specs.Counting.{pitched_in, distance_in}
+use Rattle.reports.proofs.Counting.{none-pitched, no_distance, pitched-more, distance-more, one_pitched_few}
 use Rattle.reports.proofs.of_block.Goals as goal
 
 pub loop-i-init : goal.loop-i-init

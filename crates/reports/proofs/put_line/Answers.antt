@@ -4,7 +4,8 @@ use lib.ListN.{length-set}
 use Rattle.text.specs.Text.{long_decimal, Put}
 use Rattle.text.specs.Places.{put-end}
 use Rattle.reports.specs.Reports.{figures_line, mean_of, remainder_of}
-use Rattle.reports.specs.Writing.{Written, kept, so_far, written-more, number-written, field-short}
+use Rattle.reports.specs.Writing.{Written}
+use Rattle.reports.proofs.Writing.{kept, so_far, written-more, number-written, field-short}
 use Rattle.reports.proofs.put_line.Goals as goal
 
 -- the fields so far

@@ -5,7 +5,7 @@ use native.Mathlib.Omega.{arith}
 use lib.ListN.{take, drop, length-append, length-drop}
 use lib.Seq.{length-take-le}
 use Rattle.rules.proofs.Table.{rate-upto}
-use Rattle.lists.specs.Counting.{counted-within}
+use Rattle.lists.proofs.Counting.{counted-within}
 use Rattle.reports.specs.Counting.{pitched_in}
 use Rattle.tuner.specs.Outputs.{glided-long}
 use Rattle.tuner.specs.Taking.{numbers_with, pitched-counted}

@@ -1,7 +1,7 @@
 -- `tuner::hush_if` meets its contract: where no period is 0 the notes are hushed as they stand.
 use mathlib.Core.Path.{sym}
 use native.Mathlib.Omega.{arith}
-use Rattle.lists.specs.Hushes.{hushed-none}
+use Rattle.lists.proofs.Hushes.{hushed-none}
 use Rattle.tuner.proofs.hush_if.Goals as goal
 
 pub returns-then-b-pitched : goal.returns-then-b-pitched

@@ -2,7 +2,8 @@ use mathlib.Core.Path.{◌≡◌, sym, ap, ◌∙◌}
 use Prim.Native.Nat.{ℕ, ◌+◌, ◌-◌}
 use native.Mathlib.Omega.{arith}
 use lib.ListN.{take}
-use Rattle.reports.specs.Counting.{distance_in, no_distance, distance-more}
+use Rattle.reports.specs.Counting.{distance_in}
+use Rattle.reports.proofs.Counting.{no_distance, distance-more}
 use Rattle.tuner.proofs.strayed.Goals as goal
 
 pub loop-i-init : goal.loop-i-init

@@ -1,0 +1,9 @@
+pub mod Afresh
+pub mod Counting
+pub mod Folds
+pub mod Hushes
+pub mod Longest
+pub mod Runs
+pub mod Stores
+pub mod SungNotes
+pub mod Worked
