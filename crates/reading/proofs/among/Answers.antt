@@ -1,8 +1,9 @@
 -- `reading::among` meets its contract: with u = 0 the curve is its second sample (`through-none`), else the four are read and passed on.
 use mathlib.Core.Path.{sym, ap, ◌∙◌}
 use Prim.Native.Nat.{◌+◌}
-use borrow.Author.Rules.{sfits_of}
+use borrow.Author.Rules.{rules}
 use mir.Syntax.{w16}
+use mir.Val.{SFits}
 use mir.Facts.{to_z-of_z}
 use Rattle.rules.specs.Rules.{through}
 use Rattle.rules.specs.Facts.{value_at}
@@ -13,15 +14,15 @@ pub returns-then-u-eq0 : goal.returns-then-u-eq0
 returns-then-u-eq0 c =
     let a = c.args in
     let s = a.s.now in
-    let f = sfits_of c.a-1.given in
+    let f : SFits w16 (value_at s (a.at + 1)) = search rules in
     to_z-of_z {w = w16} f
     ∙ sym (ap (through (value_at s a.at) (value_at s (a.at + 1)) (value_at s (a.at + 2)) (value_at s (a.at + 3))) c.if-u-eq0.true ∙ through-none _ (value_at s (a.at + 1)) _ _ f)
 
 pub returns : goal.returns
 returns c =
     let b = c in
-    let here = to_z-of_z {w = w16} (sfits_of b.a-1.given) in
-    let first = to_z-of_z {w = w16} (sfits_of b.p-1.given) in
-    let third = to_z-of_z {w = w16} (sfits_of b.b-1.given) in
-    let fourth = to_z-of_z {w = w16} (sfits_of b.q-1.given) in
-    to_z-of_z {w = w16} (sfits_of c.through.type-inv) ∙ c.through.ensures ∙ (λ i. through (first i) (here i) (third i) (fourth i) b.args.u)
+    let here = to_z-of_z {w = w16} {z = value_at b.args.s.now (b.args.at + 1)} (search rules) in
+    let first = to_z-of_z {w = w16} {z = value_at b.args.s.now b.args.at} (search rules) in
+    let third = to_z-of_z {w = w16} {z = value_at b.args.s.now (b.args.at + 2)} (search rules) in
+    let fourth = to_z-of_z {w = w16} {z = value_at b.args.s.now (b.args.at + 3)} (search rules) in
+    to_z-of_z {w = w16} (record { sfits = c.through.type_inv }) ∙ c.through.ensures ∙ (λ i. through (first i) (here i) (third i) (fourth i) b.args.u)

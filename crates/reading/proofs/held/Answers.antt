@@ -46,4 +46,4 @@ pub overflow_cast-result : goal.overflow_cast-result
 overflow_cast-result c = subst (λ (v : ℤ). SFits w16 v) (sym (passed (goal.at.overflow_cast-result c).Else-z-gt32767)) (held_fits c.args.z)
 
 pub returns : goal.returns
-returns c = to_z-of_z (cast-result c) ∙ passed (goal.at.returns c).Else-z-gt32767
+returns c = to_z-of_z {w = w16} (subst (λ (v : ℤ). SFits w16 v) (sym (passed (goal.at.returns c).Else-z-gt32767)) (held_fits c.args.z)) ∙ passed (goal.at.returns c).Else-z-gt32767

@@ -1,7 +1,6 @@
 -- `reading::lift` meets its contract: it is slope and bend, taken u times, and each step's size is below 2^63.
 use mathlib.Core.Path.{sym, ◌∙◌, subst}
 use Prim.Native.Nat.{ℕ, ◌+◌, ◌^◌, ◌≤◌}
-use borrow.Author.Rules.{sfits_of}
 use lib.IntN.{ℤ, pos, nat_abs, ◌+ℤ◌, ◌-ℤ◌, ◌*ℤ◌}
 use mir.Syntax.{w16, w64}
 use mir.Val.{SFits, to_z, of_z}
@@ -41,7 +40,7 @@ module _ (c : After-bend-bent) where
   bent =
       let f = c.ranges in
       let e = c.bend-bent.ensures ∙ (λ i. bend (to_z-of_z f.p i) (to_z-of_z f.a i) (to_z-of_z f.b i) (to_z-of_z f.q i) u) in
-      is e (arg≤ (subst (λ (z : ℤ). nat_abs z ≤ 2 ^ 44) (sym e) (bend-within u c.requires f.p f.a f.b f.q)) (sfits_of c.bend-bent.type-inv))
+      is e (arg≤ (subst (λ (z : ℤ). nat_abs z ≤ 2 ^ 44) (sym e) (bend-within u c.requires f.p f.a f.b f.q)) (record { sfits = c.bend-bent.type_inv }))
 
   abbrev slopeBits : ℕ
   slopeBits = of_z w64 (to_z w64 16777216 *ℤ to_z w64 (of_z w64 (to_z w64 (word b) -ℤ to_z w64 (word p))))

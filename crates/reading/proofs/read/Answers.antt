@@ -2,7 +2,6 @@
 use mathlib.Core.Path.{◌≡◌, refl, sym, ap, ◌∙◌}
 use Prim.Native.Nat.{ℕ, ◌+◌, ◌-◌, ◌/◌, ◌<◌}
 use native.Mathlib.Omega.{arith}
-use borrow.Author.Rules.{sfits_of}
 use mir.Syntax.{w16}
 use mir.Facts.{to_z-of_z}
 use Rattle.rules.specs.Rules.{through}
@@ -24,6 +23,6 @@ returns c n =
     let second = stands 4 (at + 1) (omega arith) (omega arith) in
     let third = stands 3 (at + 2) (omega arith) (omega arith) in
     let fourth = stands 2 (at + 3) (omega arith) (omega arith) in
-    to_z-of_z {w = w16} (sfits_of c.among.type-inv)
+    to_z-of_z {w = w16} (record { sfits = c.among.type_inv })
     ∙ c.among.ensures
     ∙ sym (reading-behind (ago s a.m) n a.behind refl ∙ (λ i. through (first i) (second i) (third i) (fourth i) (fraction_behind a.behind / 16)))

@@ -1,11 +1,10 @@
 -- `reading::through` meets its contract: the shift rounds the lift down, which beside the sample is the curve rounded down (`lift-beside`), and what comes of it is held.
 use mathlib.Core.Path.{sym, ap, ◌∙◌, subst}
 use Prim.Native.Nat.{ℕ, ◌*◌, ◌^◌, ◌≤◌}
-use borrow.Author.Rules.{sfits_of}
 use lib.IntN.{ℤ, nat_abs}
 use lib.Signed.{shr_z}
 use mir.Syntax.{w16, w64}
-use mir.Val.{to_z, of_z}
+use mir.Val.{SFits, to_z, of_z}
 use mir.Facts.{to_z-of_z}
 use Rattle.whole.specs.Words.{Bits, arg, arg≤, is, cast, cast_ok, add, add_ok, shr, ok_of}
 use Rattle.rules.specs.Rules.{held, through}
@@ -36,7 +35,7 @@ module _ (c : After-lift) where
   lifted =
       let f = c.ranges in
       let e = c.lift.ensures ∙ (λ i. lift (to_z-of_z f.p i) (to_z-of_z f.a i) (to_z-of_z f.b i) (to_z-of_z f.q i) u) in
-      let ok = sfits_of c.lift.type-inv in
+      let ok : SFits w64 c.lift.result = record { sfits = c.lift.type_inv } in
       shr {w = w64} (2 * 4096 ^ 3) (is e (arg≤ (subst (λ (z : ℤ). nat_abs z ≤ 2 ^ 57) (sym e) (lift-within u c.requires f.p f.a f.b f.q)) ok)) (ok_of (sym e) ok)
 
 pub overflow_cast-here : goal.overflow_cast-here
@@ -49,4 +48,4 @@ pub returns : goal.returns
 unfolding through
 returns c =
     let l = c in
-    to_z-of_z {w = w16} (sfits_of c.held.type-inv) ∙ c.held.ensures ∙ ap held ((add (here (goal.at.returns c).After-lift) (lifted (goal.at.returns c).After-lift) tt).reads ∙ lift-beside (p (goal.at.returns c).After-lift) (a (goal.at.returns c).After-lift) (b (goal.at.returns c).After-lift) (q (goal.at.returns c).After-lift) (u (goal.at.returns c).After-lift))
+    to_z-of_z {w = w16} (record { sfits = c.held.type_inv }) ∙ c.held.ensures ∙ ap held ((add (here (goal.at.returns c).After-lift) (lifted (goal.at.returns c).After-lift) tt).reads ∙ lift-beside (p (goal.at.returns c).After-lift) (a (goal.at.returns c).After-lift) (b (goal.at.returns c).After-lift) (q (goal.at.returns c).After-lift) (u (goal.at.returns c).After-lift))
