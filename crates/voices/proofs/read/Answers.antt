@@ -26,6 +26,6 @@ returns c n =
     let second = stands 4 (at + 1) (omega arith) (omega arith) in
     let third = stands 3 (at + 2) (omega arith) (omega arith) in
     let fourth = stands 2 (at + 3) (omega arith) (omega arith) in
-    to_z-of_z {w = w16} (sfits_of c.among.type-inv)
+    to_z-of_z {w = w16} (sfits_of c.among.type_inv)
     ∙ c.among.ensures
     ∙ sym (reading-behind (ago s a.m) n a.behind refl ∙ (λ i. through (first i) (second i) (third i) (fourth i) (sym part i / 16)))

@@ -7,7 +7,7 @@ use Rattle.voices.proofs.sing.Given as goal
 
 abbrev pub invariant-loop-i : goal.invariant-loop-i
 invariant-loop-i l =
-    (l.i ≤ l.b) × (length l.out ≡ length l.initial.out) × Reckoned l.hertz l.interval l.v.period l.v.note l.v.initial l.v.rate × Sang l.hertz l.interval l.behind l.periods l.notes l.s l.m l.i l.initial.out l.out l.v.behind
+    (l.i ≤ l.b) × (length l.out ≡ length l.initial.out) × Reckoned l.hertz l.interval l.v.period l.v.note l.v.entry l.v.rate × Sang l.hertz l.interval l.behind l.periods l.notes l.s l.m l.i l.initial.out l.out l.v.behind
 
 abbrev pub decreases-loop-i : goal.decreases-loop-i
 decreases-loop-i l = l.b - l.i

@@ -6,7 +6,6 @@ use lib.Dec.{ltb}
 use lib.ListN.{get_or}
 use Rattle.whole.specs.Tests.{by}
 use Rattle.voices.specs.Singing.{sang_to_none, sang_to_more}
-use Rattle.voices.proofs.stretch.Goals.{In-loop-out}
 use Rattle.voices.proofs.stretch.Goals as goal
 
 pub loop-out-init : goal.loop-out-init
@@ -15,15 +14,11 @@ loop-out-init c = (omega arith, omega (arith, c.requires.0.some), sang_to_none c
 pub goes_on-requires : goal.goes_on-requires
 goes_on-requires c = c.requires.0.most
 
--- sample i is one of the stretch
-here : (c : In-loop-out invariant-loop decreases-loop) → c.loop-out.i < c.args.b
-here c = (c.goes_on.ensures.yes c.loop-out-test.true).0
-
 pub overflow_add-m : goal.overflow_add-m
-overflow_add-m c = omega (arith, here c, c.requires.0.stored)
+overflow_add-m c = omega (arith, (c.goes_on.ensures.yes c.loop-out-test.true).0, c.requires.0.stored)
 
 pub overflow_add-m-in-loop-out : goal.overflow_add-m-in-loop-out
-overflow_add-m-in-loop-out c = omega (arith, here c, c.requires.0.stored)
+overflow_add-m-in-loop-out c = omega (arith, (c.goes_on.ensures.yes c.loop-out-test.true).0, c.requires.0.stored)
 
 pub sound-behind-requires : goal.sound-behind-requires
 sound-behind-requires c =
@@ -31,13 +26,13 @@ sound-behind-requires c =
     let l = t in
     let p = l.requires.0 in
     let v = l.loop-out.invariant.2 in
-    (v.near, p.kept, omega (arith, here t, p.stored), omega (arith, p.enough), omega (arith, here t, p.most), v.same ∙ l.requires.1)
+    (v.near, p.kept, omega (arith, (t.goes_on.ensures.yes t.loop-out-test.true).0, p.stored), omega (arith, p.enough), omega (arith, (t.goes_on.ensures.yes t.loop-out-test.true).0, p.most), v.same ∙ l.requires.1)
 
 pub overflow_add-i : goal.overflow_add-i
-overflow_add-i c = omega (arith, here c)
+overflow_add-i c = omega (arith, (c.goes_on.ensures.yes c.loop-out-test.true).0)
 
 pub loop-out-smaller : goal.loop-out-smaller
-loop-out-smaller c = omega (arith, here c)
+loop-out-smaller c = omega (arith, (c.goes_on.ensures.yes c.loop-out-test.true).0)
 
 pub loop-out-preserved : goal.loop-out-preserved
 loop-out-preserved c =
