@@ -9,7 +9,7 @@ pub give-requires : goal.give-requires
 give-requires c =
     let s = c in
     let p = s.requires in
-    let e = out-long s.args.v _ s.well-formed.1.1.0 in
+    let e = out-long s.args.v _ s.well_formed.1.1.0 in
     (omega (arith, e, p.0), p.1 (omega arith))
 
 pub returns-then-j-chosen : goal.returns-then-j-chosen
