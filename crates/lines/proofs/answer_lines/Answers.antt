@@ -65,7 +65,7 @@ overflow_add-length c =
     record { fits = omega (arith, length_so_far b, b.same, (start c).good.1.1.0.0) }
 
 pub overflow_add-at : goal.overflow_add-at
-overflow_add-at c = let l = c in omega (arith, l.loop-end-test.true, l.well-formed)
+overflow_add-at c = let l = c in omega (arith, l.loop-end-test.true, l.well_formed)
 
 pub first-end-requires-in-loop-end : goal.first-end-requires-in-loop-end
 first-end-requires-in-loop-end c = let l = c in omega (arith, l.loop-end-test.true)
