@@ -1,6 +1,6 @@
 -- D(L) is the sum of (x[j] - x[j-L]) squared over the newest L samples: so it is never negative, and 0 exactly when the two newest cycles are equal.
 -- The square of a difference is summed over a cycle, and E over two cycles is E over each of them.
-use Rattle.std.specs.Prelude.{◌≡◌, refl, [], ◌∷◌, ℕ, zero, suc, ◌+◌, ◌-◌, ◌*◌, ◌^◌, ◌≤◌, ◌<◌, ℤ, nat_abs, ◌+ℤ◌, ◌-ℤ◌, ◌*ℤ◌}
+use Rattle.std.specs.Prelude.{◌≡◌, refl, [], ◌∷◌, ℕ, zero, suc, ◌+◌, ◌*◌, ◌^◌, ◌≤◌, ◌<◌, ℤ, nat_abs, ◌+ℤ◌, ◌-ℤ◌, ◌*ℤ◌}
 use Rattle.std.proofs.Math.Path.{sym, ap}
 use Rattle.std.proofs.Common.{◌∙◌, add_comm, SFits}
 use native.Mathlib.Omega.{arith}

@@ -1,6 +1,6 @@
 -- The patent's recurrences (4) and (5) equal the direct sums, at any lag and for any sound, the eighth-rate one too; a lag more takes two squares;
 -- and the sums of 16-bit samples are bounded. All by one law of sums: a window that moves on by one (`slide`).
-use Rattle.std.specs.Prelude.{◌≡◌, refl, ℕ, suc, ◌+◌, ◌-◌, ◌*◌, ◌^◌, ◌≤◌, ◌<◌, ℤ, pos, ◌+ℤ◌, ◌-ℤ◌, ◌*ℤ◌}
+use Rattle.std.specs.Prelude.{◌≡◌, refl, ℕ, suc, ◌+◌, ◌*◌, ◌^◌, ◌≤◌, ◌<◌, ℤ, pos, ◌+ℤ◌, ◌-ℤ◌, ◌*ℤ◌}
 use Rattle.std.proofs.Common.{◌∙◌, zero-add, suc-add, arith, SFits}
 use Rattle.std.proofs.Math.Path.{ap}
 use Rattle.std.specs.Int.{w16}

@@ -5,7 +5,6 @@ use Rattle.std.proofs.Math.Path.{refl}
 use Rattle.std.proofs.Common.{sym, subst, add-sub_of_le, lt_irrefl, lt_of_le_of_lt, lt_of_lt_of_le, le_of_lt, mul-le-mul_right, arith, ltb-true, eq-eqb, ne_eqb}
 use Rattle.std.proofs.Math.Nat.{pow-le-pow_left}
 use Rattle.whole.specs.Tests.{and_left, and_right}
-use Rattle.rules.specs.Every.{every}
 use Rattle.rules.proofs.Every.{at_each_place}
 use Rattle.rules.specs.Rules.{cd_rate, film_rate, cd_table, film_table, table, first_note, notes, note_period}
 use Rattle.rules.specs.Facts.{SampleRate, cd, film, OfTable}

@@ -1,5 +1,5 @@
 -- What is asked of numbers that are kept: settings and pitch in their ranges, a position in bounds, sums that are the direct ones. Definitions only.
-use Rattle.std.specs.Prelude.{◌≡◌, List, ◌++◌, ℕ, ◌+◌, ◌*◌, ◌≤◌, ◌<◌, ℤ, pos, neg_ℤ, ◌-ℤ◌, length, get_or, drop, ◌≤ℤ◌}
+use Rattle.std.specs.Prelude.{◌≡◌, List, ◌++◌, ℕ, ◌+◌, ◌≤◌, ◌<◌, ℤ, pos, neg_ℤ, ◌-ℤ◌, length, get_or, drop, ◌≤ℤ◌}
 use Rattle.whole.specs.Numbers.{list_of}
 use Rattle.rules.specs.declared.Settings.{Settings}
 use Rattle.rules.specs.declared.InForce.{InForce}

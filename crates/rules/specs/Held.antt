@@ -3,7 +3,7 @@
 use Rattle.std.specs.Prelude.{List, [], ◌∷◌, ℕ}
 use Rattle.rules.specs.declared.Tone.{Tone}
 use Rattle.rules.specs.declared.Smoothed.{Smoothed}
-use Rattle.rules.specs.Tuning.{smoothed, TrackingStep}
+use Rattle.rules.specs.Tuning.{TrackingStep}
 
 -- ---- Tracking steps toward one raw rate
 

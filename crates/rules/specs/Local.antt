@@ -1,7 +1,7 @@
 -- One sample's step looks at the newest 1,764 samples and the newest 224 eighth-rate samples, and no further: takes that agree there step alike.
 -- Tracking looks at lags up to 880, so at twice as many samples; finding at eighth-rate lags up to 110; the reading at ages up to 1,005.
 use Rattle.std.specs.Prelude.{◌≡◌, ℤ}
-use Prim.Native.Nat.{ℕ, ◌-◌, ◌<◌}
+use Prim.Native.Nat.{ℕ, ◌<◌}
 use Rattle.rules.specs.declared.InForce.{InForce}
 use Rattle.rules.specs.Rules.{Sound, Take, stepped}
 

@@ -1,10 +1,9 @@
 -- The wanted note is the one that document 01 asks for; raw rates are nearest and lie from a half to two, and so the rate does.
 -- Notes an octave apart share their bit of the scale, so a note more than an octave off loses to its octave: no case of a mask,
 -- and none of a sample rate but in the tests computed over the tables.
-use Rattle.std.specs.Prelude.{◌≡◌, true, ℕ, ◌+◌, ◌-◌, ◌≤◌, ◌<◌}
+use Rattle.std.specs.Prelude.{◌≡◌, true, ℕ, ◌+◌, ◌≤◌, ◌<◌}
 use Rattle.std.proofs.Math.Option.{Option, none, some}
-use Rattle.whole.specs.Tests.{by}
-use Rattle.rules.specs.Rules.{table, first_note, notes, of_scale, wanted, least_rate, greatest_rate, no_note, goal}
+use Rattle.rules.specs.Rules.{first_note, notes, of_scale, least_rate, greatest_rate, no_note}
 use Rattle.rules.specs.declared.Goal.{Goal}
 use Rattle.rules.specs.Tuning.{IsWantedOf}
 

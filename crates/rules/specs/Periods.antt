@@ -2,7 +2,7 @@
 -- The eight lags move by at most one, keep their range and keep the best among them.
 use Rattle.std.specs.Prelude.{cond, ◌&&◌, ℕ, ◌+◌, ◌-◌, ltb, ℤ}
 use Rattle.std.proofs.Math.IntN.{pos}
-use Rattle.rules.specs.Rules.{Sound, D, best, offset, period}
+use Rattle.rules.specs.Rules.{Sound, D, offset}
 
 -- ---- the period
 

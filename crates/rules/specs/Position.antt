@@ -2,8 +2,7 @@
 -- A cycle is longer than what a rate can run ahead, and shorter than 1,000 samples, so one of them mends either bound and never breaks the other.
 use Rattle.std.specs.Prelude.{◌≡◌, ℕ, ◌+◌, ◌*◌, ◌-◌, ◌/◌, ◌≤◌, length, ℤ, ◌-ℤ◌}
 use Rattle.std.proofs.Math.IntN.{pos}
-use Rattle.whole.specs.Tests.{by}
-use Rattle.rules.specs.Rules.{Growth, greatest_period, input_at, growth}
+use Rattle.rules.specs.Rules.{Growth, greatest_period, input_at}
 
 -- ---- the bounds
 

@@ -1,6 +1,5 @@
 -- The ranges that every sample of a take keeps, whatever it is: those of its pitch, and the bounds of the read position.
 -- A tone in its ranges paces the position, and a position so paced keeps its bounds: never ahead, never over 1,000 samples behind.
-use Rattle.std.specs.Prelude.{◌-◌}
 use Rattle.rules.specs.Rules.{Take}
 use Rattle.rules.specs.Facts.{PitchIn, InBounds}
 

@@ -1,9 +1,8 @@
 -- The reading through four neighbours: with u = 0 it is the sample, on a straight line the line's value rounded down, and always a sample of 16 bits.
 -- The square and the cube vanish on a straight line; what is left lies between two samples, so that it need not be held.
-use Rattle.std.specs.Prelude.{◌-◌, ◌^◌}
+use Rattle.std.specs.Prelude.{◌^◌}
 use Rattle.std.proofs.Math.IntN.{pos}
 use Rattle.whole.specs.Ring.{Expr, con, ◌⊕◌, ◌⊖◌, ◌⊗◌}
-use Rattle.rules.specs.Rules.{curve}
 
 -- ---- the curve as an expression, with the factors of its square and its cube
 abbrev pub square_x : Expr → Expr → Expr → Expr → Expr

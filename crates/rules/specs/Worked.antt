@@ -1,7 +1,7 @@
 -- Document 01's worked numbers, number 11 as document 02's K12 has it, and those of K8: one table, and one statement over it, about the definitions; and the
 -- whole case of document 01. Definitions only: they are computed in Computed.
-use Rattle.std.specs.Prelude.{◌≡◌, Bool, true, false, List, [], ◌∷◌, ℕ, ◌+◌, ◌*◌, ◌/◌, ℤ, pos, negsuc, neg_ℤ, ◌+ℤ◌}
-use Rattle.std.proofs.Math.Option.{Option, none, some}
+use Rattle.std.specs.Prelude.{◌≡◌, Bool, true, false, List, [], ◌∷◌, ℕ, ◌*◌, ◌/◌, ℤ, pos, neg_ℤ, ◌+ℤ◌}
+use Rattle.std.proofs.Math.Option.{some}
 use Rattle.rules.specs.Rules.{Sound, silence, heard_all, E, H, D, eighth_sample, meets_eps, meets_floor, offset, start_number, cd_rate, film_rate, note_period, wanted, scale_mode, no_note, wanted_period, raw_rate, goal_of, smooth_rate, smooth_kept, through, growth, fresh_take, gives, samples_out}
 
 -- the sound of some samples alone, the oldest first, as document 01 prints them

@@ -1,9 +1,9 @@
 -- A loop that adds f 0, f 1, .. into a signed local: what its invariant says, and that a turn keeps it.
-use Rattle.std.specs.Prelude.{◌≡◌, refl, ℕ, ◌+◌, ◌*◌, ◌^◌, ◌≤◌, ◌<◌, T, ltb, ℤ, pos, nat_abs, ◌+ℤ◌}
-use Rattle.std.proofs.Common.{sym, ap, ◌∙◌, mul-suc, mul-le-mul_left, le_trans, arith, add-one}
+use Rattle.std.specs.Prelude.{◌≡◌, ℕ, ◌+◌, ◌*◌, ◌^◌, ◌≤◌, ◌<◌, T, ltb, ℤ, pos, nat_abs, ◌+ℤ◌}
+use Rattle.std.proofs.Common.{sym, ◌∙◌, mul-suc, mul-le-mul_left, le_trans, arith, add-one}
 use Rattle.std.specs.Int.{Width}
 use mir.Val.{SFits, hbits, to_z, of_z}
-use Rattle.whole.specs.Bounds.{Within, nat_abs-add}
+use Rattle.whole.specs.Bounds.{nat_abs-add}
 use Rattle.whole.specs.Words.{Bits, ok_of, kept_of_lem, fit}
 use Rattle.whole.specs.Sums.{addsℤ, fold-zero, fold_step}
 use Rattle.whole.specs.Numbers.{sum}

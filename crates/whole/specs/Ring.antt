@@ -1,6 +1,6 @@
 -- Equations of the ring ℤ, by computation: `solve ρ e f refl : eval ρ e ≡ eval ρ f`, where the expressions e and f have one polynomial.
-use Rattle.std.specs.Prelude.{◌≡◌, refl, Bool, true, false, not, cond, ◌&&◌, List, [], ◌∷◌, ℕ, zero, suc, T, leb, ltb, eqb, get_or, ℤ, pos, negsuc, neg_ℤ, ◌+ℤ◌, ◌-ℤ◌, ◌*ℤ◌}
-use Rattle.std.proofs.Common.{sym, ap, ◌∙◌, subst, eqb→eq}
+use Rattle.std.specs.Prelude.{◌≡◌, refl, Bool, true, false, cond, ◌&&◌, List, [], ◌∷◌, ℕ, zero, suc, T, leb, ltb, eqb, get_or, ℤ, pos, negsuc, neg_ℤ, ◌+ℤ◌, ◌-ℤ◌, ◌*ℤ◌}
+use Rattle.std.proofs.Common.{sym, ap, ◌∙◌, eqb→eq}
 use Rattle.std.proofs.Math.IntN.{+ℤ_assoc, +ℤ_comm, +ℤ_idl, +ℤ_idr, suc_ℤ-*ℤ, zero-*ℤ, *ℤ_comm}
 use Rattle.whole.specs.RingLaws.{*ℤ-distribʳ, *ℤ-distribˡ, *ℤ-assoc, neg-*ℤ}
 

@@ -1,5 +1,5 @@
 -- What a test that was made says, and the parts of a test that held.
-use Rattle.std.specs.Prelude.{◌≡◌, refl, Bool, true, false, not, cond, ◌&&◌, ◌||◌, ℕ, zero, suc, ◌+◌, ◌-◌, ◌≤◌, T, leb, eqb}
+use Rattle.std.specs.Prelude.{◌≡◌, refl, Bool, true, false, not, cond, ◌&&◌, ◌||◌, ℕ, ◌+◌, ◌-◌, ◌≤◌, T, leb, eqb}
 use Rattle.std.proofs.Common.{subst, sym, ◌∙◌, arith, le-leb, leb-true, leb-false, eqb-true}
 use Rattle.std.proofs.lemmas.Bool.{not-true, not-false, lt-leb, eqb-false}
 
