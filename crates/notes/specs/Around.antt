@@ -7,7 +7,6 @@ use Rattle.whole.specs.Tests.{by, yes_and_no}
 use Rattle.rules.specs.Rules.{table, first_note, notes, note_period, of_scale, away, wanted}
 use Rattle.rules.specs.Facts.{SampleRate}
 use Rattle.rules.proofs.Table.{table-length}
-use Rattle.rules.specs.Tuning.{IsWanted}
 use Rattle.rules.specs.Notes.{end}
 use Rattle.rules.proofs.Notes.{wanted-some, is-wanted, table-falls}
 

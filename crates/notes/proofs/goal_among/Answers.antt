@@ -3,7 +3,7 @@ use mathlib.Core.Path.{◌≡◌, sym, ap, ◌∙◌}
 use Prim.Native.Nat.{ℕ, ◌+◌}
 use native.Mathlib.Omega.{arith}
 use lib.ListN.{get_or}
-use Rattle.rules.specs.Rules.{first_note, note_period, wanted, raw_rate, note_of, goal_of}
+use Rattle.rules.specs.Rules.{first_note, note_period, raw_rate, note_of, goal_of}
 use Rattle.rules.proofs.Table.{table-span}
 use Rattle.rules.specs.Tuning.{IsWanted}
 use Rattle.rules.proofs.Notes.{wanted-is, wanted_of_table, note_period_range, raw_range, goal_of_scale}

@@ -1,5 +1,4 @@
 use mathlib.Core.Path.{◌≡◌}
-use Prim.Native.Nat.{◌-◌}
 use native.Mathlib.Omega.{arith}
 use Rattle.notes.specs.Around.{whole-table}
 use Rattle.notes.proofs.longer.Goals as goal

@@ -7,7 +7,7 @@ use native.Mathlib.Omega.{arith}
 use lib.ListN.{length, get_or}
 use Rattle.rules.specs.Rules.{first_note, notes, note_period, wanted}
 use Rattle.notes.specs.Around.{at_place, as_long, higher-wanted, lower-wanted, some-higher}
-use Rattle.notes.proofs.nearest.Goals.{After-first_of_scale-high, Else-high-count}
+use Rattle.notes.proofs.nearest.Goals.{After-first_of_scale-high}
 use Rattle.notes.proofs.nearest.Goals as goal
 
 -- what is known when f sides have been searched
@@ -53,6 +53,18 @@ module _ (f : After-first_of_scale-high) where
   under : high < notes hertz → upper ≤ sung
   under h = f.longer-k.ensures.shorter _ (omega (arith, f.first_of_scale-high.ensures.from)) (omega arith)
 
+  abbrev periods : List ℕ
+  periods = f.args.periods.now
+
+  as_many : length periods ≡ notes hertz
+  as_many = as_long f.requires.0 f.requires.1
+
+  long : get_or periods (low - 1) 0 ≡ lower
+  long = at_place _ f.requires.1 _
+
+  short : get_or periods high 0 ≡ upper
+  short = at_place _ f.requires.1 _
+
 pub returns-then-low-eq0 : goal.returns-then-low-eq0
 returns-then-low-eq0 c =
     let f = c in
@@ -63,42 +75,33 @@ returns-then-low-eq0 c =
 pub returns-then-high-count : goal.returns-then-high-count
 returns-then-high-count c = the_last (goal.at.returns-then-high-count c).After-first_of_scale-high (omega arith) (λ k. absurd (omega (arith, c.count.ensures)))
 
--- c are there, and their periods lie on the two sides of the sung one
-module _ (c : Else-high-count) where
-  some-low : 0 < low c.before.before.before
-  some-low = omega arith
-
-  some-high : high c.before.before.before < notes (hertz c.before.before.before)
-  some-high = omega (arith, c.count.ensures, c.first_of_scale-high.ensures.upto)
-
-  abbrev periods : List ℕ
-  periods = c.args.periods.now
-
-  as_many : length periods ≡ notes (hertz c.before.before.before)
-  as_many = as_long c.requires.0 c.requires.1
-
-  long : get_or periods (low c - 1) 0 ≡ lower c.before.before.before
-  long = at_place _ c.requires.1 _
-
-  short : get_or periods (high c) 0 ≡ upper c.before.before.before
-  short = at_place _ c.requires.1 _
-
+-- both are there, and their periods lie on the two sides of the sung one
 pub bounds-periods-low : goal.bounds-periods-low
 bounds-periods-low c =
-    let w = c in
-    omega (arith, as_many (goal.at.bounds-periods-low c).Else-high-count, the-last-within (goal.at.bounds-periods-low c).After-first_of_scale-high (some-low (goal.at.bounds-periods-low c).Else-high-count))
+    let f = (goal.at.bounds-periods-low c).After-first_of_scale-high in
+    let lo : 0 < low f = omega arith in omega (arith, as_many f, the-last-within f lo)
 
 pub bounds-periods-high : goal.bounds-periods-high
-bounds-periods-high c = let w = c in omega (arith, as_many (goal.at.bounds-periods-high c).Else-high-count, some-high (goal.at.bounds-periods-high c).Else-high-count)
+bounds-periods-high c =
+    let f = (goal.at.bounds-periods-high c).After-first_of_scale-high in
+    let hi : high f < notes (hertz f) = omega (arith, c.count.ensures, c.first_of_scale-high.ensures.upto) in omega (arith, as_many f, hi)
 
 pub overflow_sub-period : goal.overflow_sub-period
-overflow_sub-period c = let w = c in omega (arith, short (goal.at.overflow_sub-period c).Else-high-count, under (goal.at.overflow_sub-period c).After-first_of_scale-high (some-high (goal.at.overflow_sub-period c).Else-high-count))
+overflow_sub-period c =
+    let f = (goal.at.overflow_sub-period c).After-first_of_scale-high in
+    let hi : high f < notes (hertz f) = omega (arith, c.count.ensures, c.first_of_scale-high.ensures.upto) in omega (arith, short f, under f hi)
 
 pub overflow_sub-a-2 : goal.overflow_sub-a-2
-overflow_sub-a-2 c = let w = c in omega (arith, long (goal.at.overflow_sub-a-2 c).Else-high-count, over (goal.at.overflow_sub-a-2 c).After-first_of_scale-high (some-low (goal.at.overflow_sub-a-2 c).Else-high-count))
+overflow_sub-a-2 c =
+    let f = (goal.at.overflow_sub-a-2 c).After-first_of_scale-high in
+    let lo : 0 < low f = omega arith in omega (arith, long f, over f lo)
 
 pub returns-then-period-b : goal.returns-then-period-b
-returns-then-period-b c = let w = c in the-first (goal.at.returns-then-period-b c).After-first_of_scale-high (some-high (goal.at.returns-then-period-b c).Else-high-count) (λ k. omega (arith, long (goal.at.returns-then-period-b c).Else-high-count, short (goal.at.returns-then-period-b c).Else-high-count))
+returns-then-period-b c =
+    let f = (goal.at.returns-then-period-b c).After-first_of_scale-high in
+    let hi : high f < notes (hertz f) = omega (arith, c.count.ensures, c.first_of_scale-high.ensures.upto) in the-first f hi (λ k. omega (arith, long f, short f))
 
 pub returns-else-period-b : goal.returns-else-period-b
-returns-else-period-b c = let w = c in the_last (goal.at.returns-else-period-b c).After-first_of_scale-high (some-low (goal.at.returns-else-period-b c).Else-high-count) (λ k. omega (arith, long (goal.at.returns-else-period-b c).Else-high-count, short (goal.at.returns-else-period-b c).Else-high-count))
+returns-else-period-b c =
+    let f = (goal.at.returns-else-period-b c).After-first_of_scale-high in
+    let lo : 0 < low f = omega arith in the_last f lo (λ k. omega (arith, long f, short f))
