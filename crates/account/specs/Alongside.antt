@@ -100,7 +100,7 @@ voice_alike {f} r interval {t} {u} h a {at} b (x ∷ xs) =
     let v = voiced_by f.hertz interval (stepped f t x) at in
     let here = subst (λ (n : ℕ). InBounds n v.position) (next-count f t x) (beside_in_bounds r interval x h b) in
     let same = beside-alike f.hertz interval (stepped f t x) (stepped f u x) at one.0 one.1 here in
-    let rest = voice_alike r interval next one.0 here xs in (
+    let rest = voice_alike r interval {t = (stepped f t x).next} {u = (stepped f u x).next} next one.0 here xs in (
       rest.0 ∙ ap (λ (w : Voiced). voice_after f interval (stepped f u x).next w.position xs) same,
       λ i. same i ∷ (rest.1 ∙ ap (λ (w : Voiced). voice_gives f interval (stepped f u x).next w.position xs) same) i,
     )

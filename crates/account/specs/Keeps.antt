@@ -494,10 +494,10 @@ module _ (P : Received → Tuner → List ℕ → Type 0) (carried : Carried P) 
   unfolding after_block
   goes {n = n} {os = os} h l all_done = went_none n n [] os h refl refl
   goes {k = k} {n} h l (refused {xs = xs} {xss = xss} {ps = ps} {a = a} p m) = let e = added-refused n k a a.number m in went_none n (added_by a.number n k a) (xs ∷ xss) ps (untaken_both h p (omega arith)) e.0 e.1
-  goes {k = k} {n} h l (and_on {u = u} {xs = xs} {ps = ps} {a = a} p m o) =
+  goes {r = r} h l (and_on {t = t} {u = u} {t' = t'} {k = k} {n = n} {n' = n''} {xs = xs} {xss = xss} {os = os} {ps = ps} {qs = qs} {store = store} {mid = mid} {store' = store'} {a = a} p m o) =
       let z : a.number ≡ 0 = new-taken p m l in
       went_on {n = n} h.0 p z (rest-many (length xs) ps o)
-      (goes (taken-keeps h.0 p z, carried.step h.0 h.1 p z) (not_itself u k (ap (λ (v : Tuner). v.numbers.last.number) (taken_is h.0 p z))) o)
+      (goes {r = more_samples r a.written xs (counted_by a) ps} (taken-keeps h.0 p z, carried.step h.0 h.1 p z) (not_itself u k (ap (λ (v : Tuner). v.numbers.last.number) (taken_is h.0 p z))) o)
 
   -- all blocks of a night, from nothing on
   abbrev Nights : Received → NightAnswer → List ℤ → List (List ℤ) → Tuner → List ℕ → Type 0

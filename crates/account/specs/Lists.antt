@@ -22,7 +22,7 @@ use Rattle.tuner.specs.declared.Tuner.{Tuner}
 use Rattle.tuner.specs.declared.Answer.{Answer}
 use Rattle.tuner.specs.Tuners.{take_of, force_of, fresh_numbers, silent_tuner, fresh_tuner, default_tuner, list_after, after_block, Took, kept_list, begun_again, with_keys, Done}
 use Rattle.staying.specs.Staying.{took-taken, untaken_unchanged}
-use Rattle.account.specs.Account.{Call, by-start, by-change, by-block, by-night, by-midi, by-reset, by-meter, Series, and_then, Received, begun, course_of, given_of, with_events, with_samples, counted_by, if_taken, plus, received, notes_of, Lent, at-start, at-reset, not_reset, to_block, to-night, past-change, past-midi, past-meter, ListTheorem}
+use Rattle.account.specs.Account.{Call, fresh_start, by-start, by-change, by-block, by-night, by-midi, by-reset, by-meter, Series, and_then, Received, begun, course_of, given_of, with_events, with_samples, counted_by, if_taken, plus, received, notes_of, Lent, at-start, at-reset, not_reset, to_block, to-night, past-change, past-midi, past-meter, ListTheorem}
 use Rattle.account.specs.Cutting.{lead_after, ListCutting}
 use Rattle.account.specs.Keeps.{Keeps, more_samples, Carried, gives-is, taken-length, nighted_keeps, series-keeps}
 
@@ -122,6 +122,7 @@ listed_so {began = began} (and_then {cs = ds} {t' = t'} h (by-midi {bytes = byte
     if_taken_lem began (received ds) (with_events (received ds) (map byte bytes)) p
     (λ e. events-listed (series-keeps h) began (map byte bytes) t' (given-bytes (course_of (received ds)) bytes) (ap (λ (u : Tuner). u.numbers.list) e) (listed_so h l)) (listed_so h l)
 listed_so (and_then h (by-meter p)) (past-meter l) = listed_so h l
+listed_so fresh_start l = elim l [ ]
 
 pub list-holds : ListTheorem
 unfolding after_pieces flatten
