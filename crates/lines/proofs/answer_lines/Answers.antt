@@ -1,3 +1,4 @@
+-- `lines::answer_lines` meets its contract: the lines passed are answered, and each answer stands after those before it.
 use native.Mathlib.Omega.{arith}
 use mathlib.Core.Path.{refl, ◌∙◌}
 use Prim.Native.Nat.{◌+◌, ◌-◌}
@@ -6,26 +7,7 @@ use lib.ListN as list
 use lib.ListN.{take, drop}
 use Rattle.lines.specs.Lines.{desk}
 use Rattle.lines.specs.Batch.{Batch, none-answered, length_so_far, batch_more, no_room_left, no_line_left}
-use Rattle.lines.proofs.answer_lines.Goals.{After-answer_line-r, At-loop-end, Start}
 use Rattle.lines.proofs.answer_lines.Goals as goal
-
--- one line more
-module _ (c : After-answer_line-r invariant-loop decreases-loop) where
-  abbrev loop : At-loop-end invariant-loop decreases-loop
-  loop = c
-
-  abbrev start : Start invariant-loop decreases-loop
-  start = loop
-
-  answered-more : Batch
-      (desk start.args.t start.args.store.now)
-      start.args.input.now
-      start.args.out.now
-      (desk c.answer_line-r.result.tuner c.answer_line-r.new.1.1.1.0)
-      (loop.loop.end + 1)
-      (loop.loop.length + c.answer_line-r.result.length)
-      (take loop.loop.length loop.loop.out ++ (c.answer_line-r.new.1.1.0 ++ drop (list.length loop.loop.out - loop.loop.length) (drop loop.loop.length loop.loop.out)))
-  answered-more = batch_more loop.loop.inv.1 loop.loop.inv.0 c.loop-end-test.true c.if-out-length-lt4096.false c.answer_line-r.ensures.0 c.answer_line-r.auto.1.1.0
 
 pub loop-end-init : goal.loop-end-init
 loop-end-init c = (c.first-end.ensures, none-answered, refl)
@@ -61,8 +43,8 @@ slice_bounds-answer_line-start-in-loop-end c = length_so_far c.loop-end.invarian
 
 pub overflow_add-length : goal.overflow_add-length
 overflow_add-length c =
-    let b = answered-more c in
-    record { fits = omega (arith, length_so_far b, b.same, (start c).good.1.1.0.0) }
+    let b = batch_more c.loop-end.invariant.1 c.loop-end.invariant.0 c.loop-end-test.true c.if-out-length-lt4096.false c.answer_line-r.ensures.answered c.answer_line-r.auto.out in
+    omega (arith, length_so_far b, b.same)
 
 pub overflow_add-at : goal.overflow_add-at
 overflow_add-at c = let l = c in omega (arith, l.loop-end-test.true, l.well_formed)
@@ -74,7 +56,7 @@ pub loop-end-smaller : goal.loop-end-smaller
 loop-end-smaller c = let l = c in omega (arith, l.loop-end-test.true, l.loop-end.invariant.0.after)
 
 pub loop-end-preserved : goal.loop-end-preserved
-loop-end-preserved c = let a = c in (c.first-end-in-loop-end.ensures, answered-more a, a.answer_line-r.auto.1.1.1.0 ∙ (loop a).loop.invariant.2)
+loop-end-preserved c = let a = c in (c.first-end-in-loop-end.ensures, batch_more c.loop-end.invariant.1 c.loop-end.invariant.0 c.loop-end-test.true c.if-out-length-lt4096.false c.answer_line-r.ensures.answered c.answer_line-r.auto.out, c.answer_line-r.auto.store ∙ c.loop-end.invariant.2)
 
 pub shape_of-out : goal.shape_of-out
 shape_of-out c = c.loop-end.invariant.1.same

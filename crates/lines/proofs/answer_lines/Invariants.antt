@@ -1,4 +1,4 @@
--- `lines::answer_lines` meets its contract: the lines passed are answered, and each answer stands after those before it.
+-- The lines passed are answered, and each answer stands after those before it.
 use mathlib.Core.Path.{◌≡◌}
 use Prim.Native.Nat.{◌-◌}
 use lib.ListN as list

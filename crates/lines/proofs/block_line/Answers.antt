@@ -22,12 +22,12 @@ returns-then-not-c c =
     let s = q in
     let k = s.number_field-k in
     let x = s.samples_from-c in
-    replied_as (block-unread k.ensures.field x.result.ok (take x.result.value x.new.1.1.0) (not-false k.result.ok s.if-not-k.false) x.ensures.values (not-true x.result.ok q.if-not-c.true)) (q.unreadable-then-not-c.ensures _)
+    replied_as (block-unread k.ensures.field x.result.ok (take x.result.value x.new.xs) (not-false k.result.ok s.if-not-k.false) x.ensures.values (not-true x.result.ok q.if-not-c.true)) (q.unreadable-then-not-c.ensures _)
 
 pub slice_bounds-block-end : goal.slice_bounds-block-end
 slice_bounds-block-end c =
     let x = c.samples_from-c in
-    sym (length-take-le x.result.value x.new.1.1.0 (omega (arith, x.ensures.many, x.ensures.long)))
+    sym (length-take-le x.result.value x.new.xs (omega (arith, x.ensures.many, x.ensures.long)))
 
 pub say_block-length-requires : goal.say_block-length-requires
 say_block-length-requires c = let b = c in (omega (arith, b.requires.2), took-few b.block-d.ensures, search rules)
@@ -44,10 +44,10 @@ returns c =
     let l = b.block-d.new in
     let m = b.block-d.auto in
     replied_as
-    (block_read k.ensures.field x.result.ok (take x.result.value x.new.1.1.0) (not-false k.result.ok s.if-not-k.false) x.ensures.values (not-false x.result.ok e.if-not-c.false))
+    (block_read k.ensures.field x.result.ok (take x.result.value x.new.xs) (not-false k.result.ok s.if-not-k.false) x.ensures.values (not-false x.result.ok e.if-not-c.false))
     (record {
-      text = block_line b.block-d.result.answer l.1.1.1.0;
-      said = taken (took-alone l.1.1.1.1.0 l.1.1.1.1.1.0 l.1.1.1.1.1.1.0 m.1.1.1.1.0 m.1.1.1.1.1.0 m.1.1.1.1.1.1.0 b.block-d.ensures);
+      text = block_line b.block-d.result.answer l.out;
+      said = taken (took-alone l.first l.second l.third m.first m.second m.third b.block-d.ensures);
       begun = refl;
       put = q.say_block-length.ensures;
     })

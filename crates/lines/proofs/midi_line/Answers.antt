@@ -1,23 +1,22 @@
 -- `lines::midi_line` meets its contract: the call's own promise over the bytes read, and the number that it answers.
 use native.Mathlib.Omega.{arith}
 use mathlib.Core.Path.{◌≡◌, refl, sym, ap, ◌∙◌}
+use mathlib.Core.List.{List}
+use Prim.Native.Nat.{ℕ, ◌<◌}
 use mathlib.Core.Option.{map}
 use borrow.Author.Tests.{not-true, not-false}
-use lib.ListN.{take}
+use lib.ListN.{length, take}
 use lib.Seq.{length-take-le}
 use Rattle.text.specs.Text.{number}
 use Rattle.text.specs.Fields.{later, later-end, later-some}
 use Rattle.lines.specs.Lines.{midi, each, line_of, midi_in, begins, keyed}
 use Rattle.lines.specs.Laws.{line_read, line-unread, midi-some}
 use Rattle.lines.specs.Steps.{replied_as, replied_number}
-use Rattle.lines.proofs.midi_line.Goals.{Else-at-line}
 use Rattle.lines.proofs.midi_line.Goals as goal
 
 -- there is a field
-some_byte : (c : Else-at-line) → let fs = later c.args.line.now c.args.at in midi_in fs ≡ line_of (map midi (each (number 255) fs))
-some_byte c =
-    let a = c.args in
-    midi-some (later a.line.now a.at) (later-some a.line.now a.at (omega arith))
+some_byte : (line : List ℕ) (at : ℕ) → at < length line → let fs = later line at in midi_in fs ≡ line_of (map midi (each (number 255) fs))
+some_byte line at h = midi-some (later line at) (later-some line at h)
 
 pub returns-then-at-line : goal.returns-then-at-line
 unfolding midi_in
@@ -31,12 +30,12 @@ returns-then-not-c c store =
     let q = c in
     let b = q in
     let x = b.bytes_from-c in
-    replied_as (some_byte (goal.at.returns-then-not-c c).Else-at-line ∙ line-unread midi x.result.ok (take x.result.value x.new.1.1.0) x.ensures.values (not-true x.result.ok q.if-not-c.true)) (q.unreadable-then-not-c.ensures store)
+    replied_as (some_byte c.args.line.now c.args.at (omega arith) ∙ line-unread midi x.result.ok (take x.result.value x.new.bytes) x.ensures.values (not-true x.result.ok q.if-not-c.true)) (q.unreadable-then-not-c.ensures store)
 
 pub slice_bounds-midi-end : goal.slice_bounds-midi-end
 slice_bounds-midi-end c =
     let x = c.bytes_from-c in
-    sym (length-take-le x.result.value x.new.1.1.0 (omega (arith, x.ensures.many, x.ensures.long)))
+    sym (length-take-le x.result.value x.new.bytes (omega (arith, x.ensures.many, x.ensures.long)))
 
 pub returns : goal.returns
 unfolding begins
@@ -46,5 +45,5 @@ returns c store =
     let e = m in
     let b = e in
     let x = b.bytes_from-c in
-    replied_as (some_byte (goal.at.returns c).Else-at-line ∙ line_read midi x.result.ok (take x.result.value x.new.1.1.0) x.ensures.values (not-false x.result.ok e.if-not-c.false))
+    replied_as (some_byte c.args.line.now c.args.at (omega arith) ∙ line_read midi x.result.ok (take x.result.value x.new.bytes) x.ensures.values (not-false x.result.ok e.if-not-c.false))
     (replied_number (keyed m.midi-d.ensures) refl q.say.ensures)
