@@ -1,22 +1,17 @@
 -- `reporting::begin_take` meets its contract: the newest take is one of the older, its line after theirs and its figures added to theirs.
 use mathlib.Core.Path.{refl}
 use native.Mathlib.Omega.{arith}
-use Rattle.reporting.specs.Keeping.{Room, keeps-room, keeps-begun, keeps_too_many}
-use Rattle.reporting.proofs.begin_take.Goals.{Else-r-ge1000}
+use Rattle.reporting.specs.Keeping.{keeps-room, keeps-begun, keeps_too_many}
 use Rattle.reporting.proofs.begin_take.Goals as goal
 
 pub returns-then-r-ge1000 : goal.returns-then-r-ge1000
 returns-then-r-ge1000 c = (refl, λ takes k. keeps_too_many c.if-r-ge1000.true k)
 
--- there is room, while there are fewer than 1,000
-room : (c : Else-r-ge1000) → Room c.args.r
-room c = keeps-room c.requires.0.keeps (omega (arith, c.if-r-ge1000.false))
-
 pub put_line-n-requires : goal.put_line-n-requires
-put_line-n-requires c = omega (arith, (room (goal.at.put_line-n-requires c).Else-r-ge1000).length, c.requires.1)
+put_line-n-requires c = omega (arith, (keeps-room c.requires.0.keeps (omega (arith, c.if-r-ge1000.false))).length, c.requires.1)
 
 pub add-total-requires : goal.add-total-requires
-add-total-requires c = let r = room (goal.at.add-total-requires c).Else-r-ge1000 in (r, r.now)
+add-total-requires c = let r = keeps-room c.requires.0.keeps (omega (arith, c.if-r-ge1000.false)) in (r, r.now)
 
 pub returns : goal.returns
 returns c =

@@ -15,7 +15,7 @@ write_report-requires-2 c =
     let s = l in
     let f = s.requires.0.1 in
     let d = l.report_line-q.ensures f.takes f.keeps in
-    (record { takes = _; keeps = d.keeps }, omega (arith, l.report_line-q.auto.1.1.0, s.requires.1))
+    (record { takes = _; keeps = d.keeps }, omega (arith, l.report_line-q.auto.out, s.requires.1))
 
 pub returns : goal.returns
 returns c =
