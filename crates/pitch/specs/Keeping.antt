@@ -1,10 +1,9 @@
 -- A pitch as it is kept is what is kept of its pitch, over the sound over which it is right.
-use Rattle.std.specs.Prelude.{◌≡◌, refl, ℕ, ◌+◌, ◌≤◌, ◌<◌, length, get_or, ℤ, pos, List}
+use Rattle.std.specs.Prelude.{◌≡◌, refl, ℕ, ◌+◌, ◌≤◌, ℤ, pos, List}
 use Rattle.std.proofs.Common.{sym, ap, ◌∙◌, arith}
-use Rattle.whole.specs.Numbers.{list_of}
 use Rattle.whole.specs.Lists.{is-list_of, length-list_of, get_or-list_of}
 use Rattle.rules.specs.Rules.{Sound, E, H, Mode, searching, tracking, Pitch}
-use Rattle.rules.specs.Facts.{ModeIn, PitchIn, Right, energies_of, correlations_of}
+use Rattle.rules.specs.Facts.{PitchIn, Right, energies_of, correlations_of}
 use Rattle.pitch.specs.declared.Pitch.{Pitch as KeptPitch}
 use Rattle.pitch.specs.Pitches.{mode_of, pitch_of, PitchRight, tracking_of, blank, tracker_of, kept_of}
 use Rattle.pitch.specs.Listening.{is-tracking, is-searching}

@@ -1,16 +1,15 @@
 -- What searching and tracking make of a kept pitch is what the rules make of its pitch.
-use Rattle.std.specs.Prelude.{◌≡◌, Bool, true, false, not, cond, List, ℕ, ◌+◌, ◌-◌, ◌%◌, ◌≤◌, ◌<◌, eqb, ℤ}
+use Rattle.std.specs.Prelude.{◌≡◌, true, false, List, ℕ, ◌+◌, ◌-◌, ◌%◌, ◌≤◌, ℤ}
 use Rattle.std.proofs.Math.Path.{refl, ap}
 use Rattle.std.proofs.Common.{sym, ◌∙◌, arith, SFits}
-use Rattle.std.proofs.Math.Option.{Option, none, some}
+use Rattle.std.proofs.Math.Option.{none, some}
 use borrow.Author.Tests.{not-true, not-false, eq-eqb, ne_eqb}
 use Rattle.std.specs.Int.{w16}
 use Rattle.whole.specs.Tests.{cond_yes, cond_no}
-use Rattle.rules.specs.declared.Settings.{Settings}
 use Rattle.rules.specs.declared.InForce.{InForce}
 use Rattle.rules.specs.declared.Tone.{Tone}
-use Rattle.rules.specs.Rules.{Sound, Mode, searching, tracking, Pitch, no_tone, no_period, searched, found, tracked, tuned, best, period, moved, is_lost, eighth_due, step_due, listened_in, listened, eighth_lags}
-use Rattle.rules.specs.Facts.{InRange, ForceIn, ToneIn, unpitched, LagsIn, ModeIn, PitchIn, Right}
+use Rattle.rules.specs.Rules.{Sound, searching, tracking, Pitch, no_tone, no_period, searched, found, tracked, tuned, best, period, moved, is_lost, eighth_due, step_due, listened_in, listened, eighth_lags}
+use Rattle.rules.specs.Facts.{ForceIn, ToneIn, unpitched, LagsIn, PitchIn, Right}
 use Rattle.rules.proofs.Choosing.{found_range}
 use Rattle.rules.proofs.Notes.{tuned_in}
 use Rattle.rules.proofs.Sane.{tracking_is_not_searching}

@@ -10,21 +10,17 @@ find-lag-requires c = let p = c.requires in (kept-sums p.2, modest p.1, p.3)
 
 pub locked-requires : goal.locked-requires
 locked-requires c =
-    let k = c in
-    let a = k.args in
-    let p = k.requires in
-    let f = found-lag a.f (ago a.s.now a.m) a.v k.find-lag.result k.find-lag.ensures p.2 c.lag-1.given.0.0 (ap lag_of c.lag-1.given.1) in
+    let a = c.args in
+    let p = c.requires in
+    let f = found-lag a.f (ago a.s.now a.m) a.v c.find-lag.result c.find-lag.ensures p.2 c.in-At.l (ap lag_of c.in-At.is) in
     (f.0, f.1, p.3)
 
 pub returns-in-Nothing : goal.returns-in-Nothing
 returns-in-Nothing c =
-    let k = c in
-    let a = k.args in
-    searched-none a.f (ago a.s.now a.m) a.v k.find-lag.result k.find-lag.ensures (ap lag_of c.enum_told-1.given.1) k.requires.0
+    let a = c.args in
+    searched-none a.f (ago a.s.now a.m) a.v c.find-lag.result c.find-lag.ensures (ap lag_of c.in-Nothing.is) c.requires.0
 
 pub returns-in-At : goal.returns-in-At
 returns-in-At c =
-    let f = c in
-    let k = f in
-    let a = k.args in
-    searched-some a.f (ago a.s.now a.m) a.v k.find-lag.result k.find-lag.ensures f.lag-1.given.0.0 (ap lag_of f.lag-1.given.1) c.locked.ensures
+    let a = c.args in
+    searched-some a.f (ago a.s.now a.m) a.v c.find-lag.result c.find-lag.ensures c.in-At.l (ap lag_of c.in-At.is) c.locked.ensures
