@@ -1,5 +1,5 @@
 -- An eighth-rate sample more: it is stored, and the sums at eighth rate are those with it.
-use Rattle.std.specs.Prelude.{◌≡◌, refl, List, ℕ, ◌+◌, ◌*◌, ◌/◌, ◌%◌, ◌≤◌, ◌<◌, ℤ, pos, length, get_or, set}
+use Rattle.std.specs.Prelude.{◌≡◌, List, ℕ, ◌+◌, ◌/◌, ◌%◌, ◌≤◌, ◌<◌, ℤ, pos, length, get_or, set}
 use Rattle.std.proofs.Common.{sym, ap, ◌∙◌, subst, arith, ne_eqb, length-set, SFits}
 use Rattle.std.specs.Int.{w16}
 use Rattle.rules.specs.Rules.{Sound, heard, older, eighth_sample, eighth_due, eighths_after, kept_eighths, eighth_lags}

@@ -5,8 +5,7 @@ use Rattle.std.proofs.Common.{◌∙◌, subst, add-zero, add-suc, add_assoc, ar
 use Prim.Native.Nat.{ℕ, zero, suc, ◌+◌, ◌≤◌, ◌<◌}
 use Rattle.std.proofs.Math.ListN.{length}
 use Rattle.rules.specs.declared.InForce.{InForce}
-use Rattle.rules.specs.declared.Tone.{Tone}
-use Rattle.rules.specs.Rules.{Sound, Take, Given, Step, Growth, growth, input_at, heard, reading, after, gives, stepped, samples_out, gathered, all_repeated, all_dropped, farthest, longest_block}
+use Rattle.rules.specs.Rules.{Take, Given, Step, Growth, growth, input_at, heard, reading, after, gives, stepped, samples_out, gathered, all_repeated, all_dropped}
 use Rattle.rules.proofs.Blocks.{samples_out-append, gathered-more}
 use Rattle.rules.specs.Facts.{value_at}
 use Rattle.rules.specs.Position.{Paced}

@@ -1,5 +1,5 @@
 -- Silence that goes on: without energy at lag 110 the newest 220 samples are 0, so that one more 0 changes none of the sums at eighth rate.
-use Rattle.std.specs.Prelude.{◌≡◌, refl, List, ℕ, zero, suc, ◌+◌, ◌*◌, ◌≤◌, ◌<◌, ℤ, pos, get_or}
+use Rattle.std.specs.Prelude.{◌≡◌, List, ℕ, zero, suc, ◌+◌, ◌*◌, ◌<◌, ℤ, pos, get_or}
 use Rattle.std.proofs.Common.{sym, ◌∙◌, arith}
 use Rattle.rules.specs.Rules.{Sound, heard, eighth_lags}
 use Rattle.rules.proofs.Energies.{no-energy, E-same, H-same}

@@ -2,7 +2,6 @@
 -- silence goes on, those after it too.
 use mathlib.Core.Path.{◌≡◌, sym, ap, ◌∙◌, subst}
 use Prim.Native.Nat.{◌+◌}
-use borrow.Author.Rules.{sfits_of}
 use lib.IntN.{ℤ}
 use lib.ListN.{length, set}
 use mir.Syntax.{w16}
@@ -13,16 +12,12 @@ use Rattle.rules.proofs.Hearing.{eighth-fits}
 use Rattle.ages.specs.Ages.{ago, ago-fits}
 use Rattle.sums.specs.Kept.{Enough}
 use Rattle.steps.specs.Eighths.{put-room, put-older, put-eighths, put-silence, as_many}
-use Rattle.steps.proofs.eighth.Reads as reads
-use Rattle.steps.proofs.eighth.Lts as lts
-use Rattle.ages.proofs.eighth_sample.Reads as eighth-sample-reads
-use Rattle.sums.proofs.next_all.Reads as next-all-reads
 use Rattle.steps.proofs.eighth.Goals.{After-eighth_sample-x}
 use Rattle.steps.proofs.eighth.Goals as goal
 
 -- the sample as it is stored
 stored : (c : After-eighth_sample-x) → to_z w16 (of_z w16 c.eighth_sample-x.result) ≡ eighth_sample (ago c.args.s.now c.args.m)
-stored c = to_z-of_z {w = w16} {z = c.eighth_sample-x.result} (sfits_of c.eighth_sample-x.type-inv) ∙ c.eighth_sample-x.ensures
+stored c = to_z-of_z {w = w16} {z = c.eighth_sample-x.result} (record { sfits = c.eighth_sample-x.type_inv }) ∙ c.eighth_sample-x.ensures
 
 fits : (c : After-eighth_sample-x) → SFits w16 (to_z w16 (of_z w16 c.eighth_sample-x.result))
 fits c =

@@ -1,9 +1,6 @@
 -- `steps::hear` meets its contract, by whether an eighth-rate sample is due: then the next place is still inside.
 use native.Mathlib.Omega.{arith}
 use Rattle.steps.specs.Eighths.{heard-none, heard-one}
-use Rattle.steps.proofs.hear.Reads as reads
-use Rattle.steps.proofs.hear.Lts as lts
-use Rattle.steps.proofs.eighth.Reads as eighth-reads
 use Rattle.steps.proofs.hear.Goals as goal
 
 pub eighth-requires : goal.eighth-requires
