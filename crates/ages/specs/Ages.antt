@@ -1,5 +1,5 @@
 -- A store of samples, oldest first: which sample is how far back.
-use Rattle.std.specs.Prelude.{◌≡◌, List, [], ◌∷◌, ◌++◌, ℕ, zero, suc, ◌+◌, ◌-◌, ◌≤◌, ◌<◌, ℤ, pos, length, take, drop, set}
+use Rattle.std.specs.Prelude.{◌≡◌, List, [], ◌∷◌, ℕ, zero, suc, ◌+◌, ◌-◌, ◌≤◌, ◌<◌, ℤ, pos, length, take, set}
 use Rattle.std.proofs.Common.{sym, ◌∙◌, subst, le_refl, arith, add-one, take-suc, take-suc-set, get_or-set_same, get_or-set_other, SFits}
 use Rattle.std.proofs.Math.Path.{ap}
 use Rattle.std.proofs.Math.Decide.{ℕ_discrete}
