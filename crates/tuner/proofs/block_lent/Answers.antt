@@ -42,7 +42,7 @@ module _ (c : After-judge-verdict) where
   long-here : (c.judge-verdict.result ≡ 0 → ⊥) → c.judge-verdict.result ≤ 1 → c.args.n.last.length ≡ length c.args.samples.now
   long-here n h =
       let e : c.judge-verdict.result ≡ 1 = one_left c.judge-verdict.result n h in
-      again-long verdict-here e c.requires.0.store good-then.lead.new.length
+      again-long verdict-here e c.requires.0.store good-then.lead.last.length
 
 pub returns-then-not-right : goal.returns-then-not-right
 unfolding answer_by
@@ -77,7 +77,7 @@ take-r-requires c =
     let j = (goal.at.take-r-requires c).After-judge-verdict in
     let z = c.if-verdict-ne0.false in
     let f = verdict-fits (verdict-here j) (omega (arith, z)) in
-    ((good-then j, c.requires.0, c.requires.1), (f.nonempty, f.most, verdict-zero (verdict-here j) z))
+    record { good = (good-then j, c.requires.0, c.requires.1); fits = (f.nonempty, f.most, verdict-zero (verdict-here j) z) }
 
 pub ended-requires-2 : goal.ended-requires-2
 ended-requires-2 c =
