@@ -11,7 +11,7 @@ pub put_line-n-requires : goal.put_line-n-requires
 put_line-n-requires c = omega (arith, (keeps-room c.requires.0.keeps (omega (arith, c.if-r-ge1000.false))).length, c.requires.1)
 
 pub add-total-requires : goal.add-total-requires
-add-total-requires c = let r = keeps-room c.requires.0.keeps (omega (arith, c.if-r-ge1000.false)) in (r, r.now)
+add-total-requires c = let r = keeps-room c.requires.0.keeps (omega (arith, c.if-r-ge1000.false)) in (r.before, r.now)
 
 pub returns : goal.returns
 returns c =

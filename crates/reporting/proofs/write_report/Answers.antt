@@ -14,7 +14,7 @@ pub put_line-n-requires : goal.put_line-n-requires
 put_line-n-requires c = let e = c in omega (arith, (keeps-room c.requires.0.keeps c.if-r-gt1000.false).length, e.requires.1)
 
 pub add-total-requires : goal.add-total-requires
-add-total-requires c = let r = keeps-room c.requires.0.keeps c.if-r-gt1000.false in (r, r.now)
+add-total-requires c = let r = keeps-room c.requires.0.keeps c.if-r-gt1000.false in (r.before, r.now)
 
 pub put_line-requires : goal.put_line-requires
 put_line-requires c =
