@@ -1,15 +1,14 @@
 -- Laws of the parts: each is decided by a function, and what the types alone say of them.
-use Rattle.std.specs.Prelude.{◌≡◌, refl, Bool, true, false, cond, List, ℕ, ◌+◌, ◌-◌, ◌/◌, ◌≤◌, ◌<◌, ℤ, pos, length}
+use Rattle.std.specs.Prelude.{◌≡◌, Bool, List, ℕ, ◌+◌, ◌-◌, ◌<◌, ℤ, pos, length}
 use Rattle.std.proofs.Common.{sym, ap, ◌∙◌, arith, take_all}
-use Rattle.whole.specs.Tests.{Decides, by, yes_and_no, decides_as}
-use Rattle.rules.specs.declared.Settings.{Settings}
-use Rattle.rules.specs.Rules.{Sound, silence, heard_all, searching, tracking, kept_samples, kept_eighths, eighth_lags}
-use Rattle.rules.specs.Facts.{ToneIn, LagsIn, PitchIn, value_at, Right}
+use Rattle.whole.specs.Tests.{Decides, decides_as}
+use Rattle.rules.specs.Rules.{Sound, silence, heard_all, kept_samples, kept_eighths, eighth_lags}
+use Rattle.rules.specs.Facts.{ToneIn, LagsIn, value_at, Right}
 use Rattle.rules.proofs.Sane.{tracking_is_not_searching}
 use Rattle.ages.specs.Ages.{ago, Samples}
 use Rattle.tracking.specs.declared.Tracker.{Tracker}
 use Rattle.pitch.specs.declared.Pitch.{Pitch as KeptPitch}
-use Rattle.pitch.specs.Pitches.{mode_of, pitch_of, PitchRight}
+use Rattle.pitch.specs.Pitches.{PitchRight}
 use Rattle.pitch.specs.Listening.{is-tracking, is-searching, lags_of}
 use Rattle.record.specs.declared.Heard.{Heard}
 use Rattle.record.specs.Records.{sound_of}
