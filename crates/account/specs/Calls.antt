@@ -17,8 +17,8 @@ use Rattle.tuner.specs.declared.Last.{Last}
 use Rattle.tuner.specs.declared.Tuner.{Tuner}
 use Rattle.tuner.specs.declared.Answer.{Answer}
 use Rattle.tuner.specs.Tuners.{after_block, parts, kept_outs, Roomy, written, last_samples, Fits, Verdict, record_out_of_range, given-again, counted, Took, store_fits, begin_number, Done, with_keys, Metered, read}
-use Rattle.tuner.specs.Verdicts.{verdict-one, verdict-fits}
-use Rattle.tuner.specs.Outputs.{room_after as after-room}
+use Rattle.tuner.proofs.Verdicts.{verdict-one, verdict-fits}
+use Rattle.tuner.proofs.Outputs.{room_after as after-room}
 use Rattle.staying.specs.Staying.{Stays, default_stays, own_number, took-stays, changed-stays, keyed_stays, reset-stays, started_stays, took_number, took-keeps, took-taken, untaken_unchanged}
 use Rattle.nights.specs.declared.NightAnswer.{NightAnswer}
 use Rattle.nights.specs.Night as Night

@@ -32,8 +32,8 @@ use Rattle.tuner.specs.declared.Voice.{Voice}
 use Rattle.tuner.specs.declared.Tuner.{Tuner}
 use Rattle.tuner.specs.declared.Answer.{Answer}
 use Rattle.tuner.specs.Tuners.{take_of, force_of, voice_at, VoiceIn, stands_at, voice_beside, voice_out, outs_beside, kept_outs, Roomy, written, level_voice, chosen_voices, fresh_numbers, silent_tuner, fresh_tuner, default_tuner, after_block, IsLast, Verdict, record_out_of_range, block_empty, block_over_512, output_short, number-neither, other-samples, given-again, take-full, taken, counted, Took, kept_list, Started, Done, with_numbers, with_keys, with_settings, with_bytes, begun_again, Changed, Keyed, Reset}
-use Rattle.tuner.specs.Verdicts.{verdict-fits, after_last}
-use Rattle.tuner.specs.Outputs.{roomy_same, room_after}
+use Rattle.tuner.proofs.Verdicts.{verdict-fits, after_last}
+use Rattle.tuner.proofs.Outputs.{roomy_same, room_after}
 use Rattle.staying.specs.Staying.{Stays, good-force, good_sane, beside_at, voice_length, lead_out_length, voice_out_length, default_stays, begin_says, own_number, took-stays, changed-stays, keyed_stays, started_stays, begun-stays, took_number, took-keeps, took-taken, untaken_unchanged}
 use Rattle.nights.specs.declared.NightAnswer.{NightAnswer}
 use Rattle.nights.specs.Night as Night

@@ -14,8 +14,8 @@ use Rattle.tuner.specs.declared.Numbers.{Numbers}
 use Rattle.tuner.specs.declared.Tuner.{Tuner}
 use Rattle.tuner.specs.declared.Answer.{Answer}
 use Rattle.tuner.specs.Tuners.{Good, after_block, parts, kept_outs, Roomy, written, IsLast, last_samples, next_number, Fits, Verdict, record_out_of_range, block_empty, block_over_512, output_short, number-neither, other-samples, given-again, take-full, taken, plain, counted, answer_by, Took}
-use Rattle.tuner.specs.Verdicts.{verdict-one, verdict-fits}
-use Rattle.tuner.specs.Outputs.{room_after}
+use Rattle.tuner.proofs.Verdicts.{verdict-one, verdict-fits}
+use Rattle.tuner.proofs.Outputs.{room_after}
 use Rattle.staying.specs.Staying.{Stays, took-stays, took_number, took-keeps, took-taken, untaken_unchanged, refused-unchanged}
 use Rattle.nights.specs.declared.NightAnswer.{NightAnswer}
 use Rattle.nights.specs.Night as Night

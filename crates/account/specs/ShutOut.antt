@@ -20,7 +20,7 @@ use Rattle.record.specs.Kept.{still-silent, silent-right}
 use Rattle.tuner.specs.declared.Tuner.{Tuner}
 use Rattle.tuner.specs.declared.Answer.{Answer}
 use Rattle.tuner.specs.Tuners.{take_of, force_of, Good, fresh_numbers, silent_tuner, default_tuner, outs_beside, parts, kept_outs, Roomy, written, next_number, Verdict, taken, after_block, counted, Took}
-use Rattle.tuner.specs.Verdicts.{verdict-one}
+use Rattle.tuner.proofs.Verdicts.{verdict-one}
 use Rattle.staying.specs.Staying.{default_stays, took-stays, took_number, took-keeps, took-taken}
 use Rattle.account.specs.Account.{Call, block, Series, fresh_start, and_then, by-block, course_of, plus, received}
 use Rattle.account.specs.Following.{block-gives}

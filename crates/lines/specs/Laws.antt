@@ -14,7 +14,7 @@ use Rattle.tuner.specs.declared.Numbers.{Numbers}
 use Rattle.tuner.specs.declared.Answer.{Answer}
 use Rattle.tuner.specs.Tuners.{fresh_tuner, default_tuner, plain, counted, answer_by, Took, Started}
 use Rattle.tuner.specs.Following.{four as outputs}
-use Rattle.tuner.specs.Verdicts.{verdict-fits}
+use Rattle.tuner.proofs.Verdicts.{verdict-fits}
 use Rattle.text.specs.Text.{fields, number, sample}
 use Rattle.text.specs.Places.{optional, First}
 use Rattle.text.specs.Fields.{later, later-end, later-some, later-field}

@@ -3,8 +3,8 @@ use Rattle.std.specs.Prelude.{◌≡◌, refl, List, [], ℕ, ℤ, length, get_o
 use Rattle.std.proofs.Common.{sym, ap, ◌∙◌, arith}
 use Rattle.tuner.specs.declared.Tuner.{Tuner}
 use Rattle.tuner.specs.declared.Answer.{Answer}
-use Rattle.tuner.specs.Starts.{started_one, done-one}
-use Rattle.tuner.specs.Verdicts.{took_one}
+use Rattle.tuner.proofs.Starts.{started_one, done-one}
+use Rattle.tuner.proofs.Verdicts.{took_one}
 use Rattle.text.specs.Text.{put}
 use Rattle.lines.specs.Lines.{Line, Desk, desk, numbered, number_line, block_line, Said, begun, not_begun, changed, taken, begun-again, mode-changed, channel-changed, keyed, not_read, Answered, answered, no_room}
 

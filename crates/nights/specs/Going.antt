@@ -12,8 +12,8 @@ use Rattle.tuner.specs.declared.Tuner.{Tuner}
 use Rattle.tuner.specs.declared.Answer.{Answer}
 use Rattle.tuner.specs.Tuners.{heard_by, Good, kept_places, parts, kept_outs, Roomy, Fits, Verdict, record_out_of_range, block_empty, block_over_512, output_short, number-neither, other-samples, given-again, take-full, taken, after_block, list_after, Took, with_numbers}
 use Rattle.tuner.specs.Following.{LeastRoom, Judged}
-use Rattle.tuner.specs.Outputs.{room_after}
-use Rattle.tuner.specs.Verdicts.{verdict-fits, after_last, again-long, one_left}
+use Rattle.tuner.proofs.Outputs.{room_after}
+use Rattle.tuner.proofs.Verdicts.{verdict-fits, after_last, again-long, one_left}
 use Rattle.staying.specs.Staying.{Lengths, Stays, took-stays, took_number, took-taken, untaken_unchanged}
 use Rattle.nights.specs.declared.NightAnswer.{NightAnswer}
 use Rattle.nights.specs.declared.Reached.{Reached}

@@ -7,7 +7,7 @@ use Rattle.answers.specs.Paths.{Step, isn't, is, step-one}
 use Rattle.tuner.specs.declared.Tuner.{Tuner}
 use Rattle.tuner.specs.declared.Answer.{Answer}
 use Rattle.tuner.specs.Tuners.{Good, Roomy, kept_outs}
-use Rattle.tuner.specs.Verdicts.{took_one}
+use Rattle.tuner.proofs.Verdicts.{took_one}
 use Rattle.staying.specs.Staying.{Lengths, Stays, took-stays}
 use Rattle.nights.specs.declared.NightAnswer.{NightAnswer}
 use Rattle.nights.specs.Night.{number_after, no_night, added, stretches, before, OneByOne, all_done, and_on, refused, Untouched, Nighted, record_out_of_range, size_out_of_range, output_short, one_by_one}

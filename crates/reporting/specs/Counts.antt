@@ -14,7 +14,7 @@ use Rattle.tuner.specs.declared.Voice.{Voice}
 use Rattle.tuner.specs.declared.Tuner.{Tuner}
 use Rattle.tuner.specs.declared.Answer.{Answer}
 use Rattle.tuner.specs.Tuners.{take_of, force_of, fresh_numbers, silent_tuner, fresh_tuner, default_tuner, kept_list, after_block, Took, with_numbers, with_keys, with_settings, with_bytes, begun_again, Changed, Keyed}
-use Rattle.tuner.specs.Verdicts.{verdict-fits, verdict-zero}
+use Rattle.tuner.proofs.Verdicts.{verdict-fits, verdict-zero}
 use Rattle.staying.specs.Staying.{good-force, good_sane, took_number, took-keeps, took-taken, untaken_unchanged}
 use Rattle.lines.specs.Lines.{Line, start, change, block, reset, mode, channel, midi, unreadable, Desk, numbered, with_four, with_mode, with_channel, begins, Said, begun, not_begun, changed, taken, begun-again, mode-changed, channel-changed, keyed, not_read}
 use Rattle.reports.specs.declared.Figures.{Figures}

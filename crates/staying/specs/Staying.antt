@@ -36,8 +36,8 @@ use Rattle.tuner.specs.declared.Numbers.{Numbers}
 use Rattle.tuner.specs.declared.Tuner.{Tuner}
 use Rattle.tuner.specs.declared.Answer.{Answer}
 use Rattle.tuner.specs.Tuners.{take_of, force_of, voice_at, VoiceIn, VoicesIn, Good, level_voice, chosen_voices, fresh_numbers, silent_tuner, fresh_tuner, default_tuner, kept_out, stands_at, voice_beside, voice_out, voices_beside, list_after, after_block, kept_outs, written, answer_by, counted, plain, Took, kept_list, begin_number, store_fits, Started, NineThen, record_out_of_range, record-good, Done, with_numbers, with_keys, begun_again, Changed, Keyed, Reset}
-use Rattle.tuner.specs.Starts.{number_own, number_17, number-on}
-use Rattle.tuner.specs.Verdicts.{verdict-fits, verdict-zero}
+use Rattle.tuner.proofs.Starts.{number_own, number_17, number-on}
+use Rattle.tuner.proofs.Verdicts.{verdict-fits, verdict-zero}
 
 -- how long a tuner's arrays are
 pub record Lengths (t : Tuner) : Type 0 where

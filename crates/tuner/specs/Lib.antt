@@ -1,10 +1,7 @@
 pub mod Tuners
 pub mod Parted
-pub mod Starts
 pub mod Following
-pub mod Voices
 pub mod Beside
-pub mod Outputs
 pub mod Verdicts
 pub mod Afters
 pub mod Taking

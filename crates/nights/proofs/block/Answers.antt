@@ -4,8 +4,8 @@ use Rattle.tuner.specs.declared.Tuner.{Tuner}
 use Rattle.tuner.specs.Tuners.{Verdict}
 use Rattle.tuner.specs.Parted.{tuner_of}
 use Rattle.tuner.specs.Following.{four}
-use Rattle.tuner.specs.Outputs.{room_after}
-use Rattle.tuner.specs.Verdicts.{verdict-fits, verdict-zero, took_by}
+use Rattle.tuner.proofs.Outputs.{room_after}
+use Rattle.tuner.proofs.Verdicts.{verdict-fits, verdict-zero, took_by}
 use Rattle.nights.specs.Going.{chosen_by, last-by, judged-here}
 use Rattle.nights.proofs.block.Goals.{After-judge-verdict, Start}
 use Rattle.nights.proofs.block.Goals as goal

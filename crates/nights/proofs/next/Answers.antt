@@ -6,7 +6,7 @@ use Rattle.tuner.specs.declared.Tuner.{Tuner}
 use Rattle.tuner.specs.Tuners.{kept_outs, Roomy, Took}
 use Rattle.tuner.specs.Parted.{tuner_of}
 use Rattle.tuner.specs.Following.{four}
-use Rattle.tuner.specs.Outputs.{each_fits}
+use Rattle.tuner.proofs.Outputs.{each_fits}
 use Rattle.nights.specs.Going.{Kept, stretch_length, stretch_is, rest-lent, put_back, part_room}
 use Rattle.nights.proofs.next.Goals.{After-end_of-three, After-slice_known-1, Start}
 use Rattle.nights.proofs.next.Goals as goal

@@ -5,7 +5,7 @@ use Rattle.tuner.specs.declared.Tuner.{Tuner}
 use Rattle.tuner.specs.Tuners.{Good, kept_outs, Roomy}
 use Rattle.tuner.specs.Parted.{tuner_of}
 use Rattle.tuner.specs.Following.{four, LeastRoom}
-use Rattle.tuner.specs.Outputs.{least-room}
+use Rattle.tuner.proofs.Outputs.{least-room}
 use Rattle.nights.specs.declared.NightAnswer.{NightAnswer}
 use Rattle.nights.specs.Going.{nothing-small, night-nine, night-refused, night-begins, night-done}
 use Rattle.nights.proofs.night_lent.Goals.{After-judge-verdict, Else-not-right, Else-verdict-ne0, Start}

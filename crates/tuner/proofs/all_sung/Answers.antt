@@ -8,7 +8,7 @@ use lib.Seq.{length-take-le}
 use Rattle.tuner.specs.declared.Voice.{Voice}
 use Rattle.tuner.specs.Tuners.{VoiceIn}
 use Rattle.tuner.specs.Following.{SangBeside, SungTo}
-use Rattle.tuner.specs.Voices.{rest_more, sung-none, sang-long, sung-more}
+use Rattle.tuner.proofs.Voices.{rest_more, sung-none, sang-long, sung-more}
 use Rattle.tuner.proofs.all_sung.Goals as goal
 
 pub loop-j-init : goal.loop-j-init

@@ -1,6 +1,6 @@
 -- `tuner::begin_number` meets its contract: the tests in their order.
 use mathlib.Core.Path.{sym, ◌∙◌}
-use Rattle.tuner.specs.Starts.{number_own, number_17, number-on}
+use Rattle.tuner.proofs.Starts.{number_own, number_17, number-on}
 use Rattle.tuner.proofs.begin_number.Goals as goal
 
 pub returns-then-number-ne0 : goal.returns-then-number-ne0

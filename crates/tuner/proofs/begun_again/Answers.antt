@@ -4,7 +4,7 @@ use mathlib.Core.Path.{sym, ap, ◌∙◌}
 use mathlib.Core.List.{[], ◌∷◌}
 use Rattle.tuner.specs.declared.Voice.{Voice}
 use Rattle.tuner.specs.Tuners.{level_voice, fresh_numbers}
-use Rattle.tuner.specs.Voices.{three}
+use Rattle.tuner.proofs.Voices.{three}
 use Rattle.tuner.proofs.Fields.{voices-long}
 use Rattle.tuner.proofs.begun_again.Goals as goal
 

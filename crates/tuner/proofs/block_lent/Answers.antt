@@ -11,8 +11,8 @@ use Rattle.tuner.specs.declared.Tuner.{Tuner}
 use Rattle.tuner.specs.Tuners.{Good, kept_outs, Roomy, Verdict, record_out_of_range, answer_by}
 use Rattle.tuner.specs.Parted.{tuner_of}
 use Rattle.tuner.specs.Following.{four, LeastRoom}
-use Rattle.tuner.specs.Outputs.{least-room, room_after}
-use Rattle.tuner.specs.Verdicts.{one_left, verdict-fits, verdict-zero, took_by, again-long, after_last}
+use Rattle.tuner.proofs.Outputs.{least-room, room_after}
+use Rattle.tuner.proofs.Verdicts.{one_left, verdict-fits, verdict-zero, took_by, again-long, after_last}
 use Rattle.tuner.proofs.block_lent.Goals.{After-judge-verdict, Else-not-right}
 use Rattle.tuner.proofs.block_lent.Goals as goal
 

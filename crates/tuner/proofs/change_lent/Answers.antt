@@ -2,7 +2,7 @@
 use mathlib.Core.Path.{sym, ap, ◌∙◌}
 use Rattle.tuner.specs.Parted.{tuner_of}
 use Rattle.tuner.specs.Tuners.{with_numbers}
-use Rattle.tuner.specs.Starts.{done-nine, done_refused, done-taken}
+use Rattle.tuner.proofs.Starts.{done-nine, done_refused, done-taken}
 use Rattle.tuner.proofs.change_lent.Goals as goal
 
 pub returns-then-not-right : goal.returns-then-not-right

@@ -7,8 +7,9 @@ use lib.Seq.{length-take-le}
 use Rattle.rules.proofs.Table.{rate-upto}
 use Rattle.lists.proofs.Counting.{counted-within}
 use Rattle.reports.specs.Counting.{pitched_in}
-use Rattle.tuner.specs.Outputs.{glided-long}
-use Rattle.tuner.specs.Taking.{numbers_with, pitched-counted}
+use Rattle.tuner.proofs.Outputs.{glided-long}
+use Rattle.tuner.specs.Taking.{numbers_with}
+use Rattle.tuner.proofs.Taking.{pitched-counted}
 use Rattle.tuner.proofs.follow.Goals as goal
 
 pub slice_bounds-led-end-2 : goal.slice_bounds-led-end-2

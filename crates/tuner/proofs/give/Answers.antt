@@ -4,7 +4,7 @@ use Prim.Native.Nat.{◌≤◌, ◌<◌}
 use native.Mathlib.Omega.{arith}
 use lib.ListN.{length}
 use Rattle.tuner.specs.Following.{four}
-use Rattle.tuner.specs.Outputs.{each_fits, written-four}
+use Rattle.tuner.proofs.Outputs.{each_fits, written-four}
 use Rattle.tuner.proofs.give.Goals.{Start}
 use Rattle.tuner.proofs.give.Goals as goal
 

@@ -6,7 +6,7 @@ use lib.IntN.{ℤ}
 use lib.ListN.{drop}
 use Rattle.whole.specs.Tests.{cond_yes, cond_no}
 use Rattle.tuner.specs.Following.{written_by}
-use Rattle.tuner.specs.Outputs.{voice_part}
+use Rattle.tuner.proofs.Outputs.{voice_part}
 use Rattle.tuner.proofs.give_voice.Goals as goal
 
 pub give-requires : goal.give-requires

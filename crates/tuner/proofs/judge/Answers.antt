@@ -1,7 +1,7 @@
 -- `tuner::judge` meets its contract: the tests in document 01's order, and the numbers where all held.
 use native.Mathlib.Omega.{arith}
 use Rattle.tuner.specs.Tuners.{block_empty, block_over_512, output_short}
-use Rattle.tuner.specs.Verdicts.{by_number}
+use Rattle.tuner.proofs.Verdicts.{by_number}
 use Rattle.tuner.proofs.judge.Goals as goal
 
 pub returns-then-b-eq0 : goal.returns-then-b-eq0

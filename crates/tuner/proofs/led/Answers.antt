@@ -3,7 +3,7 @@ use mathlib.Core.Path.{ap, ◌∙◌}
 use Prim.Native.Nat.{ℕ}
 use lib.IntN.{pos}
 use lib.ListN.{replicate}
-use Rattle.tuner.specs.Outputs.{glided-clear}
+use Rattle.tuner.proofs.Outputs.{glided-clear}
 use Rattle.tuner.proofs.led.Goals as goal
 
 pub returns : goal.returns

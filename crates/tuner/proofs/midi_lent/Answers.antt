@@ -2,7 +2,7 @@
 use mathlib.Core.Path.{refl, ap}
 use Rattle.tuner.specs.Parted.{tuner_of}
 use Rattle.tuner.specs.Tuners.{with_numbers}
-use Rattle.tuner.specs.Starts.{done-nine, done-taken}
+use Rattle.tuner.proofs.Starts.{done-nine, done-taken}
 use Rattle.tuner.proofs.midi_lent.Goals as goal
 
 pub returns-then-not-right : goal.returns-then-not-right

@@ -1,7 +1,7 @@
 -- `tuner::reset_lent` meets its contract: the record is tested, then the store; all arrays become 0.
 use mathlib.Core.Path.{ap}
 use Rattle.tuner.specs.Tuners.{silent_tuner}
-use Rattle.tuner.specs.Starts.{judged_not, judged-taken}
+use Rattle.tuner.proofs.Starts.{judged_not, judged-taken}
 use Rattle.tuner.proofs.reset_lent.Goals as goal
 
 pub returns-then-number-ne0 : goal.returns-then-number-ne0

@@ -6,7 +6,7 @@ use lib.Dec.{eqb}
 use lib.ListN.{length}
 use Rattle.whole.specs.Tests.{by, cond_yes, cond_no}
 use Rattle.tuner.specs.Tuners.{fresh_tuner, default_tuner, kept_list}
-use Rattle.tuner.specs.Starts.{number-few}
+use Rattle.tuner.proofs.Starts.{number-few}
 use Rattle.tuner.proofs.start.Goals as goal
 
 pub begun-n-requires : goal.begun-n-requires

@@ -1,6 +1,6 @@
 -- `tuner::store_fits` meets its contract: the store is looked at only where a list is asked for.
 use mathlib.Core.Path.{sym}
-use Rattle.tuner.specs.Starts.{fits_unasked, fits_asked}
+use Rattle.tuner.proofs.Starts.{fits_unasked, fits_asked}
 use Rattle.tuner.proofs.store_fits.Goals as goal
 
 pub returns-then-listed-eq0 : goal.returns-then-listed-eq0

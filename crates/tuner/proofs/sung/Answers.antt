@@ -3,7 +3,7 @@ use mathlib.Core.Path.{refl, ap, ◌∙◌}
 use Prim.Native.Nat.{ℕ}
 use lib.IntN.{pos}
 use lib.ListN.{replicate}
-use Rattle.tuner.specs.Outputs.{sang-clear}
+use Rattle.tuner.proofs.Outputs.{sang-clear}
 use Rattle.tuner.proofs.sung.Goals as goal
 
 pub returns : goal.returns

@@ -3,7 +3,7 @@ use mathlib.Core.Path.{refl, sym}
 use native.Mathlib.Omega.{arith}
 use Rattle.copying.specs.Copies.{zeros_fit}
 use Rattle.tuner.specs.Parted.{tuner_of}
-use Rattle.tuner.specs.Taking.{hears, follows, taken_is, rows-after, stores-after}
+use Rattle.tuner.proofs.Taking.{hears, follows, taken_is, rows-after, stores-after}
 use Prim.Native.Nat.{◌-◌}
 use lib.ListN.{length, replicate}
 use Rattle.steps.specs.Running.{tones, Long512}
