@@ -14,7 +14,7 @@ use Rattle.record.specs.declared.Last.{Last as TestedLast}
 use Rattle.record.specs.Records.{sound_of, AllRight, fresh_pitch, heard_after}
 use Rattle.lists.specs.Lists.{room, empty_listing, sung_note, notes_sung, Sheet, sheet, after_notes, ListingIn}
 use Rattle.reports.specs.Reports.{figures_of}
-use Rattle.voices.specs.Voices.{unison, IntervalIn, voice_after, voice_gives, voice_outs}
+use Rattle.voices.specs.Voices.{IntervalIn, voice_after, voice_gives, voice_outs}
 use Rattle.singers.specs.Singers.{kept_interval, intervals_number}
 use Rattle.tuner.specs.declared.Voice.{Voice}
 use Rattle.tuner.specs.declared.Last.{Last}

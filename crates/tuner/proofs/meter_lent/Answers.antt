@@ -3,7 +3,6 @@ use mathlib.Core.Path.{refl}
 use native.Mathlib.Omega.{arith}
 use mathlib.Core.List.{List, []}
 use lib.IntN.{ℤ}
-use Rattle.tuner.specs.declared.Tuner.{Tuner}
 use Rattle.tuner.specs.Parted.{tuner_of}
 use Rattle.rules.proofs.Table.{rate-upto}
 use Rattle.tuner.specs.Tuners.{Good, record_out_of_range, read}
