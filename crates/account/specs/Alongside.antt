@@ -14,7 +14,7 @@ use Rattle.rules.specs.Local.{SameNewest, Agree}
 use Rattle.rules.proofs.Local.{stepped_agree, reading-alike}
 use Rattle.history.specs.History.{Event, sample, new-settings, byte, Course, force_at, happened, course_after, samples_in}
 use Rattle.voices.specs.Voices.{voice_rate, Voiced, voiced, voiced_by, voice_after, voice_gives, voice_account, Since, since_after}
-use Rattle.voices.specs.Accompanying.{voice_account_lem, beside_in_bounds}
+use Rattle.voices.proofs.Accompanying.{voice_account_lem, beside_in_bounds}
 use Rattle.account.specs.Account.{voice_course, voiced_in}
 
 -- ---- events, and more events after them

@@ -20,7 +20,7 @@ use Rattle.meters.specs.declared.Meter.{Meter}
 use Rattle.meters.specs.Meters.{shown_of}
 use Rattle.reports.specs.Reports.{figures_of}
 use Rattle.voices.specs.Voices.{voice_outs, voice_rates, voice_cycles, voice_account}
-use Rattle.voices.specs.Accompanying.{voice_bounds}
+use Rattle.voices.proofs.Accompanying.{voice_bounds}
 use Rattle.record.specs.Records.{made}
 use Rattle.record.specs.Kept.{eighths-next}
 use Rattle.tuner.specs.declared.Voice.{Voice}

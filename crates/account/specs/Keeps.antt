@@ -24,7 +24,7 @@ use Rattle.reports.specs.declared.Figures.{Figures}
 use Rattle.reports.specs.Reports.{figures_of, added, no_figures}
 use Rattle.reports.proofs.Counting.{figures-append, figures-none}
 use Rattle.voices.specs.Voices.{voice_after, voice_gives, voice_outs}
-use Rattle.voices.specs.Accompanying.{voice_bounds}
+use Rattle.voices.proofs.Accompanying.{voice_bounds}
 use Rattle.record.specs.Records.{heard_after}
 use Rattle.singers.specs.Singers.{kept_interval}
 use Rattle.singers.specs.Voicing.{number-says}

@@ -27,7 +27,7 @@ use Rattle.record.specs.Records.{sound_of, fresh_pitch, made, heard_after}
 use Rattle.lists.specs.Lists.{sung_note, notes_sung, sheet, Sheet, after_notes, ListingIn}
 use Rattle.lists.proofs.Folds.{empty_in, later_in, after_notes_in}
 use Rattle.voices.specs.Voices.{voiced_by, voice_gives, voice_outs}
-use Rattle.voices.specs.Accompanying.{voice_bounds}
+use Rattle.voices.proofs.Accompanying.{voice_bounds}
 use Rattle.singers.specs.Singers.{kept_interval, all_in_range, intervals_number}
 use Rattle.singers.specs.Voicing.{number-says}
 use Rattle.record.specs.Kept.{keeping-length, made-length, still-silent, silent-right}

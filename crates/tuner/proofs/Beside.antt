@@ -23,7 +23,7 @@ use Rattle.record.specs.Records.{sound_of}
 use Rattle.steps.specs.Running.{Tones, tones_given}
 use Rattle.voices.specs.Voices.{voice_rate, Voiced, voiced, voiced_by, voice_after, voice_gives, voice_outs}
 use Rattle.voices.specs.Singing.{TrackedAll, sing_next, sing_after, sing_outs, Sang}
-use Rattle.voices.specs.Accompanying.{voice_cutting, tone-tracked}
+use Rattle.voices.proofs.Accompanying.{voice_cutting, tone-tracked}
 use Rattle.tuner.specs.Beside.{ToldEach, tone_of}
 
 outs-more : (vs : List Voiced) (v : Voiced) → voice_outs (vs ++ (v ∷ [])) ≡ voice_outs vs ++ (v.out ∷ [])

@@ -4,7 +4,7 @@ use Prim.Native.Nat.{◌<◌}
 use native.Mathlib.Omega.{arith}
 use Rattle.rules.proofs.Notes.{wanted_period_range}
 use Rattle.voices.specs.Voices.{voice_note, voice_period}
-use Rattle.voices.specs.Singing.{rate-none}
+use Rattle.voices.proofs.Singing.{rate-none}
 use Rattle.voices.proofs.beside.Goals as goal
 
 pub returns-then-period-eq0 : goal.returns-then-period-eq0

@@ -1,5 +1,5 @@
 -- `voices::grown` meets its contract: its three arms are the three ways of a growth.
-use Rattle.voices.specs.Singing.{moved_on, moved_back, moved_forward}
+use Rattle.voices.proofs.Singing.{moved_on, moved_back, moved_forward}
 use Rattle.voices.proofs.grown.Goals as goal
 
 pub returns-then-b-rate : goal.returns-then-b-rate

@@ -1,7 +1,8 @@
 use mathlib.Core.Path.{◌≡◌, refl, sym, subst, ◌∙◌, transport}
 use Prim.Native.Nat.{ℕ, ◌-◌}
 use native.Mathlib.Omega.{arith}
-use Rattle.voices.specs.Singing.{Reckoned, Kept, Sang, rate-none, rate-kept, sang-none}
+use Rattle.voices.specs.Singing.{Reckoned, Kept, Sang}
+use Rattle.voices.proofs.Singing.{rate-none, rate-kept, sang-none}
 use Rattle.voices.proofs.sing.Goals as goal
 
 pub loop-i-init : goal.loop-i-init

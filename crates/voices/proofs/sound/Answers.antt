@@ -5,7 +5,7 @@ use borrow.Author.Rules.{sfits_of}
 use mir.Syntax.{w16}
 use mir.Facts.{to_z-of_z}
 use lib.ListN.{set}
-use Rattle.voices.specs.Singing.{voiced-silent, voiced_sounds}
+use Rattle.voices.proofs.Singing.{voiced-silent, voiced_sounds}
 use Rattle.voices.proofs.sound.Goals as goal
 
 pub returns-then-rate-eq0 : goal.returns-then-rate-eq0

@@ -5,7 +5,7 @@ use borrow.Author.Tests.{ltb-true, ltb-false}
 use lib.Dec.{ltb}
 use lib.ListN.{get_or}
 use Rattle.whole.specs.Tests.{by}
-use Rattle.voices.specs.Singing.{sang_to_none, sang_to_more}
+use Rattle.voices.proofs.Singing.{sang_to_none, sang_to_more}
 use Rattle.voices.proofs.stretch.Goals as goal
 
 pub loop-out-init : goal.loop-out-init

@@ -1,7 +1,7 @@
 -- `voices::voice_note` meets its contract: the sum of note and interval, by whether it is below note 0.
 use mathlib.Core.Path.{sym}
 use native.Mathlib.Omega.{arith}
-use Rattle.voices.specs.Singing.{note-none, note-below, note-is}
+use Rattle.voices.proofs.Singing.{note-none, note-below, note-is}
 use Rattle.voices.proofs.voice_note.Goals as goal
 
 pub returns-then-note-eq-NO_NOTE : goal.returns-then-note-eq-NO_NOTE

@@ -3,7 +3,7 @@ use mathlib.Core.Path.{sym, ap, ◌∙◌}
 use native.Mathlib.Omega.{arith}
 use Rattle.rules.specs.Rules.{raw_rate}
 use Rattle.rules.proofs.Notes.{raw-fits}
-use Rattle.voices.specs.Singing.{rate_outside, rate-is}
+use Rattle.voices.proofs.Singing.{rate_outside, rate-is}
 use Rattle.voices.proofs.voice_rate.Goals as goal
 
 pub returns-then-entry-eq0 : goal.returns-then-entry-eq0

@@ -1,20 +1,20 @@
 -- A voice over any samples of the lead: its position equals its account, it stays in the lead's bounds, and it does not matter how the samples are cut.
-use Rattle.std.specs.Prelude.{◌≡◌, true, false, cond, List, [], ◌∷◌, ◌++◌, eqb, ℤ, ◌+ℤ◌, ◌-ℤ◌, length}
+use Rattle.std.specs.Prelude.{◌≡◌, List, [], ◌∷◌, ◌++◌, ℤ, ◌+ℤ◌, ◌-ℤ◌, length}
 use Rattle.std.proofs.Math.Path.{refl, ap}
-use Rattle.std.proofs.Common.{sym, ◌∙◌, subst, add-zero, add-suc, arith}
-use Prim.Native.Nat.{ℕ, zero, suc, ◌+◌, ◌≤◌, ◌<◌}
+use Rattle.std.proofs.Common.{sym, ◌∙◌, subst, add-zero, arith}
+use Prim.Native.Nat.{ℕ, zero, suc, ◌+◌}
 use Rattle.std.proofs.Math.IntN.{pos, +ℤ_idr}
 use Rattle.whole.specs.Ring.{var, con, ◌⊕◌, ◌⊖◌, solve}
 use Rattle.rules.specs.declared.InForce.{InForce}
 use Rattle.rules.specs.declared.Tone.{Tone}
-use Rattle.rules.specs.Rules.{no_note, Sound, Take, Step, input_at, cycles, cycle_repeated, cycle_dropped, growth, stepped, after}
-use Rattle.rules.specs.Facts.{ForceIn, ToneIn, pitched, unpitched, InBounds, SampleRate}
-use Rattle.rules.specs.Position.{Behind}
+use Rattle.rules.specs.Rules.{Sound, Take, input_at, cycles, cycle_repeated, cycle_dropped, growth, stepped, after}
+use Rattle.rules.specs.Facts.{ForceIn, ToneIn, pitched, unpitched, InBounds}
 use Rattle.rules.proofs.Position.{behind_in_bounds, growth_in_bounds}
 use Rattle.rules.specs.Sane.{Sane}
 use Rattle.rules.proofs.Sane.{stepped_sane}
 use Rattle.voices.specs.Voices.{voice_rate, Voiced, voiced, voiced_by, voice_after, voice_gives, voice_rates, voice_cycles, voice_account, Since, since_by, since_after, VoiceAccount, VoiceBounds, VoiceCutting}
-use Rattle.voices.specs.Singing.{Tracked, Kept, rate-none, rate-kept}
+use Rattle.voices.specs.Singing.{Tracked, Kept}
+use Rattle.voices.proofs.Singing.{rate-kept}
 
 -- ---- cutting
 pub voice_cutting : VoiceCutting

@@ -1,0 +1,3 @@
+pub mod Accompanying
+pub mod Rates
+pub mod Singing
