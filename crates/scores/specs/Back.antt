@@ -19,9 +19,9 @@ use Rattle.history.specs.Courses.{with_keyboard}
 use Rattle.history.proofs.Courses.{given_by-append, course_bytes, given-bytes, given-samples}
 use Rattle.lists.specs.Lists.{Row, sung_note, notes_sung, note_at}
 use Rattle.scores.specs.Scores.{listed_at, turn, scored, by_keys, list_for, BackAgain}
-use Rattle.scores.specs.Listed.{listed-is}
-use Rattle.scores.specs.Turns.{turn-key}
-use Rattle.scores.specs.Steps.{sung-is, by_scale, by_key, stepped_same}
+use Rattle.scores.proofs.Listed.{listed-is}
+use Rattle.scores.proofs.Turns.{turn-key}
+use Rattle.scores.proofs.Steps.{sung-is, by_scale, by_key, stepped_same}
 
 -- the note of a tone in its ranges is a note or none
 unsung : (t : Tone) → t.period ≡ 0 → sung_note t ≡ 128
