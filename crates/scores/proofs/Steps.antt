@@ -1,15 +1,15 @@
 -- One sample in keyboard mode, with the key held that the sample's note is by scale, gives what it gives by scale: a tracking step takes the wanted note as it then stands, and nothing else asks for it.
-use Rattle.std.specs.Prelude.{◌≡◌, Bool, true, false, leb, eqb, ℤ}
+use Rattle.std.specs.Prelude.{◌≡◌, Bool, leb, ℤ}
 use Rattle.std.proofs.Math.Path.{refl, ap}
 use Rattle.std.proofs.Common.{sym, ◌∙◌, arith, ne_eqb}
 use Rattle.std.proofs.Math.Bool.{cond}
 use Rattle.std.proofs.Math.Option.{Option, none, some}
-use Prim.Native.Nat.{ℕ, suc, ◌+◌, ◌-◌, ◌*◌, ◌≤◌, ◌<◌}
+use Prim.Native.Nat.{ℕ, suc, ◌+◌, ◌-◌, ◌*◌, ◌<◌}
 use Rattle.whole.specs.Tests.{by}
 use Rattle.rules.specs.declared.Settings.{Settings}
 use Rattle.rules.specs.declared.InForce.{InForce}
 use Rattle.rules.specs.declared.Tone.{Tone}
-use Rattle.rules.specs.Rules.{scale_mode, Sound, heard, passes, is_low, least_from, low_above, choice, found_by, found, is_lost, best, period, moved, wanted_note, goal_of, goal, smooth_rate, smooth_kept, tuned, tracked, Mode, searching, tracking, Pitch, no_period, searched, eighth_due, step_due, listened_in, listened, growth, reading, eighths_after, Take, Step, stepped}
+use Rattle.rules.specs.Rules.{Sound, heard, passes, is_low, least_from, low_above, choice, found_by, found, is_lost, best, period, moved, wanted_note, goal_of, goal, smooth_rate, smooth_kept, tuned, tracked, Mode, searching, tracking, Pitch, searched, eighth_due, step_due, listened_in, listened, growth, reading, eighths_after, Take, Step, stepped}
 use Rattle.rules.specs.Facts.{LagsIn, ModeIn}
 use Rattle.rules.proofs.Periods.{period_range}
 use Rattle.rules.specs.Sane.{Sane}

@@ -1,5 +1,5 @@
 -- A list played back as keys gives what the scale gave: sample after sample, the key held is the sample's note.
-use Rattle.std.specs.Prelude.{◌≡◌, ℤ, length, get_or}
+use Rattle.std.specs.Prelude.{◌≡◌, ℤ, length}
 use Rattle.std.proofs.Math.Path.{refl, sym, ap}
 use Rattle.std.proofs.Common.{◌∙◌, eq-eqb}
 use mathlib.Core.List.{List, [], ◌∷◌, ◌++◌, map}
@@ -15,13 +15,12 @@ use Rattle.rules.proofs.Sane.{fresh_sane, stepped_sane}
 use Rattle.keyboard.specs.declared.Keyboard.{Keyboard}
 use Rattle.keyboard.specs.Keys.{fresh, played}
 use Rattle.history.specs.History.{Event, sample, byte, Course, fresh_course, force_at, happened, course_after, given_by}
-use Rattle.history.specs.Courses.{with_keyboard}
 use Rattle.history.proofs.Courses.{given_by-append, course_bytes, given-bytes, given-samples}
 use Rattle.lists.specs.Lists.{Row, sung_note, notes_sung, note_at}
 use Rattle.scores.specs.Scores.{listed_at, turn, scored, by_keys, list_for, BackAgain}
 use Rattle.scores.proofs.Listed.{listed-is}
 use Rattle.scores.proofs.Turns.{turn-key}
-use Rattle.scores.proofs.Steps.{sung-is, by_scale, by_key, stepped_same}
+use Rattle.scores.proofs.Steps.{sung-is, stepped_same}
 
 -- the note of a tone in its ranges is a note or none
 unsung : (t : Tone) → t.period ≡ 0 → sung_note t ≡ 128

@@ -1,0 +1,4 @@
+pub mod Back
+pub mod Listed
+pub mod Steps
+pub mod Turns
