@@ -3,4 +3,4 @@ use Rattle.tuner.proofs.Fields.{stores, outs-long}
 use Rattle.nights.proofs.night.Goals as goal
 
 pub night_lent-d-requires : goal.night_lent-d-requires
-night_lent-d-requires c = let s = c in (stores s.args.t _ s.well-formed.0, outs-long s.args.t _ s.well-formed.0)
+night_lent-d-requires c = (stores c.args.t _ c.well_formed.0, outs-long c.args.t _ c.well_formed.0)
