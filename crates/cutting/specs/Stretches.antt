@@ -1,5 +1,5 @@
 -- The place and the length of the k-th stretch make its part.
-use Rattle.std.specs.Prelude.{◌≡◌, Bool, true, false, List, ◌⊎◌, ℕ, ◌-◌, ◌*◌, ◌≤◌, min, leb, ℤ, length, take, drop}
+use Rattle.std.specs.Prelude.{◌≡◌, List, ◌⊎◌, ℕ, ◌-◌, ◌*◌, ◌≤◌, min, leb, ℤ, length, take, drop}
 use Rattle.std.proofs.Common.{sym, ap, ◌∙◌, inl, inr, ⊎_elim, arith, leb-true, leb-false, length-drop, drop_of_length-le, take_all}
 use Rattle.std.proofs.Math.Nat.{min-eq_left, min-eq_right}
 use Rattle.rules.specs.Rules.{longest_block}

@@ -2,7 +2,7 @@
 -- each sample the run that goes on is the last row of all.
 use Rattle.std.specs.Prelude.{◌≡◌}
 use mathlib.Core.List.{List, [], ◌∷◌, ◌++◌}
-use Prim.Native.Nat.{ℕ, ◌+◌, ◌-◌, ◌≤◌, ◌<◌, min}
+use Prim.Native.Nat.{ℕ, ◌-◌, ◌≤◌, ◌<◌, min}
 use Rattle.std.proofs.Math.ListN.{length}
 use Rattle.rules.specs.Rules.{no_note}
 use Rattle.lists.specs.declared.Listing.{Listing}

@@ -1,7 +1,6 @@
 -- Laws of rows: what one sample more, behind all others, makes of them. Without a note it makes nothing, with the note of the last sample it makes the last
 -- row longer by one, and with another it is a row of its own.
-use Rattle.std.specs.Prelude.{◌≡◌, List, [], ◌∷◌, ◌++◌, ℕ, suc, ◌+◌, length}
-use Rattle.whole.specs.Tests.{by}
+use Rattle.std.specs.Prelude.{◌≡◌, List, [], ◌∷◌, ◌++◌, ℕ, suc}
 use Rattle.lists.specs.Lists.{Row, row, before, runs_from}
 
 -- ---- with the note of the last sample

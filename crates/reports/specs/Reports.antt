@@ -1,5 +1,5 @@
 -- A report's figures and its text, in the words of change request K14: what is counted over what the rules gave for each sample of a take, and how it is printed. Definitions only.
-use Rattle.std.specs.Prelude.{cond, List, [], ◌∷◌, ◌++◌, ℕ, suc, ◌+◌, ◌/◌, ◌%◌, eqb, leb, length}
+use Rattle.std.specs.Prelude.{cond, List, [], ◌∷◌, ◌++◌, ℕ, ◌+◌, ◌/◌, ◌%◌, eqb, leb, length}
 use Rattle.rules.specs.Rules.{Given, away, fresh_rate, all_repeated, all_dropped}
 use Rattle.text.specs.Text.{decimal, long_decimal}
 use Rattle.reports.specs.declared.Figures.{Figures}

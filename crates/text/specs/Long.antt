@@ -1,6 +1,6 @@
 -- Laws of numbers of up to 20 digits: how many digits there are, counted from the last on.
-use Rattle.std.specs.Prelude.{◌≡◌, refl, cond, ℕ, zero, suc, ◌+◌, ◌/◌, ◌≤◌, ◌<◌, ltb, length}
-use Rattle.std.proofs.Common.{ap, ◌∙◌, arith, lt-ltb, le-ltb}
+use Rattle.std.specs.Prelude.{◌≡◌, refl, ℕ, zero, suc, ◌+◌, ◌/◌, ◌≤◌, ◌<◌, ltb, length}
+use Rattle.std.proofs.Common.{arith, lt-ltb, le-ltb}
 use Rattle.whole.specs.Tests.{cond_case}
 use Rattle.text.specs.Text.{places_within, long_decimal}
 use Rattle.text.specs.Spelling.{digits-length}

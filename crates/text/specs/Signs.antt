@@ -1,7 +1,7 @@
 -- Laws of samples and their sizes.
-use Rattle.std.specs.Prelude.{◌≡◌, refl, true, false, ◌∷◌, ℕ, zero, suc, ◌+◌, ◌^◌, ◌≤◌, ◌<◌, T, ltb, ℤ, pos, negsuc, neg_ℤ, nat_abs, ◌<ℤ◌, ◌≤ℤ◌}
-use Rattle.std.proofs.Common.{sym, ap, ◌∙◌, arith, ltb-true, ltb→lt, SFits, Fits}
-use Rattle.std.specs.Int.Signed.{non_neg, lt_z}
+use Rattle.std.specs.Prelude.{◌≡◌, refl, ◌∷◌, ℕ, zero, suc, ◌≤◌, T, ℤ, pos, negsuc, neg_ℤ, nat_abs, ◌<ℤ◌, ◌≤ℤ◌}
+use Rattle.std.proofs.Common.{arith, ltb→lt, SFits, Fits}
+use Rattle.std.specs.Int.Signed.{non_neg}
 use Rattle.std.specs.Int.{w16, w32}
 use Rattle.text.specs.Text.{decimal, signed}
 

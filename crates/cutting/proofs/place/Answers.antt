@@ -1,7 +1,7 @@
 -- `cutting::place` meets its contract: the stretch begins at 512 k or, past the end, at the length, and has 512 samples or what is left.
 use mathlib.Core.Path.{◌≡◌, ◌∙◌, sym}
 use mathlib.Core.Logic.{⊎_elim}
-use Prim.Native.Nat.{◌-◌, ◌*◌, ◌≤◌, min}
+use Prim.Native.Nat.{◌*◌, ◌≤◌, min}
 use native.Mathlib.Nat.{min-eq_left, min-eq_right}
 use native.Mathlib.Omega.{arith}
 use Rattle.cutting.specs.Stretches.{cut_is}

@@ -1,4 +1,3 @@
-use Prim.Native.Nat.{◌-◌}
 use native.Mathlib.Omega.{arith}
 use Rattle.lists.proofs.Folds.{level-one, level-four}
 use Rattle.lists.proofs.fours.Goals as goal

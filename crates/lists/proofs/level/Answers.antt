@@ -1,4 +1,3 @@
-use Prim.Native.Nat.{◌-◌}
 use native.Mathlib.Omega.{arith}
 use Rattle.lists.proofs.Folds.{level-more}
 use Rattle.lists.proofs.level.Goals as goal

@@ -1,6 +1,5 @@
 -- `text::below` meets its contract: 0 less n, down to -32768.
 use mathlib.Core.Path.{◌≡◌, ◌∙◌}
-use Prim.Native.Nat.{◌+◌}
 use lib.IntN.{pos, neg_ℤ, +ℤ_idl, ◌-ℤ◌}
 use mir.Syntax.{w32}
 use mir.Val.{to_z, of_z}

@@ -1,8 +1,5 @@
-use Prim.Native.Nat.{◌-◌}
 use native.Mathlib.Omega.{arith}
 use Rattle.text.specs.Places.{passed-more}
-use Rattle.text.proofs.first.Reads as reads
-use Rattle.text.proofs.first.Lts as lts
 use Rattle.text.proofs.first.Goals as goal
 
 pub loop-i-init : goal.loop-i-init

@@ -2,8 +2,6 @@
 use mathlib.Core.Path.{◌≡◌}
 use Prim.Native.Nat.{ℕ, ◌-◌, ◌≤◌, ◌<◌}
 use lib.ListN.{length, get_or}
-use Rattle.text.proofs.first.Reads as reads
-use Rattle.text.proofs.first.Lts as lts
 use Rattle.text.proofs.first.Given as goal
 
 abbrev pub invariant-loop-i : goal.invariant-loop-i

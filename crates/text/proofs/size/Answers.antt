@@ -1,6 +1,6 @@
 -- `text::size` meets its contract: below 0 the sample is turned, and else it is its size.
 use mathlib.Core.Path.{◌≡◌, sym, ap, ◌∙◌, subst}
-use Prim.Native.Nat.{◌+◌, ◌^◌}
+use Prim.Native.Nat.{◌^◌}
 use lib.IntN.{ℤ, neg_ℤ, nat_abs, +ℤ_idl, ◌-ℤ◌}
 use mir.Syntax.{w16, w32}
 use mir.Val.{to_z, of_z}

@@ -1,6 +1,6 @@
 -- `text::spell` meets its contract: the digits are written from the last on.
 use mathlib.Core.Path.{◌≡◌}
-use Prim.Native.Nat.{◌-◌, ◌≤◌}
+use Prim.Native.Nat.{◌≤◌}
 use lib.ListN.{length}
 use Rattle.text.specs.Spelling.{Spelling}
 use Rattle.text.proofs.spell.Given as goal
