@@ -1,7 +1,7 @@
 -- A voice over the samples of a block: where its position stands after each, and what it writes there. The code keeps it by how far it lies behind the input.
 -- Its rate is the tracked period over an entry of the table, so it lies no farther from one than a cycle is long: the lead's bounds are its own.
 use Rattle.std.specs.Prelude.{◌≡◌, List, [], ◌∷◌, ◌++◌, ◌-ℤ◌, length, get_or}
-use Prim.Native.Nat.{ℕ, zero, suc, ◌+◌, ◌-◌, ◌≤◌, ◌<◌}
+use Prim.Native.Nat.{ℕ, zero, suc, ◌+◌, ◌≤◌, ◌<◌}
 use Rattle.std.proofs.Math.IntN.{ℤ, pos}
 use Rattle.std.proofs.Math.ListN.{set, drop}
 use Rattle.rules.specs.Rules.{longest_block, no_note, least_period, greatest_period, farthest, input_at, growth}

@@ -1,5 +1,5 @@
 use mathlib.Core.Path.{◌≡◌, refl, sym, subst, ◌∙◌, transport}
-use Prim.Native.Nat.{ℕ, ◌-◌}
+use Prim.Native.Nat.{ℕ}
 use native.Mathlib.Omega.{arith}
 use Rattle.voices.specs.Singing.{Reckoned, Kept, Sang}
 use Rattle.voices.proofs.Singing.{rate-none, rate-kept, sang-none}
