@@ -14,7 +14,7 @@ use Rattle.tuner.specs.Tuners.{heard_by, Good, kept_places, parts, kept_outs, Ro
 use Rattle.tuner.specs.Following.{LeastRoom, Judged}
 use Rattle.tuner.proofs.Outputs.{room_after}
 use Rattle.tuner.proofs.Verdicts.{verdict-fits, after_last, again-long, one_left}
-use Rattle.staying.specs.Staying.{Lengths, Stays, took-stays, took_number, took-taken, untaken_unchanged}
+use Rattle.staying.specs.Staying.{Lengths, took-stays, took_number, took-taken, untaken_unchanged}
 use Rattle.nights.specs.declared.NightAnswer.{NightAnswer}
 use Rattle.nights.specs.declared.Reached.{Reached}
 use Rattle.nights.specs.Night.{first_stretches, stretches, number_after, no_night, added_by, added, before, OneByOne, all_done, and_on, refused, Untouched, Nighted, size_out_of_range}

@@ -1,6 +1,6 @@
 -- Every call leaves a good tuner good and its arrays as long as they were; what the answer to a block says of the tuner; a block that is not taken changes nothing.
 -- Of the lead each part follows from the rules' own laws, of the list from its fold, of a voice from its bounds beside the lead; the other calls change a few numbers.
-use Rattle.std.specs.Prelude.{◌≡◌, true, ℕ, zero, suc, ◌+◌, ◌-◌, ◌*◌, ◌≤◌, ◌<◌, eqb, leb, ℤ, pos, take, get_or, replicate}
+use Rattle.std.specs.Prelude.{◌≡◌, true, ℕ, zero, suc, ◌+◌, ◌*◌, ◌≤◌, ◌<◌, eqb, leb, ℤ, pos, take, get_or, replicate}
 use Rattle.std.proofs.Math.Path.{refl, ap, subst}
 use Rattle.std.proofs.Common.{sym, ◌∙◌, get_or-drop}
 use mathlib.Core.List.{List, [], ◌∷◌, ◌++◌, map, flatten}

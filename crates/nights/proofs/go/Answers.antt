@@ -1,4 +1,4 @@
-use Rattle.std.proofs.Common.{◌≡◌, ◌-◌, ◌<◌, length, sym, refl, ◌∙◌, arith}
+use Rattle.std.proofs.Common.{sym, refl, ◌∙◌, arith}
 use Rattle.tuner.specs.Following.{four}
 use Rattle.nights.specs.Going.{Kept, kept_same, kept_on, go-begins, go-more, go-ready, go-ends, ready-more}
 use Rattle.nights.proofs.go.Goals as goal

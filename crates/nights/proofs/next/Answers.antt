@@ -1,5 +1,5 @@
 -- `nights::next` meets its contract: a stretch of the recording by the single call, with what is left of each output, and its answer added.
-use Rattle.std.proofs.Common.{◌≡◌, ℕ, ◌+◌, ◌-◌, ◌*◌, ◌≤◌, min, List, ◌++◌, map, length, take, drop, ℤ, sym, refl, ap, ◌∙◌, arith, length-append, length-take, length-drop}
+use Rattle.std.proofs.Common.{◌≡◌, ℕ, ◌+◌, ◌-◌, ◌≤◌, min, List, ◌++◌, map, length, take, drop, ℤ, sym, refl, ap, ◌∙◌, arith, length-append, length-take, length-drop}
 use mathlib.Core.Path.{transport}
 use Rattle.tuner.specs.declared.Tuner.{Tuner}
 use Rattle.tuner.specs.Tuners.{kept_outs, Roomy, Took}

@@ -1,8 +1,8 @@
 -- `nights::night_lent` meets its contract: it is refused before its first block, or goes on block by block.
-use Rattle.std.proofs.Common.{ℕ, ◌<◌, ◌≤◌, List, length, ℤ, sym, refl, ap, subst, arith}
+use Rattle.std.proofs.Common.{ℕ, List, ℤ, sym, refl, ap, subst, arith}
 use Rattle.tuner.proofs.Fields.{voices-long}
 use Rattle.tuner.specs.declared.Tuner.{Tuner}
-use Rattle.tuner.specs.Tuners.{Good, kept_outs, Roomy}
+use Rattle.tuner.specs.Tuners.{Good}
 use Rattle.tuner.specs.Parted.{tuner_of}
 use Rattle.tuner.specs.Following.{four, LeastRoom}
 use Rattle.tuner.proofs.Outputs.{least-room}
