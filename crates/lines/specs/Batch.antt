@@ -1,5 +1,5 @@
 -- Lines answered one after the other: what holds after some of them, and after one more.
-use Rattle.std.specs.Prelude.{◌≡◌, refl, List, [], ◌∷◌, ◌++◌, ℕ, zero, suc, ◌+◌, ◌-◌, ◌≤◌, ◌<◌, length, get_or, take, drop}
+use Rattle.std.specs.Prelude.{◌≡◌, refl, List, [], ◌∷◌, ◌++◌, ℕ, ◌+◌, ◌-◌, ◌≤◌, ◌<◌, length, take, drop}
 use Rattle.std.proofs.Common.{sym, ap, ◌∙◌, subst, append-nil, append_assoc, inl, inr, add-one, arith, length-append, length-drop, drop_of_length-le, take_all, take-suc, take-add, drop-drop, length-take-le, get_or-take, get_or-drop}
 use Rattle.tuner.specs.declared.Answer.{Answer}
 use Rattle.text.specs.Places.{First, put-none, put_then, put-length}

@@ -1,5 +1,5 @@
 -- No second answer: the promise of a line determines the tuner and the store after it, the answer and every byte of the output.
-use Rattle.std.specs.Prelude.{◌≡◌, refl, List, [], ℕ, ℤ, length, get_or}
+use Rattle.std.specs.Prelude.{◌≡◌, refl, List, [], ℕ, length, get_or}
 use Rattle.std.proofs.Common.{sym, ap, ◌∙◌, arith}
 use Rattle.tuner.specs.declared.Tuner.{Tuner}
 use Rattle.tuner.specs.declared.Answer.{Answer}

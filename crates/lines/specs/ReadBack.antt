@@ -1,15 +1,15 @@
 -- Samples that are printed, in an answer or in a line to send, are read back as themselves:
 -- their fields are the printed samples, and each of those is read back.
-use Rattle.std.specs.Prelude.{◌≡◌, refl, List, [], ◌∷◌, ◌++◌, map, ℕ, suc, ◌+◌, ◌≤◌, ℤ, length, take}
+use Rattle.std.specs.Prelude.{◌≡◌, refl, List, [], ◌∷◌, ◌++◌, map, ℕ, suc, ◌≤◌, ℤ, length, take}
 use Rattle.std.proofs.Common.{sym, ap, ◌∙◌, arith, length-append}
 use Rattle.std.proofs.lemmas.List.{append_cancel_right}
-use Rattle.std.proofs.Math.Option.{Option, some, bind}
+use Rattle.std.proofs.Math.Option.{some, bind}
 use Rattle.tuner.specs.declared.Answer.{Answer}
 use Rattle.ages.specs.Ages.{Samples}
 use Rattle.text.specs.Text.{onto, fields, sample, decimal, signed, sample_fields}
 use Rattle.text.specs.Spelling.{decimal-short, fields-short}
 use Rattle.text.specs.ReadBack.{number-back, sample-back, decimal_no_tab, one_field, parted, samples-parted}
-use Rattle.lines.specs.Lines.{Line, block, each, line_of, block_in, record_in, same, read, block_line, block_word}
+use Rattle.lines.specs.Lines.{block, each, line_of, block_in, record_in, same, read, block_line, block_word}
 use Rattle.lines.specs.Laws.{read_short}
 
 -- a printed number is one field

@@ -1,6 +1,6 @@
 -- The parts of an answer, put one after the other, and the room that they take.
-use Rattle.std.specs.Prelude.{◌≡◌, refl, List, [], ◌∷◌, ◌++◌, ℕ, zero, suc, ◌+◌, ◌*◌, ◌≤◌, ◌<◌, ℤ, length, take}
-use Rattle.std.proofs.Common.{sym, ap, ◌∙◌, arith, length-append, length-take-le}
+use Rattle.std.specs.Prelude.{◌≡◌, List, ◌∷◌, ◌++◌, ℕ, ◌+◌, ◌≤◌, ℤ, length, take}
+use Rattle.std.proofs.Common.{arith, length-append, length-take-le}
 use Rattle.text.specs.Text.{decimal, sample_fields, Put}
 use Rattle.text.specs.Places.{put_then, put-length}
 use Rattle.text.specs.Spelling.{decimal-short, fields-short}

@@ -1,12 +1,7 @@
 -- `lines::answer_lines` meets its contract: the lines passed are answered, and each answer stands after those before it.
 use native.Mathlib.Omega.{arith}
 use mathlib.Core.Path.{refl, ◌∙◌}
-use Prim.Native.Nat.{◌+◌, ◌-◌}
-use mathlib.Core.List.{◌++◌}
-use lib.ListN as list
-use lib.ListN.{take, drop}
-use Rattle.lines.specs.Lines.{desk}
-use Rattle.lines.specs.Batch.{Batch, none-answered, length_so_far, batch_more, no_room_left, no_line_left}
+use Rattle.lines.specs.Batch.{none-answered, length_so_far, batch_more, no_room_left, no_line_left}
 use Rattle.lines.proofs.answer_lines.Goals as goal
 
 pub loop-end-init : goal.loop-end-init

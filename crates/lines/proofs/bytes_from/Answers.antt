@@ -1,5 +1,4 @@
 use native.Mathlib.Omega.{arith}
-use Prim.Native.Nat.{◌-◌}
 use borrow.Author.Tests.{not-true, not-false}
 use Rattle.text.specs.Text.{number}
 use Rattle.lines.specs.Laws.{field-read, none_read, next-read, one-unread, all_read}

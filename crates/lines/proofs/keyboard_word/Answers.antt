@@ -1,6 +1,5 @@
 -- `lines::keyboard_word` meets its contract: the tests in the same order.
-use borrow.Author.Rules.{rules}
-use Rattle.lines.specs.Lines.{same, mode_word, channel_word, midi_word}
+use Rattle.lines.specs.Lines.{mode_word, channel_word, midi_word}
 use Rattle.lines.specs.Steps.{keyboard_word_of}
 use Rattle.lines.specs.Laws.{decided}
 use Rattle.lines.proofs.keyboard_word.Goals as goal

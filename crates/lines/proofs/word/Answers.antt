@@ -1,6 +1,5 @@
 -- `lines::word` meets its contract: the tests in the same order.
-use borrow.Author.Rules.{rules}
-use Rattle.lines.specs.Lines.{same, start_word, change_word, block_word, reset_word}
+use Rattle.lines.specs.Lines.{start_word, change_word, block_word, reset_word}
 use Rattle.lines.specs.Steps.{word_of}
 use Rattle.lines.specs.Laws.{decided}
 use Rattle.lines.proofs.word.Goals as goal
