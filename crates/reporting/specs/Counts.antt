@@ -1,5 +1,5 @@
 -- What the answer to a line counts is what the report counts of the samples that it brought, and how many samples the tuner then counts.
-use Rattle.std.specs.Prelude.{◌≡◌, refl, Bool, true, false, cond, ℕ, ◌+◌, ◌≤◌, eqb, ℤ}
+use Rattle.std.specs.Prelude.{◌≡◌, refl, true, false, cond, ℕ, ◌+◌, ◌≤◌, eqb, ℤ}
 use Rattle.std.proofs.Math.Path.{sym, ap, subst}
 use Rattle.std.proofs.Common.{◌∙◌, arith}
 use mathlib.Core.List.{List, []}
@@ -16,7 +16,7 @@ use Rattle.tuner.specs.declared.Answer.{Answer}
 use Rattle.tuner.specs.Tuners.{take_of, force_of, fresh_numbers, silent_tuner, fresh_tuner, default_tuner, kept_list, after_block, Took, with_numbers, with_keys, with_settings, with_bytes, begun_again, Changed, Keyed}
 use Rattle.tuner.proofs.Verdicts.{verdict-fits, verdict-zero}
 use Rattle.staying.specs.Staying.{good-force, good_sane, took_number, took-keeps, took-taken, untaken_unchanged}
-use Rattle.lines.specs.Lines.{Line, start, change, block, reset, mode, channel, midi, unreadable, Desk, numbered, with_four, with_mode, with_channel, begins, Said, begun, not_begun, changed, taken, begun-again, mode-changed, channel-changed, keyed, not_read}
+use Rattle.lines.specs.Lines.{Line, block, Desk, numbered, with_four, with_mode, with_channel, begins, Said, begun, not_begun, changed, taken, begun-again, mode-changed, channel-changed, keyed, not_read}
 use Rattle.reports.specs.declared.Figures.{Figures}
 use Rattle.reports.specs.Reports.{figures_of, no_figures}
 use Rattle.reports.specs.Counting.{Within}

@@ -1,20 +1,18 @@
 -- The input goes on, byte by byte, and comes to its end; and no second report of an input.
-use Rattle.std.specs.Prelude.{◌≡◌, refl, List, [], ◌∷◌, ◌++◌, ℕ, suc, ◌+◌, ◌≤◌, ◌<◌, ltb, length, take, get_or, set}
+use Rattle.std.specs.Prelude.{◌≡◌, refl, List, [], ◌∷◌, ◌++◌, ℕ, ◌+◌, ◌≤◌, ◌<◌, ltb, length, take, get_or, set}
 use Rattle.std.proofs.Common.{sym, ap, subst, ◌∙◌, append-nil, append_assoc, add-one, arith, lt-ltb, le-ltb, ltb-false, length-append, take-suc, take_all, take-suc-set, length-take-le}
 use Rattle.whole.specs.Tests.{cond_case, cond_yes, cond_no}
-use Rattle.rules.specs.Rules.{take_limit}
 use Rattle.tuner.specs.declared.Tuner.{Tuner}
 use Rattle.tuner.specs.declared.Answer.{Answer}
 use Rattle.tuner.specs.Tuners.{fresh_numbers, silent_tuner, default_tuner}
 use Rattle.lines.specs.Lines.{Line, read, desk, Desk, Said}
 use Rattle.lines.specs.Laws.{read-long}
 use Rattle.lines.specs.Ones.{said-one}
-use Rattle.reports.specs.declared.Figures.{Figures}
 use Rattle.reports.specs.Reports.{no_figures, takes_lines, total_of, report_of}
 use Rattle.reports.proofs.Counting.{within_none, figures-none}
 use Rattle.reporting.specs.declared.Reporting.{Reporting}
 use Rattle.reporting.specs.Reporting.{Takes, takes_after, Through, Reported, no_more, last_line, one_byte, line-ends, Report}
-use Rattle.reporting.specs.Keeping.{reporting, Few, Keeps, few, LineReported, SoFar}
+use Rattle.reporting.specs.Keeping.{reporting, Keeps, few, LineReported, SoFar}
 use Rattle.reporting.specs.Steps.{held_after}
 
 -- ---- no second report

@@ -1,9 +1,9 @@
 -- What a report keeps while its input comes: the newest take's figures, those of the takes before it added up, and their lines at the front of the output.
-use Rattle.std.specs.Prelude.{◌≡◌, refl, true, false, cond, take, drop}
+use Rattle.std.specs.Prelude.{◌≡◌, refl, true, false, take, drop}
 use Rattle.std.proofs.Math.Path.{sym, subst}
 use Rattle.std.proofs.Common.{ap, ◌∙◌, arith, le-leb, take_at, length-take-le}
-use mathlib.Core.List.{List, [], ◌∷◌, ◌++◌, append-nil, append_assoc}
-use Prim.Native.Nat.{ℕ, zero, suc, ◌+◌, ◌*◌, ◌≤◌, ◌<◌}
+use mathlib.Core.List.{List, [], ◌∷◌, ◌++◌, append_assoc}
+use Prim.Native.Nat.{ℕ, suc, ◌+◌, ◌*◌, ◌≤◌, ◌<◌}
 use Rattle.std.proofs.lemmas.Bool.{lt-leb}
 use Rattle.std.proofs.Math.ListN.{length, length-append}
 use Rattle.whole.specs.Tests.{cond_yes, cond_no}
@@ -23,7 +23,7 @@ use Rattle.reports.specs.Counting.{Within, most}
 use Rattle.reports.proofs.Counting.{within_none, within_more, within-added, figures-none, figures-append}
 use Rattle.reports.proofs.Writing.{line-short}
 use Rattle.reporting.specs.declared.Reporting.{Reporting}
-use Rattle.reporting.specs.Reporting.{Takes, brought_by, with_given, takes_after, Reported, Report}
+use Rattle.reporting.specs.Reporting.{Takes, brought_by, with_given, takes_after, Reported}
 use Rattle.reporting.specs.Counts.{On, counted_of, said-counts}
 
 abbrev pub reporting : Tuner → ℕ → Figures → Figures → ℕ → Reporting

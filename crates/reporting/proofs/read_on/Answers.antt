@@ -1,7 +1,5 @@
 -- `reporting::read_on` meets its contract: after i turns the first i bytes of the piece have come.
 use mathlib.Core.Path.{sym, subst}
-use mathlib.Core.List.{List}
-use Prim.Native.Nat.{ℕ, ◌-◌}
 use native.Mathlib.Omega.{arith}
 use lib.ListN.{get_or}
 use lib.Seq.{length-take-le}

@@ -1,7 +1,5 @@
 -- `reporting::report_line` meets its contract: a line that begins a take leaves a tuner without samples, and what any other counts is added to the newest take.
 use mathlib.Core.Path.{sym, subst}
-use mathlib.Core.List.{List}
-use Prim.Native.Nat.{ℕ}
 use native.Mathlib.Omega.{arith}
 use Rattle.reports.specs.Counting.{Within, most}
 use Rattle.reports.proofs.Counting.{within_more}
