@@ -1,4 +1,4 @@
--- What the types of numbers and of a tuner say of their arrays. A proof of a function with the numbers n as its first parameter cites `voices-long c.args.n _ c.good.0`, with c its `Start`.
+-- What the types of numbers and of a tuner say of their arrays. A proof of a function with the numbers n as its first parameter cites `voices-long c.args.n _ c.well_formed.0`.
 -- Assumes nothing.
 use mathlib.Core.Path.{◌≡◌}
 use mathlib.Core.List.{List}

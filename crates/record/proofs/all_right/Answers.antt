@@ -38,21 +38,15 @@ pitch_right-requires c = let k = c.requires in (k.store, k.store_fits)
 
 pub returns : goal.returns
 returns c =
-    let c6 = c in
-    let c5 = c6 in
-    let c4 = c5 in
-    let c3 = c4 in
-    let c2 = c3 in
-    let c1 = c2 in
     let size = length-in (goal.at.returns c).Else-not-length_right in
     λ l e. decides_as c.pitch_right.ensures
     (λ v. record {
-      settings = sym c2.settings_number.ensures ∙ c2.if-settings_number-ne0.false;
-      hertz = c1.known_rate.ensures.yes c1.if-not-known_rate.false;
-      keyboard = c3.right.ensures.yes c3.if-not-right.false;
+      settings = sym c.settings_number.ensures ∙ c.if-settings_number-ne0.false;
+      hertz = c.known_rate.ensures.yes c.if-not-known_rate.false;
+      keyboard = c.right.ensures.yes c.if-not-right.false;
       heard = heard-in (goal.at.returns c).Else-not-heard_right;
       pitch = v;
-      head = record { behind = c5.if-d-gt-FARTHEST.false };
+      head = record { behind = c.if-d-gt-FARTHEST.false };
       last = record { length = omega (arith, e, size.0); within = omega (arith, e, size.1) };
     })
     (λ p. p.pitch)

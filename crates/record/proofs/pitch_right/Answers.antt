@@ -9,20 +9,15 @@ returns-then-not-tone_right c = refused (λ p. c.tone_right.ensures.no c.if-not-
 
 pub returns-then-v-eq1 : goal.returns-then-v-eq1
 returns-then-v-eq1 c =
-    let c2 = c in
-    let c1 = c2 in
     decides_as c.tracker_right.ensures
-    (λ k. right-tracking c2.if-v-eq1.true (c1.tone_right.ensures.yes c1.if-not-tone_right.false) k)
-    (λ p. tracking-right c2.if-v-eq1.true p)
+    (λ k. right-tracking c.if-v-eq1.true (c.tone_right.ensures.yes c.if-not-tone_right.false) k)
+    (λ p. tracking-right c.if-v-eq1.true p)
 
 pub returns-then-v-gt1 : goal.returns-then-v-gt1
 returns-then-v-gt1 c = refused (λ p. let t = c.if-v-gt1.true in let f = p.flag in omega arith)
 
 pub returns : goal.returns
 returns c =
-    let c3 = c in
-    let c2 = c3 in
-    let c1 = c2 in
     decides_as (decides_eq _ _)
-    (λ z. right-searching (let l = c3.if-v-gt1.false in let n = c2.if-v-eq1.false in omega arith) (c1.tone_right.ensures.yes c1.if-not-tone_right.false) z)
-    (λ p. searching-right c2.if-v-eq1.false p)
+    (λ z. right-searching (let l = c.if-v-gt1.false in let n = c.if-v-eq1.false in omega arith) (c.tone_right.ensures.yes c.if-not-tone_right.false) z)
+    (λ p. searching-right c.if-v-eq1.false p)

@@ -22,11 +22,8 @@ returns-then-t-gt-NO_NOTE c = refused (λ q. omega (arith, (ranges_with c.if-t-e
 
 pub returns : goal.returns
 returns c =
-    let c4 = c in
-    let c3 = c4 in
-    let c2 = c3 in
-    let k = c2.if-t-gt255.false in
-    let p = c3.within.ensures.yes c3.if-not-within.false in
+    let k = c.if-t-gt255.false in
+    let p = c.within.ensures.yes c.if-not-within.false in
     decides_as c.within-2.ensures
-    (λ r. pitched p.0 p.1 c4.if-t-gt-NO_NOTE.false r.0 (omega (arith, r)) (omega (arith, k)))
-    (λ q. (ranges_with c2.if-t-eq0.false q).2)
+    (λ r. pitched p.0 p.1 c.if-t-gt-NO_NOTE.false r.0 (omega (arith, r)) (omega (arith, k)))
+    (λ q. (ranges_with c.if-t-eq0.false q).2)

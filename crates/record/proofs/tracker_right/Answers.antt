@@ -22,19 +22,14 @@ returns-then-not-within-2 c = refused (λ p. c.within-2.ensures.no c.if-not-with
 
 pub all_right-requires : goal.all_right-requires
 all_right-requires c =
-    let c1 = c in
-    let s = c1 in
-    let low = c1.within.ensures.yes c1.if-not-within.false in
+    let low = c.within.ensures.yes c.if-not-within.false in
     let n = lengths (goal.at.all_right-requires c).Start in
-    (record { samples = s.requires.1; long = omega arith; from = omega arith; upto = omega arith; reach = omega arith }, omega arith)
+    (record { samples = c.requires.1; long = omega arith; from = omega arith; upto = omega arith; reach = omega arith }, omega arith)
 
 pub returns : goal.returns
 returns c =
-    let c2 = c in
-    let c1 = c2 in
-    let s = c1 in
-    let low = c1.within.ensures.yes c1.if-not-within.false in
-    let last = c2.within-2.ensures.yes c2.if-not-within-2.false in
-    decides_as (right_of s.args.store.now 1764 8 s.requires.0 (lengths (goal.at.returns c).Start).0 c.all_right.ensures)
+    let low = c.within.ensures.yes c.if-not-within.false in
+    let last = c.within-2.ensures.yes c.if-not-within-2.false in
+    decides_as (right_of c.args.store.now 1764 8 c.requires.0 (lengths (goal.at.returns c).Start).0 c.all_right.ensures)
     (λ r. record { lags = record { from = low.0; upto = omega arith; last_from = last.0; last_upto = last.1 }; sums = r })
     (λ p. p.sums)

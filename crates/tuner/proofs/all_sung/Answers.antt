@@ -37,17 +37,16 @@ slice_bounds-sung-end c = omega (arith, c.requires.0.few, c.requires.5, c.loop-j
 
 pub sung-requires : goal.sung-requires
 sung-requires c =
-    let l = c in
-    let p = l.requires in
-    let j = l.loop-j.j in
-    let h : j < l.args.chosen = omega arith in
+    let p = c.requires in
+    let j = c.loop-j.j in
+    let h : j < c.args.chosen = omega arith in
     let from = 512 * (j + 1) in (
-      subst VoiceIn (sym (l.loop-j.invariant.2 j (omega arith))) (p.0.each j h),
+      subst VoiceIn (sym (c.loop-j.invariant.2 j (omega arith))) (p.0.each j h),
       p.1,
       p.2,
       p.3,
       p.4,
-      omega (arith, length-take (from + 512 - from) (drop from l.loop-j.outs), length-drop from l.loop-j.outs, p.5, p.0.few, l.loop-j.invariant.1, h),
+      omega (arith, length-take (from + 512 - from) (drop from c.loop-j.outs), length-drop from c.loop-j.outs, p.5, p.0.few, c.loop-j.invariant.1, h),
     )
 
 pub offset_bounds-r-j-in-loop-j : goal.offset_bounds-r-j-in-loop-j
@@ -61,11 +60,10 @@ overflow_add-j c = omega (arith, c.requires.0.few)
 
 pub loop-j-preserved : goal.loop-j-preserved
 loop-j-preserved c =
-    let l = c in
-    let a = l.args in
-    let p = l.requires in
-    let j = l.loop-j.j in
-    let v = l.loop-j.invariant in
+    let a = c.args in
+    let p = c.requires in
+    let j = c.loop-j.j in
+    let v = c.loop-j.invariant in
     let t : j < a.chosen = omega arith in
     let three : length a.vs ≡ 3 = search rules in
     let d = c.sung in
@@ -73,13 +71,13 @@ loop-j-preserved c =
     let from = 512 * (j + 1) in
     let sang = subst (λ (w : Voice). SangBeside a.hertz a.periods.now a.notes.now a.s.now a.b w d.result o) (v.2 j (omega arith)) d.ensures in
     let long = sang-long p.4 sang in
-    let rest = drop (from + 512 - from) (drop from l.loop-j.outs) in
-    let fits : from + 512 ≤ length l.loop-j.outs = omega (arith, p.5, p.0.few, v.1, t) in (
+    let rest = drop (from + 512 - from) (drop from c.loop-j.outs) in
+    let fits : from + 512 ≤ length c.loop-j.outs = omega (arith, p.5, p.0.few, v.1, t) in (
       omega (arith, t),
-      length-append (take from l.loop-j.outs) (o ++ rest)
-          ∙ omega (arith, length-take-le from l.loop-j.outs (omega (arith, fits)), length-append o rest, length-drop (from + 512 - from) (drop from l.loop-j.outs), length-drop from l.loop-j.outs, long, fits, v.1),
-      rest_more a.vs l.loop-j.r d.result j v.2,
-      sung-more j l.loop-j.outs o from (from + 512 - from) (omega arith) (omega arith) t (omega (arith, three, p.0.few, t)) fits long v.3 sang,
+      length-append (take from c.loop-j.outs) (o ++ rest)
+          ∙ omega (arith, length-take-le from c.loop-j.outs (omega (arith, fits)), length-append o rest, length-drop (from + 512 - from) (drop from c.loop-j.outs), length-drop from c.loop-j.outs, long, fits, v.1),
+      rest_more a.vs c.loop-j.r d.result j v.2,
+      sung-more j c.loop-j.outs o from (from + 512 - from) (omega arith) (omega arith) t (omega (arith, three, p.0.few, t)) fits long v.3 sang,
     )
 
 pub shape_of-outs : goal.shape_of-outs
@@ -87,7 +85,6 @@ shape_of-outs c = c.loop-j.invariant.1
 
 pub returns : goal.returns
 returns c =
-    let l = c in
-    let a = l.args in
-    let e : l.loop-j.j ≡ a.chosen = omega (arith, l.loop-j.invariant.0) in
-    record { sung = λ go out g. subst (λ (n : ℕ). SungTo n a.vs a.outs.now go out l.loop-j.r l.loop-j.outs) e (l.loop-j.invariant.3 go out g); long = l.loop-j.invariant.1 ∙ l.requires.5 }
+    let a = c.args in
+    let e : c.loop-j.j ≡ a.chosen = omega (arith, c.loop-j.invariant.0) in
+    record { sung = λ go out g. subst (λ (n : ℕ). SungTo n a.vs a.outs.now go out c.loop-j.r c.loop-j.outs) e (c.loop-j.invariant.3 go out g); long = c.loop-j.invariant.1 ∙ c.requires.5 }

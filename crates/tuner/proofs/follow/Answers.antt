@@ -13,10 +13,10 @@ use Rattle.tuner.proofs.Taking.{pitched-counted}
 use Rattle.tuner.proofs.follow.Goals as goal
 
 pub slice_bounds-led-end-2 : goal.slice_bounds-led-end-2
-slice_bounds-led-end-2 c = let s = c in sym (length-take-le 512 s.args.outs.now (omega (arith, s.requires.places)))
+slice_bounds-led-end-2 c = sym (length-take-le 512 c.args.outs.now (omega (arith, c.requires.places)))
 
 pub led-g-requires : goal.led-g-requires
-led-g-requires c = let s = c in let p = s.requires in (p.near, p.paced, p.stored, p.few, length-take-le 512 s.args.outs.now (omega (arith, p.places)))
+led-g-requires c = let p = c.requires in (p.near, p.paced, p.stored, p.few, length-take-le 512 c.args.outs.now (omega (arith, p.places)))
 
 pub overflow_sub-last : goal.overflow_sub-last
 overflow_sub-last c = let a = c.args in omega (arith, c.count_of.ensures, counted-within 0 a.periods.now a.b)
@@ -26,17 +26,15 @@ overflow_cast-n-2 c = omega (arith, rate-upto c.requires.hertz)
 
 pub all_sung-beside-requires : goal.all_sung-beside-requires
 all_sung-beside-requires c =
-    let s = c in
-    let p = s.requires in
+    let p = c.requires in
     let d = c.led-g in
     let o = d.new.out in
-    (p.voices, p.hertz, p.tracked, p.stored, p.few, length-append o (drop 512 s.args.outs.now) ∙ omega (arith, glided-long p.few d.ensures, length-drop 512 s.args.outs.now, p.places))
+    (p.voices, p.hertz, p.tracked, p.stored, p.few, length-append o (drop 512 c.args.outs.now) ∙ omega (arith, glided-long p.few d.ensures, length-drop 512 c.args.outs.now, p.places))
 
 pub listed-goes_on-requires : goal.listed-goes_on-requires
 listed-goes_on-requires c =
-    let s = c in
-    let a = s.args in
-    let p = s.requires in
+    let a = c.args in
+    let p = c.requires in
     (p.few, p.long.notes, p.long.periods, p.count, p.list, omega (arith, c.count_of.ensures, counted-within 0 a.periods.now a.b))
 
 pub shape_of-outs : goal.shape_of-outs
@@ -44,9 +42,8 @@ shape_of-outs c = c.all_sung-beside.ensures.long ∙ sym c.requires.places
 
 pub returns : goal.returns
 returns c =
-    let s = c in
-    let a = s.args in
-    let p = s.requires in
+    let a = c.args in
+    let p = c.requires in
     let d = c.led-g in
     let sang = c.all_sung-beside in
     let on = c.listed-goes_on in

@@ -5,16 +5,14 @@ use Rattle.tuner.proofs.fresh_numbers.Goals as goal
 pub returns : goal.returns
 unfolding fresh_numbers
 returns c =
-    let v = c in
-    let k = v in
-    let a = k.args in
+    let a = c.args in
     λ i. record {
       layout = 40000;
       settings = a.s;
       hertz = a.hertz;
-      keyboard = k.fresh.ensures i;
+      keyboard = c.fresh.ensures i;
       count = 0;
-      pitch = v.fresh_pitch.ensures i;
+      pitch = c.fresh_pitch.ensures i;
       behind = 0;
       last = no_last;
       listed = a.listed;

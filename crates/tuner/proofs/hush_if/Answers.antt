@@ -5,4 +5,4 @@ use Rattle.lists.proofs.Hushes.{hushed-none}
 use Rattle.tuner.proofs.hush_if.Goals as goal
 
 pub returns-then-b-pitched : goal.returns-then-b-pitched
-returns-then-b-pitched c = let s = c in let a = s.args in let p = s.requires in sym (hushed-none a.b a.periods.now a.notes.now (omega (arith, p.0, p.2)) (omega (arith, p.0, p.1)) (omega (arith, p.3, c.if-b-pitched.true)))
+returns-then-b-pitched c = let a = c.args in let p = c.requires in sym (hushed-none a.b a.periods.now a.notes.now (omega (arith, p.0, p.2)) (omega (arith, p.0, p.1)) (omega (arith, p.3, c.if-b-pitched.true)))

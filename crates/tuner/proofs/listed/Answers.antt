@@ -14,10 +14,7 @@ returns-then-keeps-eq0 c = sym (cond_yes _ _ (eq-eqb _ 0 c.if-keeps-eq0.true))
 pub returns : goal.returns
 unfolding listed_of
 returns c =
-    let m = c in
-    let h = m in
-    let s = c in
-    let a = s.args in
-    m.more.ensures
-    ∙ (λ i. after_notes (m.sung.ensures i) a.count (sheet a.list a.store.now) (take a.b (h.hush_if.ensures i)))
-    ∙ sym (cond_no (sheet a.list a.store.now) _ (ne_eqb a.keeps 0 h.if-keeps-eq0.false))
+    let a = c.args in
+    c.more.ensures
+    ∙ (λ i. after_notes (c.sung.ensures i) a.count (sheet a.list a.store.now) (take a.b (c.hush_if.ensures i)))
+    ∙ sym (cond_no (sheet a.list a.store.now) _ (ne_eqb a.keeps 0 c.if-keeps-eq0.false))

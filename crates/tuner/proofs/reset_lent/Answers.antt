@@ -10,5 +10,4 @@ returns-then-number-ne0 c = let a = c.args in judged_not (c.right-good.ensures a
 pub returns : goal.returns
 unfolding silent_tuner
 returns c =
-    let e = c in
-    judged-taken (e.right-good.ensures c.args.outs.now) e.reset_number-number.ensures e.if-number-ne0.false (ap silent_tuner c.begun_again.ensures)
+    judged-taken (c.right-good.ensures c.args.outs.now) c.reset_number-number.ensures c.if-number-ne0.false (ap silent_tuner c.begun_again.ensures)

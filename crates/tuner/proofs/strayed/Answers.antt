@@ -16,22 +16,21 @@ pub bounds-rates-i : goal.bounds-rates-i
 bounds-rates-i c = omega (arith, c.requires.0)
 
 pub astray-sum-requires : goal.astray-sum-requires
-astray-sum-requires c = let l = c in l.requires.2 l.loop-i.i (omega arith)
+astray-sum-requires c = c.requires.2 c.loop-i.i (omega arith)
 
 pub overflow_add-sum : goal.overflow_add-sum
-overflow_add-sum c = let l = c in omega (arith, c.astray-sum.ensures.1, l.loop-i.invariant.2, l.loop-i.invariant.0, l.requires.0)
+overflow_add-sum c = omega (arith, c.astray-sum.ensures.1, c.loop-i.invariant.2, c.loop-i.invariant.0, c.requires.0)
 
 pub overflow_add-i : goal.overflow_add-i
 overflow_add-i c = omega (arith, c.requires.0)
 
 pub loop-i-preserved : goal.loop-i-preserved
 loop-i-preserved c =
-    let l = c in
-    let a = l.args in
-    let p = l.requires in
-    let v = l.loop-i.invariant in
+    let a = c.args in
+    let p = c.requires in
+    let v = c.loop-i.invariant in
     let t = c.loop-i-test.true in
-    (omega (arith, t), (λ j. v.1 j + c.astray-sum.ensures.0 j) ∙ sym (distance-more a.rates.now l.loop-i.i (omega (arith, t, p.0, p.1))), omega (arith, v.2, c.astray-sum.ensures.1))
+    (omega (arith, t), (λ j. v.1 j + c.astray-sum.ensures.0 j) ∙ sym (distance-more a.rates.now c.loop-i.i (omega (arith, t, p.0, p.1))), omega (arith, v.2, c.astray-sum.ensures.1))
 
 pub returns : goal.returns
 returns c =

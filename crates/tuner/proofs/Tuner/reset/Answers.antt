@@ -8,4 +8,4 @@ pub returns-then-number-ne0 : goal.returns-then-number-ne0
 returns-then-number-ne0 c = judged_not c.good.ensures c.reset_number-number.ensures c.if-number-ne0.true
 
 pub returns : goal.returns
-returns c = let e = c in judged-taken e.good.ensures e.reset_number-number.ensures e.if-number-ne0.false (c.silent.ensures ∙ ap silent_tuner c.begun_again.ensures)
+returns c = judged-taken c.good.ensures c.reset_number-number.ensures c.if-number-ne0.false (c.silent.ensures ∙ ap silent_tuner c.begun_again.ensures)
