@@ -1,20 +1,16 @@
-use mathlib.Core.Path.{◌≡◌, refl, sym, ap, ◌∙◌}
+use mathlib.Core.Path.{◌≡◌, sym, ap, ◌∙◌}
 use Prim.Native.Nat.{◌+◌}
 use native.Mathlib.Nat.{zero-add}
 use native.Mathlib.Omega.{arith}
 use native.Mathlib.Numerals.{add-one}
 use lib.IntN.{ℤ, pos}
-use lib.ListN.{length, drop, set, replicate, length-set, get_or, length-replicate, get_or-replicate}
-use lib.Seq.{paste, paste-zero, paste-suc, take-length}
-use mathlib.Core.List.{List, ◌++◌}
-use Rattle.copying.specs.Copies.{laid-all}
+use lib.ListN.{length, set, replicate, length-set, get_or, length-replicate, get_or-replicate}
+use lib.Seq.{paste, paste-suc}
+use mathlib.Core.List.{List}
 use Rattle.copying.proofs.clear.Goals as goal
 
 abbrev zeros : List ℤ → List ℤ
 zeros all = replicate (length all) (pos 0)
-
-pub loop-i-init : goal.loop-i-init
-loop-i-init c = (omega arith, refl, paste-zero c.args.all.now 0 (zeros c.args.all.now))
 
 pub loop-i-preserved : goal.loop-i-preserved
 loop-i-preserved c =
@@ -28,16 +24,3 @@ loop-i-preserved c =
           ∙ paste-suc all 0 (zeros all) l.i (pos 0) (omega arith) (omega (arith, length-replicate (length all) (pos 0)))
           ∙ ap (paste all 0 (zeros all)) (sym (add-one l.i)),
     )
-
-pub shape_of-all : goal.shape_of-all
-shape_of-all c = c.loop-i.invariant.1
-
-pub returns : goal.returns
-returns c =
-    let all = c.args.all.now in
-    let n = length-replicate (length all) (pos 0) in
-    let e : c.loop-i.i ≡ length (zeros all) = omega (arith, n) in
-    c.loop-i.invariant.2
-    ∙ ap (paste all 0 (zeros all)) e
-    ∙ ap (λ (l : List ℤ). l ++ drop (0 + length (zeros all)) all) (take-length (zeros all))
-    ∙ laid-all all (zeros all) n

@@ -1,20 +1,16 @@
-use mathlib.Core.Path.{◌≡◌, refl, sym, ap, ◌∙◌, subst}
+use mathlib.Core.Path.{◌≡◌, sym, ap, ◌∙◌, subst}
 use Prim.Native.Nat.{◌+◌}
 use native.Mathlib.Omega.{arith}
 use native.Mathlib.Numerals.{add-one}
 use Rattle.std.proofs.Common.{rules}
-use lib.IntN.{ℤ, pos}
-use lib.ListN.{length, get_or, take, drop, set, length-set}
-use lib.Seq.{paste, paste-zero, paste-suc, take-length}
+use lib.IntN.{pos}
+use lib.ListN.{get_or, set, length-set}
+use lib.Seq.{paste, paste-suc}
 use mir.Syntax.{w16}
 use mir.Val.{SFits, to_z, of_z}
 use mir.Facts.{to_z-of_z}
-use mathlib.Core.List.{List, ◌++◌}
 use Rattle.ages.specs.Ages.{samples-put}
 use Rattle.copying.proofs.lay.Goals as goal
-
-pub loop-i-init : goal.loop-i-init
-loop-i-init c = (omega arith, (refl, paste-zero c.args.into.now c.args.from c.args.xs.now, λ r. r))
 
 pub loop-i-preserved : goal.loop-i-preserved
 loop-i-preserved c =
@@ -32,14 +28,3 @@ loop-i-preserved c =
         λ r. samples-put l.into (a.from + l.i) (to_z w16 (of_z w16 x)) (subst (SFits w16) (sym e) f) (omega arith) (l.invariant.1.2 r),
       ),
     )
-
-pub shape_of-into : goal.shape_of-into
-shape_of-into c = c.loop-i.invariant.1.0
-
-pub returns-clause-laid : goal.returns-clause-laid
-returns-clause-laid c =
-    let a = c.args in
-    let e : c.loop-i.i ≡ length a.xs.now = omega arith in
-    c.loop-i.invariant.1.1
-    ∙ ap (paste a.into.now a.from a.xs.now) e
-    ∙ ap (λ (l : List ℤ). take a.from a.into.now ++ l ++ drop (a.from + length a.xs.now) a.into.now) (take-length a.xs.now)

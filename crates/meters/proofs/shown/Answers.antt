@@ -5,9 +5,7 @@ use native.Mathlib.Omega.{arith}
 use borrow.Author.Tests.{eq-eqb, ne_eqb}
 use Rattle.rules.specs.Rules.{wanted_period}
 use Rattle.rules.proofs.Notes.{wanted_period_upto}
-use Rattle.rules.proofs.Position.{ranges_with}
 use Rattle.pitch.specs.declared.Pitch.{Pitch as KeptPitch}
-use Rattle.pitch.specs.Listening.{is-tracking}
 use Rattle.meters.specs.declared.Meter.{Meter}
 use Rattle.meters.specs.Meters.{ratio, Exactly, figures_of, shown_of, searching, locking, pitched}
 use Rattle.meters.proofs.shown.Goals as goal
@@ -29,34 +27,16 @@ module _ (hertz : ℕ) (v : KeptPitch) where
 pub returns-then-v-ne1 : goal.returns-then-v-ne1
 returns-then-v-ne1 c = (when-searching _ _ c.if-v-ne1.true, searching)
 
-pub lag_figure-requires : goal.lag_figure-requires
-lag_figure-requires c =
-    let on = c.if-v-ne1.false in
-    let s = c in
-    let l = rw (is-tracking s.args.v on) at s.requires.1.lags in
-    omega (arith, l.upto, l.last_upto)
-
 pub returns-then-v-eq0 : goal.returns-then-v-eq0
 returns-then-v-eq0 c =
     let f = c.lag_figure.ensures in
     let on = c.if-v-ne1.false in
     (ap Meter.Locking f.is ∙ when-locking _ _ on c.if-v-eq0.true, locking f.exact)
 
-pub figure-requires : goal.figure-requires
-figure-requires c =
-    let p = ranges_with c.if-v-eq0.false c.requires.1.tone in
-    omega arith
-
 pub figure-requires-2 : goal.figure-requires-2
 figure-requires-2 c =
     let s = c in
     rw c.wanted_period-wanted.ensures (omega (arith, wanted_period_upto s.requires.0 s.args.v.tone.note))
-
-pub fine_figure-requires : goal.fine_figure-requires
-fine_figure-requires c =
-    let at = c in
-    let p = ranges_with at.if-v-eq0.false at.requires.1.tone in
-    omega arith
 
 pub returns : goal.returns
 returns c =

@@ -17,12 +17,3 @@ returns-then-u-eq0 c =
     let f : SFits w16 (value_at s (a.at + 1)) = search rules in
     to_z-of_z {w = w16} f
     ∙ sym (ap (through (value_at s a.at) (value_at s (a.at + 1)) (value_at s (a.at + 2)) (value_at s (a.at + 3))) c.if-u-eq0.true ∙ through-none _ (value_at s (a.at + 1)) _ _ f)
-
-pub returns : goal.returns
-returns c =
-    let b = c in
-    let here = to_z-of_z {w = w16} {z = value_at b.args.s.now (b.args.at + 1)} (search rules) in
-    let first = to_z-of_z {w = w16} {z = value_at b.args.s.now b.args.at} (search rules) in
-    let third = to_z-of_z {w = w16} {z = value_at b.args.s.now (b.args.at + 2)} (search rules) in
-    let fourth = to_z-of_z {w = w16} {z = value_at b.args.s.now (b.args.at + 3)} (search rules) in
-    to_z-of_z {w = w16} (record { sfits = c.through.type_inv }) ∙ c.through.ensures ∙ (λ i. through (first i) (here i) (third i) (fourth i) b.args.u)

@@ -5,7 +5,7 @@ use Prim.Native.Nat.{ℕ, ◌+◌, ◌*◌, ◌^◌}
 use lib.IntN.{ℤ, pos, ◌+ℤ◌, ◌-ℤ◌, ◌*ℤ◌}
 use mir.Syntax.{w16, w64}
 use mir.Val.{SFits, to_z, of_z}
-use Rattle.whole.specs.Words.{Bits, arg, num, lit, cast, cast_ok, add, add_ok, sub, sub-ok, mul, mul_ok}
+use Rattle.whole.specs.Words.{Bits, arg, num, lit, cast, add, add_ok, sub, sub-ok, mul, mul_ok}
 use Rattle.whole.specs.Ring.{Expr, var, con, ◌⊕◌, ◌⊖◌, ◌⊗◌, solve}
 use Rattle.reading.specs.Bends.{bend, bend_x}
 use Rattle.reading.proofs.bend.Goals.{Start}
@@ -83,35 +83,8 @@ module _ (c : Start) where
   sum : Bits w64 (2 ^ 30 + 4096 * (2 ^ 17 + 2 ^ 18)) sumBits (cubeOf *ℤ pos u +ℤ pos 4096 *ℤ squareOf)
   sum = add (mul cube share tt) (mul (lit w64 4096) square tt) tt
 
-pub overflow_cast-left : goal.overflow_cast-left
-overflow_cast-left c = cast_ok (arg c.ranges.p) tt
-
-pub overflow_cast-here : goal.overflow_cast-here
-overflow_cast-here c = cast_ok (arg c.ranges.a) tt
-
-pub overflow_cast-next : goal.overflow_cast-next
-overflow_cast-next c = cast_ok (arg c.ranges.b) tt
-
-pub overflow_cast-right : goal.overflow_cast-right
-overflow_cast-right c = cast_ok (arg c.ranges.q) tt
-
-pub overflow_sub-rise : goal.overflow_sub-rise
-overflow_sub-rise c = sub-ok (long c.ranges.b) (long c.ranges.a) tt
-
-pub overflow_sub-cube : goal.overflow_sub-cube
-overflow_sub-cube c = sub-ok (long c.ranges.q) (long c.ranges.p) tt
-
-pub overflow_mul-cube : goal.overflow_mul-cube
-overflow_mul-cube c = mul_ok (lit w64 3) (rise (goal.at.overflow_mul-cube c).Start) tt
-
 pub overflow_sub-cube-2 : goal.overflow_sub-cube-2
 overflow_sub-cube-2 c = sub-ok (spread (goal.at.overflow_sub-cube-2 c).Start) (mul (lit w64 3) (rise (goal.at.overflow_sub-cube-2 c).Start) tt) tt
-
-pub overflow_sub-square : goal.overflow_sub-square
-overflow_sub-square c = sub-ok (long c.ranges.p) (long c.ranges.a) tt
-
-pub overflow_add-square : goal.overflow_add-square
-overflow_add-square c = add_ok (fall (goal.at.overflow_add-square c).Start) (rise (goal.at.overflow_add-square c).Start) tt
 
 pub overflow_sub-square-2 : goal.overflow_sub-square-2
 overflow_sub-square-2 c = sub-ok (add (fall (goal.at.overflow_sub-square-2 c).Start) (rise (goal.at.overflow_sub-square-2 c).Start) tt) (cube (goal.at.overflow_sub-square-2 c).Start) tt

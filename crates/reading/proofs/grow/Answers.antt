@@ -7,27 +7,12 @@ use Rattle.rules.proofs.Position.{growth-keeps, growth-drops, growth-repeats}
 use Rattle.reading.specs.Gliding.{grown}
 use Rattle.reading.proofs.grow.Goals as goal
 
-pub overflow_mul-result : goal.overflow_mul-result
-overflow_mul-result c = let r = c.requires.3 in omega arith
-
-pub overflow_add-result : goal.overflow_add-result
-overflow_add-result c = let r = c.requires.3 in omega arith
-
-pub overflow_sub-result : goal.overflow_sub-result
-overflow_sub-result c = let r = c.requires.3 in omega arith
-
 pub returns-then-b-rate : goal.returns-then-b-rate
 returns-then-b-rate c =
     let a = c.args in
     let r = c.requires.3 in
     grown (a.period ∷ []) [] (omega (arith, c.if-b-rate.true, r.fast, r.upto)) refl (sym (add-zero a.g.dropped)) (omega arith, omega arith)
     (λ n. growth-repeats n a.g.behind a.rate a.period refl c.if-b-rate.true r.fast r.upto)
-
-pub overflow_mul-result-then-k-gt-FARTHEST : goal.overflow_mul-result-then-k-gt-FARTHEST
-overflow_mul-result-then-k-gt-FARTHEST c = let r = c.requires.3 in omega arith
-
-pub overflow_sub-result-then-k-gt-FARTHEST : goal.overflow_sub-result-then-k-gt-FARTHEST
-overflow_sub-result-then-k-gt-FARTHEST c = let r = c.requires.3 in omega arith
 
 pub returns-then-k-gt-FARTHEST : goal.returns-then-k-gt-FARTHEST
 returns-then-k-gt-FARTHEST c =

@@ -42,8 +42,5 @@ returns-then-z-ltminus32768 c = sym (is_below _ c.ranges.z c.if-z-ltminus32768.t
 pub returns-then-z-gt32767 : goal.returns-then-z-gt32767
 returns-then-z-gt32767 c = sym (is-above _ c.ranges.z c.if-z-ltminus32768.false c.if-z-gt32767.true)
 
-pub overflow_cast-result : goal.overflow_cast-result
-overflow_cast-result c = subst (λ (v : ℤ). SFits w16 v) (sym (passed (goal.at.overflow_cast-result c).Else-z-gt32767)) (held_fits c.args.z)
-
 pub returns : goal.returns
 returns c = to_z-of_z {w = w16} (subst (λ (v : ℤ). SFits w16 v) (sym (passed (goal.at.returns c).Else-z-gt32767)) (held_fits c.args.z)) ∙ passed (goal.at.returns c).Else-z-gt32767

@@ -5,7 +5,7 @@ use lib.IntN.{ℤ, pos, nat_abs, ◌+ℤ◌, ◌-ℤ◌, ◌*ℤ◌}
 use mir.Syntax.{w16, w64}
 use mir.Val.{SFits, to_z, of_z}
 use mir.Facts.{to_z-of_z}
-use Rattle.whole.specs.Words.{Bits, arg, arg≤, num, lit, is, cast, cast_ok, add, add_ok, sub, sub-ok, mul, mul_ok}
+use Rattle.whole.specs.Words.{Bits, arg, arg≤, num, lit, is, cast, add, add_ok, sub, mul, mul_ok}
 use Rattle.reading.specs.Bends.{bend, bend-within, lift}
 use Rattle.reading.proofs.lift.Goals.{After-bend-bent}
 use Rattle.reading.proofs.lift.Goals as goal
@@ -50,18 +50,6 @@ module _ (c : After-bend-bent) where
 
   turn : Bits w64 (2 ^ 44 + 2 ^ 40) (of_z w64 (to_z w64 (of_z w64 c.bend-bent.result) +ℤ to_z w64 slopeBits)) (bend p a b q u +ℤ pos 16777216 *ℤ (b -ℤ p))
   turn = add bent slope tt
-
-pub overflow_cast-left : goal.overflow_cast-left
-overflow_cast-left c = cast_ok (arg c.ranges.p) tt
-
-pub overflow_cast-next : goal.overflow_cast-next
-overflow_cast-next c = cast_ok (arg c.ranges.b) tt
-
-pub overflow_sub-result : goal.overflow_sub-result
-overflow_sub-result c = sub-ok (long c.ranges.b) (long c.ranges.p) tt
-
-pub overflow_mul-result : goal.overflow_mul-result
-overflow_mul-result c = mul_ok (lit w64 16777216) (sub (long c.ranges.b) (long c.ranges.p) tt) tt
 
 pub overflow_add-result : goal.overflow_add-result
 overflow_add-result c = add_ok (bent (goal.at.overflow_add-result c).After-bend-bent) (slope (goal.at.overflow_add-result c).After-bend-bent) tt

@@ -6,7 +6,7 @@ use lib.Signed.{shr_z}
 use mir.Syntax.{w16, w64}
 use mir.Val.{SFits, to_z, of_z}
 use mir.Facts.{to_z-of_z}
-use Rattle.whole.specs.Words.{Bits, arg, arg≤, is, cast, cast_ok, add, add_ok, shr, ok_of}
+use Rattle.whole.specs.Words.{Bits, arg, arg≤, is, cast, add, add_ok, shr, ok_of}
 use Rattle.rules.specs.Rules.{held, through}
 use Rattle.reading.specs.Bends.{lift, lift-beside, lift-within}
 use Rattle.reading.proofs.through.Goals.{After-lift}
@@ -37,9 +37,6 @@ module _ (c : After-lift) where
       let e = c.lift.ensures ∙ (λ i. lift (to_z-of_z f.p i) (to_z-of_z f.a i) (to_z-of_z f.b i) (to_z-of_z f.q i) u) in
       let ok : SFits w64 c.lift.result = record { sfits = c.lift.type_inv } in
       shr {w = w64} (2 * 4096 ^ 3) (is e (arg≤ (subst (λ (z : ℤ). nat_abs z ≤ 2 ^ 57) (sym e) (lift-within u c.requires f.p f.a f.b f.q)) ok)) (ok_of (sym e) ok)
-
-pub overflow_cast-here : goal.overflow_cast-here
-overflow_cast-here c = cast_ok (arg c.ranges.a) tt
 
 pub overflow_add-here : goal.overflow_add-here
 overflow_add-here c = add_ok (here (goal.at.overflow_add-here c).After-lift) (lifted (goal.at.overflow_add-here c).After-lift) tt

@@ -7,7 +7,7 @@ use lib.IntN.{ℤ, pos, nat_abs, ◌+ℤ◌, ◌-ℤ◌, ◌*ℤ◌}
 use mir.Syntax.{w16, w32, w64}
 use mir.Val.{SFits, to_z, of_z}
 use mir.Facts.{to_z-of_z}
-use Rattle.whole.specs.Words.{Bits, arg≤, lit, num, loop, cast, cast_ok, add, add_ok, mul, mul_ok, is}
+use Rattle.whole.specs.Words.{Bits, arg≤, lit, num, loop, cast, add, mul, is}
 use Rattle.whole.specs.Adding.{run-start, run, run_ok}
 use Rattle.whole.specs.Numbers.{sum}
 use Rattle.rules.specs.Facts.{value_at}
@@ -54,14 +54,8 @@ top e t n f = is (e ∙ ap high_of t) (arg≤ n f)
 bottom : {l p x : ℤ} → l ≡ low_of p → p ≡ x → nat_abs l ≤ 65536 → SFits w32 l → Bits w32 65536 (of_z w32 l) (low_of x)
 bottom e t n f = is (e ∙ ap low_of t) (arg≤ n f)
 
-pub high_part-highs-requires : goal.high_part-highs-requires
-high_part-highs-requires c = rw (to_z-of_z {w = w32} {z = c.pair-p.result} (record { sfits = c.pair-p.type_inv })) c.pair-p.ensures.1
-
 pub overflow_add-highs : goal.overflow_add-highs
 overflow_add-highs c = run_ok 440 c.loop-i.invariant.0 (top c.high_part-highs.ensures.0 (term (goal.at.overflow_add-highs c).After-pair-p) c.high_part-highs.ensures.1 (record { sfits = c.high_part-highs.type_inv })) (omega arith) tt
-
-pub low_part-lows-requires : goal.low_part-lows-requires
-low_part-lows-requires c = rw (to_z-of_z {w = w32} {z = c.pair-p.result} (record { sfits = c.pair-p.type_inv })) c.pair-p.ensures.1
 
 pub overflow_add-lows : goal.overflow_add-lows
 overflow_add-lows c = run_ok 440 c.loop-i.invariant.1 (bottom c.low_part-lows.ensures.0 (term (goal.at.overflow_add-lows c).After-pair-p) c.low_part-lows.ensures.1 (record { sfits = c.low_part-lows.type_inv })) (omega arith) tt
@@ -97,21 +91,6 @@ module _ (c : After-loop-i) where
   -- how many pairs there were
   many : Bits w64 440 c.args.pairs (pos turns)
   many = is (ap pos (omega arith)) (num {w = w64} {n = 440} {z = pos c.args.pairs} c.requires.2 tt)
-
-pub overflow_cast-a : goal.overflow_cast-a
-overflow_cast-a c = cast_ok (all-highs c) tt
-
-pub overflow_cast-b : goal.overflow_cast-b
-overflow_cast-b c = cast_ok (all-lows c) tt
-
-pub overflow_mul-result : goal.overflow_mul-result
-overflow_mul-result c = mul_ok (wide c) (lit w64 65536) tt
-
-pub overflow_add-result : goal.overflow_add-result
-overflow_add-result c = add_ok (placed c) (cast {w' = w64} (all-lows c) tt) tt
-
-pub overflow_add-result-2 : goal.overflow_add-result-2
-overflow_add-result-2 c = add_ok (both c) (many c) tt
 
 pub returns : goal.returns
 returns c =

@@ -9,7 +9,7 @@ use mir.Syntax.{w16, w32, w64}
 use mir.Val.{of_z}
 use mir.Facts.{to_z-of_z}
 use Rattle.whole.specs.Numbers.{sum}
-use Rattle.whole.specs.Words.{Bits, arg≤, cast, cast_ok, add, add_ok, is}
+use Rattle.whole.specs.Words.{Bits, arg≤, cast, add, is}
 use Rattle.rules.specs.Facts.{value_at}
 use Rattle.sums.specs.Direct.{products, one_more_lem, oldest_products}
 use Rattle.sums.proofs.correlation.Goals.{After-product}
@@ -55,12 +55,6 @@ module _ (c : After-product) where
       ∙ (λ i. to_z-of_z {w = w16} {z = value_at store (m - 1)} (search rules) i *ℤ to_z-of_z {w = w16} {z = value_at store (m - lag - 1)} (search rules) i)
       ∙ (λ i. value_at store (newer i) *ℤ value_at store (older i)))
       (arg≤ c.product.ensures.1 (record { sfits = c.product.type_inv }))
-
-pub overflow_cast-result : goal.overflow_cast-result
-overflow_cast-result c = cast_ok (last (goal.at.overflow_cast-result c).After-product) tt
-
-pub overflow_add-result : goal.overflow_add-result
-overflow_add-result c = add_ok (most (goal.at.overflow_add-result c).After-product) (cast {w' = w64} (last (goal.at.overflow_add-result c).After-product) tt) tt
 
 pub returns : goal.returns
 returns c =

@@ -10,24 +10,15 @@ use Rattle.sums.specs.Direct.{high_of, low_of, high_fits, low_small}
 use Rattle.sums.proofs.low_part.Goals.{After-high_part}
 use Rattle.sums.proofs.low_part.Goals as goal
 
-pub high_part-requires : goal.high_part-requires
-high_part-requires c = rw (to_z-of_z c.ranges.p) c.requires
-
 top : (c : After-high_part) → Bits w32 32768 (of_z w32 c.high_part.result) (high_of c.args.p)
 top c = is (c.high_part.ensures.0 ∙ ap high_of (to_z-of_z c.ranges.p)) (arg≤ c.high_part.ensures.1 (record { sfits = c.high_part.type_inv }))
 
 placed : (c : After-high_part) → to_z w32 (of_z w32 c.high_part.result) *ℤ pos 65536 ≡ high_of c.args.p *ℤ pos 65536
 placed c = ap (λ (z : ℤ). z *ℤ pos 65536) (top c).reads
 
-pub overflow_mul-result : goal.overflow_mul-result
-overflow_mul-result c = ok_of (placed (goal.at.overflow_mul-result c).After-high_part) (high_fits c.args.p c.requires)
-
 rest : (c : After-high_part)
     → to_z w32 (of_z w32 c.args.p) -ℤ to_z w32 (of_z w32 (to_z w32 (of_z w32 c.high_part.result) *ℤ pos 65536)) ≡ low_of c.args.p
 rest c = λ i. to_z-of_z c.ranges.p i -ℤ (to_z-of_z (ok_of (placed c) (high_fits c.args.p c.requires)) ∙ placed c) i
-
-pub overflow_sub-result : goal.overflow_sub-result
-overflow_sub-result c = ok_of (rest (goal.at.overflow_sub-result c).After-high_part) (fit (low_small c.args.p) tt)
 
 pub returns : goal.returns
 returns c =

@@ -6,7 +6,7 @@ use lib.IntN.{pos, nat_abs, ◌-ℤ◌, ◌*ℤ◌}
 use mir.Syntax.{w32}
 use mir.Val.{of_z}
 use mir.Facts.{to_z-of_z}
-use Rattle.whole.specs.Words.{Bits, arg≤, add, add_ok, is}
+use Rattle.whole.specs.Words.{Bits, arg≤, add, is}
 use Rattle.sums.proofs.pair.Goals.{After-product}
 use Rattle.sums.proofs.pair.Goals as goal
 
@@ -19,9 +19,6 @@ module _ (c : After-product) where
 
   other : Bits w32 (2 ^ 30) (of_z w32 c.product.result) (c.args.c *ℤ c.args.d)
   other = is (c.product.ensures.0 ∙ (λ i. to_z-of_z c.ranges.c i *ℤ to_z-of_z c.ranges.d i)) (arg≤ c.product.ensures.1 (record { sfits = c.product.type_inv }))
-
-pub overflow_add-result : goal.overflow_add-result
-overflow_add-result c = add_ok (one (goal.at.overflow_add-result c).After-product) (other (goal.at.overflow_add-result c).After-product) tt
 
 pub returns : goal.returns
 returns c =

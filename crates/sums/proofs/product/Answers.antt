@@ -3,17 +3,8 @@ use mathlib.Core.Path.{ap}
 use native.Mathlib.Omega.{arith}
 use lib.IntN.{nat_abs}
 use mir.Syntax.{w32}
-use Rattle.whole.specs.Words.{arg, cast, cast_ok, mul, mul_ok}
+use Rattle.whole.specs.Words.{arg, cast, mul}
 use Rattle.sums.proofs.product.Goals as goal
-
-pub overflow_cast-a : goal.overflow_cast-a
-overflow_cast-a c = cast_ok (arg c.ranges.x) tt
-
-pub overflow_cast-b : goal.overflow_cast-b
-overflow_cast-b c = cast_ok (arg c.ranges.y) tt
-
-pub overflow_mul-result : goal.overflow_mul-result
-overflow_mul-result c = mul_ok (cast (arg c.ranges.x) tt) (cast (arg c.ranges.y) tt) tt
 
 pub returns : goal.returns
 returns c =

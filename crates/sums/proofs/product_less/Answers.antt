@@ -7,7 +7,7 @@ use mir.Syntax.{w32}
 use mir.Val.{to_z, of_z}
 use mir.Facts.{to_z-of_z}
 use Rattle.whole.specs.Bounds.{Within}
-use Rattle.whole.specs.Words.{fit, ok_of, kept_of_lem}
+use Rattle.whole.specs.Words.{fit, kept_of_lem}
 use Rattle.sums.specs.Direct.{less_small}
 use Rattle.sums.proofs.product_less.Goals.{After-product}
 use Rattle.sums.proofs.product_less.Goals as goal
@@ -24,9 +24,6 @@ module _ (c : After-product) where
 
   less : to_z w32 (of_z w32 c.product.result) -ℤ pos 1 ≡ x *ℤ y -ℤ pos 1
   less = ap (λ (z : ℤ). z -ℤ pos 1) (to_z-of_z {w = w32} {z = c.product.result} (record { sfits = c.product.type_inv }) ∙ c.product.ensures.0 ∙ (λ i. to_z-of_z c.ranges.x i *ℤ to_z-of_z c.ranges.y i))
-
-pub overflow_sub-result : goal.overflow_sub-result
-overflow_sub-result c = ok_of (less (goal.at.overflow_sub-result c).After-product) (fit (small (goal.at.overflow_sub-result c).After-product) tt)
 
 pub returns : goal.returns
 returns c =

@@ -5,7 +5,7 @@ use Prim.Native.Nat.{ℕ, ◌^◌}
 use lib.IntN.{ℤ}
 use mir.Syntax.{w16, w64}
 use mir.Val.{SFits, to_z, of_z}
-use Rattle.whole.specs.Words.{Bits, arg, arg≤, cast, cast_ok, add, add_ok, sub, sub-ok, mul, mul_ok}
+use Rattle.whole.specs.Words.{Bits, arg, arg≤, cast, add, add_ok, sub, mul, mul_ok}
 use Rattle.whole.specs.Ring.{var, ◌⊕◌, ◌⊖◌, ◌⊗◌, solve}
 use Rattle.sums.proofs.turned.Goals as goal
 
@@ -14,18 +14,6 @@ word z = of_z w64 (to_z w16 (of_z w16 z))
 
 long : {z : ℤ} → SFits w16 z → Bits w64 (2 ^ 15) (word z) z
 long f = cast (arg f) tt
-
-pub overflow_cast-a : goal.overflow_cast-a
-overflow_cast-a c = cast_ok (arg c.ranges.x) tt
-
-pub overflow_cast-b : goal.overflow_cast-b
-overflow_cast-b c = cast_ok (arg c.ranges.y) tt
-
-pub overflow_cast-c : goal.overflow_cast-c
-overflow_cast-c c = cast_ok (arg c.ranges.z) tt
-
-pub overflow_sub-result : goal.overflow_sub-result
-overflow_sub-result c = sub-ok (long c.ranges.x) (long c.ranges.z) tt
 
 pub overflow_mul-result : goal.overflow_mul-result
 overflow_mul-result c = mul_ok (long c.ranges.y) (sub (long c.ranges.x) (long c.ranges.z) tt) tt
