@@ -35,17 +35,17 @@ held c = correlation-held (λ k. ago-fits c.requires.0.samples c.args.m (suc k))
 pub overflow_add-e : goal.overflow_add-e
 overflow_add-e c = omega (arith, small (goal.at.overflow_add-e c).Start)
 
-slides : (c : After-square-2)
+slides : (c : After-square-2) → to_z w16 (of_z w16 c.args.x) ≡ ago c.args.s.now c.args.m 0 → to_z w16 (of_z w16 c.back-z.result) ≡ ago c.args.s.now c.args.m (2 * c.args.lag)
     → E (ago c.args.s.now c.args.m) c.args.lag + c.square-2.result
     ≡ c.args.t.e + c.square.result
-slides c =
+slides c new old =
     let a = c.args in
-    let x = c.square.ensures.0 ∙ ap sq (newest c.before.before.before.before.before) in
-    let z = c.square-2.ensures.0 ∙ ap sq (oldest c.before.before.before) in
+    let x = c.square.ensures.0 ∙ ap sq new in
+    let z = c.square-2.ensures.0 ∙ ap sq old in
     omega (arith, x, z, c.requires.2.energy, E-slides (ago a.s.now a.m) a.lag)
 
 pub overflow_sub-e : goal.overflow_sub-e
-overflow_sub-e c = omega (arith, slides (goal.at.overflow_sub-e c).After-square-2)
+overflow_sub-e c = omega (arith, slides (goal.at.overflow_sub-e c).After-square-2 (newest (goal.at.overflow_sub-e c).Start) (oldest (goal.at.overflow_sub-e c).After-back-z))
 
 pub turned-h-requires : goal.turned-h-requires
 turned-h-requires c = let h = held (goal.at.turned-h-requires c).Start in rw h.reads (omega (arith, h.size.within))
@@ -58,7 +58,7 @@ returns c =
     let y = middle (goal.at.returns c).After-back-y in
     let z = oldest (goal.at.returns c).After-back-z in
     record {
-      energy = omega (arith, slides (goal.at.returns c).After-square-2);
+      energy = omega (arith, slides (goal.at.returns c).After-square-2 x z);
       correlation =
           to_z-of_z {w = w64} {z = c.turned-h.result} (record { sfits = c.turned-h.type_inv })
           ∙ c.turned-h.ensures
