@@ -52,7 +52,7 @@ LeavesAll q = (t : Tuner) (k : ℕ) (xs ys : List ℤ) → ((q t k xs ys).out �
 abbrev pub PassesTheRest : Program → Type 0
 PassesTheRest q = (t : Tuner) (k : ℕ) (xs ys : List ℤ) → 0 < t.numbers.last.length → Gives q t k xs ys → written q t k xs ys ≡ xs
 
--- invents the repeated and dropped counts: it makes them up from the block alone, whatever the take was before (that no other count keeps the promise either is `Took-one`)
+-- invents the repeated and dropped counts: it makes them up from the block alone, whatever the take was before (that no other count keeps the promise either is `took_one`)
 abbrev pub InventsCounts : Program → Type 0
 InventsCounts q =
     (r d : ℕ → List ℤ → ℕ) × ((t : Tuner) (k : ℕ) (xs ys : List ℤ) → Gives q t k xs ys → ((q t k xs ys).answer.repeated ≡ r k xs) × ((q t k xs ys).answer.dropped ≡ d k xs))

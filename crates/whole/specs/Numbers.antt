@@ -1,15 +1,15 @@
 -- How to read the definitions. What a reader must believe stands in files of definitions only; README lists them in reading order, and this is the first.
 --
 -- A definition has its type on its first line and its equations below it. `unfoldable`, `abbrev` and `pub` say how proofs may open it, and nothing of what it says.
--- ℕ are the natural numbers from 0 on, ℤ the signed whole numbers. pos n is the natural number n as a signed one, negsuc n is -(n + 1), natAbs z is z without its sign.
+-- ℕ are the natural numbers from 0 on, ℤ the signed whole numbers. pos n is the natural number n as a signed one, negsuc n is -(n + 1), nat_abs z is z without its sign.
 -- On ℕ: a - b stops at 0 (3 - 5 is 0); a / b and a % b are quotient and remainder, rounded down; suc n is n + 1.
 -- On ℤ the signs carry a ℤ: a +ℤ b, a -ℤ b, a *ℤ b.
--- Tests are true or false: leb a b is a <= b, ltb a b is a < b, eqb a b is a = b, ltZ a b is a < b on ℤ; && is and. cond t x y is x where the test t holds, else y.
+-- Tests are true or false: leb a b is a <= b, ltb a b is a < b, eqb a b and a == b are a = b, lt_z a b is a < b on ℤ; && is and. cond t x y is x where the test t holds, else y.
 -- A list is [] or x ∷ rest, with x its first element; ++ puts two lists one after the other; take n and drop n are its first n elements and all but these;
--- getD l i d is its element i, counted from 0, and d past the end; replicate n x is n times x. An Option is none, or some x.
+-- get_or l i d is its element i, counted from 0, and d past the end; replicate n x is n times x. An Option is none, or some x.
 -- λ (k : ℕ). e is the function that takes k to e; let x = e in y is y with e for x.
 -- r.field is a field of the record r. A record or data type that ends in `Type 0` is a statement: a record holds where each of its fields does, data where one of its cases does.
--- a ≡ b says that they are equal; × is and, ⊎ is or, P → ⊥ is not P; (k : ℕ) → P says that P holds for every k.
+-- a ≡ b says that they are equal, a ≢ b that they are not; × is and, ⊎ is or, P → ⊥ is not P; (k : ℕ) → P says that P holds for every k.
 -- A sound is a function of age: x k is the sample of k samples ago, x 0 the newest.
 use Rattle.std.specs.Prelude.{◌≡◌, List, [], ◌∷◌, ℕ, zero, suc, ◌+◌, ◌*◌, ◌<◌, ℤ, pos, ◌+ℤ◌, ◌*ℤ◌}
 use Rattle.std.specs.Int.Signed.{shr_z}
