@@ -1,13 +1,9 @@
 pub mod Account
 pub mod Calls
 pub mod Cutting
-pub mod Newest
-pub mod Following
-pub mod Alongside
 pub mod Written
 pub mod Keeps
 pub mod Lists
-pub mod Holds
 pub mod Wrong
 pub mod ShutOut
 pub mod WrongCuts

@@ -15,9 +15,9 @@ use Rattle.tuner.specs.declared.Answer.{Answer}
 use Rattle.tuner.specs.Tuners.{take_of, force_of, default_tuner, Took, Done, Changed}
 use Rattle.staying.specs.Staying.{took-keeps, untaken_unchanged}
 use Rattle.account.specs.Account.{Call, Leaves, by-start, by-change, by-block, by-midi, by-reset, Series, fresh_start, and_then, Received, begun, course_of, with_events, with_samples, counted_by, plus, received}
-use Rattle.account.specs.Following.{block-gives}
-use Rattle.account.specs.Keeps.{course_right, series-keeps}
-use Rattle.account.specs.Holds.{holds}
+use Rattle.account.proofs.Following.{block-gives}
+use Rattle.account.proofs.Keeps.{course_right, series-keeps}
+use Rattle.account.proofs.Holds.{holds}
 use Rattle.lines.specs.Lines.{Line, with_four, with_mode, with_channel, Desk, desk, numbered, begins, Said, begun as said-begun, not_begun, changed, taken, begun-again, mode-changed, channel-changed, keyed, not_read}
 use Rattle.reports.specs.Reports.{report_of}
 use Rattle.reporting.specs.Reporting.{Takes, brought_by, with_given, takes_after, Through, Reported, no_more, last_line, one_byte, line-ends, Report}

@@ -23,7 +23,7 @@ use Rattle.tuner.specs.declared.Voice.{Voice}
 use Rattle.tuner.specs.declared.Tuner.{Tuner}
 use Rattle.tuner.specs.Tuners.{take_of, force_of, layout_number, fresh_numbers, silent_tuner, after_block, with_numbers, with_keys, with_settings, with_bytes}
 use Rattle.account.specs.Cutting.{newest, lead_after}
-use Rattle.account.specs.Newest.{newest-length, newest-sound, keeping-newest, newest-right, zeros_newest, kept-newest}
+use Rattle.account.proofs.Newest.{newest-length, newest-sound, keeping-newest, newest-right, zeros_newest, kept-newest}
 
 -- ---- a fresh tuner
 module _ (hertz : ℕ) (s : Settings) (listed chosen : ℕ) (vs : List Voice) where

@@ -29,9 +29,10 @@ use Rattle.tuner.specs.Tuners.{take_of, force_of, voice_at, Good, stands_at, Met
 use Rattle.staying.specs.Staying.{good-force, good_sane}
 use Rattle.account.specs.Account.{Received, course_of, heard_of, eighths_of, voice_course, voiced_in, voiced_of, VoiceHolds, Accounted, received, Theorem, ToneTheorem, LateTheorem}
 use Rattle.account.specs.Cutting.{lead_after, LeadTheorem, SameTake, output_at, Alike, CuttingTheorem}
-use Rattle.account.specs.Alongside.{course_account}
-use Rattle.account.specs.Following.{lead_agree}
-use Rattle.account.specs.Keeps.{Keeps, course_right, series-keeps}
+use Rattle.account.proofs.Alongside.{course_account}
+use Rattle.account.proofs.Following.{lead_agree}
+use Rattle.account.specs.Keeps.{Keeps}
+use Rattle.account.proofs.Keeps.{course_right, series-keeps}
 
 pub lead-holds : LeadTheorem
 lead-holds cs t h = (series-keeps h).is

@@ -1,0 +1,11 @@
+pub mod Alongside
+pub mod Calls
+pub mod CutsShutOut
+pub mod Following
+pub mod Holds
+pub mod Keeps
+pub mod Lists
+pub mod Newest
+pub mod Nights
+pub mod ShutOut
+pub mod Written
