@@ -1,6 +1,6 @@
 -- Laws of a course: events, and more events after them; samples one after the other are the rules' fold, bytes the keyboard's; what events leave alone; and every range is kept.
 use Rattle.std.specs.Prelude.{List, [], ◌∷◌}
-use Rattle.rules.specs.Rules.{Take, after}
+use Rattle.rules.specs.Rules.{Take}
 use Rattle.rules.specs.Facts.{InRange, SampleRate}
 use Rattle.rules.specs.Sane.{Sane}
 use Rattle.keyboard.specs.declared.Keyboard.{Keyboard}

@@ -1,6 +1,6 @@
 -- Without a period a take has no tone, and what it gives is what came, four samples late, whatever settings and keyboard do meanwhile:
 -- at each sample the one heard four samples ago is given (`stepped_late`), and so the newest four and what is to come are what will be given.
-use Rattle.std.specs.Prelude.{List, ◌∷◌, ℕ, ℤ, take}
+use Rattle.std.specs.Prelude.{List, ◌∷◌, ℕ, ℤ}
 use Rattle.rules.specs.Rules.{Sound, Take}
 use Rattle.rules.specs.Facts.{SixteenBits}
 use Rattle.rules.specs.Unpitched.{Clear, Level}

@@ -1,5 +1,5 @@
 -- The takes follow their histories: line by line the tuner is the one that a series of calls leaves, and what a block gives is what the rules give after all that was received in its take.
-use Rattle.std.specs.Prelude.{◌≡◌, ℕ, take}
+use Rattle.std.specs.Prelude.{◌≡◌, ℕ}
 use mathlib.Core.List.{List, ◌∷◌, map}
 use Rattle.tuner.specs.declared.Tuner.{Tuner}
 use Rattle.account.specs.Account.{Call, Series, Received, received}
