@@ -17,96 +17,84 @@ use wave::{WaveRead, WaveTake};
 use writing::WaveWritten;
 
 // The version of these calls.
-#[unsafe(no_mangle)]
-pub extern "C" fn daxfolin_files_version() -> u32
+pub fn daxfolin_files_version() -> u32
     ensures { result ≡ 1 }
 {
     1
 }
 
 // Reads the take of a file: its samples to the front of the output.
-#[unsafe(no_mangle)]
-pub extern "C" fn daxfolin_wave_read(bytes: &[u8], out: &mut [i16]) -> WaveRead
+pub fn daxfolin_wave_read(bytes: &[u8], out: &mut [i16]) -> WaveRead
     ensures { WasRead bytes.now out.old result out.new }
 {
     wave::read(bytes, out)
 }
 
 // Writes a take in the canonical form to the front of the output.
-#[unsafe(no_mangle)]
-pub extern "C" fn daxfolin_wave_write(hertz: u32, samples: &[i16], out: &mut [u8]) -> WaveWritten
+pub fn daxfolin_wave_write(hertz: u32, samples: &[i16], out: &mut [u8]) -> WaveWritten
     ensures { WasWritten hertz samples.now out.old result out.new }
 {
     writing::write(hertz, samples, out)
 }
 
 // What is mended in a file.
-#[unsafe(no_mangle)]
-pub extern "C" fn daxfolin_wave_mend(bytes: &[u8]) -> Mending
+pub fn daxfolin_wave_mend(bytes: &[u8]) -> Mending
     ensures { result ≡ mending_of bytes.now }
 {
     mending::find(bytes)
 }
 
 // A seek for the take in a file of so many bytes.
-#[unsafe(no_mangle)]
-pub extern "C" fn daxfolin_seek_take(length: usize) -> Seek
+pub fn daxfolin_seek_take(length: usize) -> Seek
     ensures { result ≡ begun length 0 }
 {
     seeking::begin(length, 0)
 }
 
 // A seek for what is mended in a file of so many bytes.
-#[unsafe(no_mangle)]
-pub extern "C" fn daxfolin_seek_mending(length: usize) -> Seek
+pub fn daxfolin_seek_mending(length: usize) -> Seek
     ensures { result ≡ begun length 1 }
 {
     seeking::begin(length, 1)
 }
 
 // What a seek wants of its file: no bytes where it is at its end.
-#[unsafe(no_mangle)]
-pub extern "C" fn daxfolin_seek_wanted(seek: Seek) -> Piece
+pub fn daxfolin_seek_wanted(seek: Seek) -> Piece
     ensures { result ≡ seek.wanted }
 {
     seeking::wanted(seek)
 }
 
 // A seek that is given the bytes that it wants; where they are not as many, it stays.
-#[unsafe(no_mangle)]
-pub extern "C" fn daxfolin_seek_give(seek: Seek, bytes: &[u8]) -> Seek
+pub fn daxfolin_seek_give(seek: Seek, bytes: &[u8]) -> Seek
     ensures { result ≡ given_to seek bytes.now }
 {
     seeking::give(seek, bytes)
 }
 
 // The take that a seek found.
-#[unsafe(no_mangle)]
-pub extern "C" fn daxfolin_seek_found(seek: Seek) -> WaveTake
+pub fn daxfolin_seek_found(seek: Seek) -> WaveTake
     ensures { result ≡ found_in seek }
 {
     seeking::found(seek)
 }
 
 // What is mended, by a seek.
-#[unsafe(no_mangle)]
-pub extern "C" fn daxfolin_seek_mended(seek: Seek) -> Mending
+pub fn daxfolin_seek_mended(seek: Seek) -> Mending
     ensures { result ≡ mended_in seek }
 {
     seeking::mended(seek)
 }
 
 // Writes the canonical header before so many samples to the front of the output.
-#[unsafe(no_mangle)]
-pub extern "C" fn daxfolin_wave_header(hertz: u32, samples: usize, out: &mut [u8]) -> WaveWritten
+pub fn daxfolin_wave_header(hertz: u32, samples: usize, out: &mut [u8]) -> WaveWritten
     ensures { HeaderWritten hertz samples out.old result out.new }
 {
     writing::write_header(hertz, samples, out)
 }
 
 // Bytes as samples, as many as both have room for.
-#[unsafe(no_mangle)]
-pub extern "C" fn daxfolin_wave_samples(bytes: &[u8], out: &mut [i16]) -> usize
+pub fn daxfolin_wave_samples(bytes: &[u8], out: &mut [i16]) -> usize
     ensures { SamplesMoved bytes.now out.old result out.new }
 {
     let count = wave::least(bytes.len() / 2, out.len());
@@ -115,8 +103,7 @@ pub extern "C" fn daxfolin_wave_samples(bytes: &[u8], out: &mut [i16]) -> usize
 }
 
 // Samples as bytes, as many as both have room for.
-#[unsafe(no_mangle)]
-pub extern "C" fn daxfolin_wave_bytes(samples: &[i16], out: &mut [u8]) -> usize
+pub fn daxfolin_wave_bytes(samples: &[i16], out: &mut [u8]) -> usize
     ensures { BytesMoved samples.now out.old result out.new }
 {
     let count = wave::least(samples.len(), out.len() / 2);
@@ -125,24 +112,21 @@ pub extern "C" fn daxfolin_wave_bytes(samples: &[i16], out: &mut [u8]) -> usize
 }
 
 // A Standard MIDI File of which no byte was read.
-#[unsafe(no_mangle)]
-pub extern "C" fn daxfolin_smf_begin() -> Song
+pub fn daxfolin_smf_begin() -> Song
     ensures { result ≡ unread }
 {
     smf::begin()
 }
 
 // Such a file after its next byte.
-#[unsafe(no_mangle)]
-pub extern "C" fn daxfolin_smf_byte(song: Song, b: u8) -> Song
+pub fn daxfolin_smf_byte(song: Song, b: u8) -> Song
     ensures { result ≡ after_byte song b }
 {
     smf::byte(song, b)
 }
 
 // What is answered where such a file ends: the refusal, or 0.
-#[unsafe(no_mangle)]
-pub extern "C" fn daxfolin_smf_end(song: Song) -> u32
+pub fn daxfolin_smf_end(song: Song) -> u32
     ensures { result ≡ ended song }
 {
     smf::end(song)

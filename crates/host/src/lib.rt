@@ -92,16 +92,14 @@ fn started_default() -> Done
 }
 
 // The version of these calls.
-#[unsafe(no_mangle)]
-pub extern "C" fn daxfolin_version() -> u32
+pub fn daxfolin_version() -> u32
     ensures { result ≡ 12 }
 {
     12
 }
 
 // Where the k-th stretch of 512 samples of a recording of so many lies: the last may be shorter, and past the end there is nothing.
-#[unsafe(no_mangle)]
-pub extern "C" fn daxfolin_cut(length: usize, k: usize) -> Stretch
+pub fn daxfolin_cut(length: usize, k: usize) -> Stretch
     ensures { Cut length k result }
 {
     cutting::place(length, k)
@@ -109,8 +107,7 @@ pub extern "C" fn daxfolin_cut(length: usize, k: usize) -> Stretch
 
 // A fresh tuner with these settings at this sample rate, with a list where one is asked for and the voices of these intervals, or the default tuner beside
 // the number of the first thing that is bad. What the record held is not read.
-#[unsafe(no_mangle)]
-pub extern "C" fn daxfolin_start(
+pub fn daxfolin_start(
     lent: &mut Tuner,
     hertz: u32,
     settings: Settings,
@@ -126,8 +123,7 @@ pub extern "C" fn daxfolin_start(
 }
 
 // The default tuner, and 0. What the record held is not read.
-#[unsafe(no_mangle)]
-pub extern "C" fn daxfolin_start_default(lent: &mut Tuner) -> u32
+pub fn daxfolin_start_default(lent: &mut Tuner) -> u32
     ensures { Started cd_rate defaults 0 [] [] lent.new result }
 {
     let d = started_default();
@@ -136,8 +132,7 @@ pub extern "C" fn daxfolin_start_default(lent: &mut Tuner) -> u32
 }
 
 // The settings count from the next sample.
-#[unsafe(no_mangle)]
-pub extern "C" fn daxfolin_change(lent: &mut Tuner, settings: Settings) -> u32
+pub fn daxfolin_change(lent: &mut Tuner, settings: Settings) -> u32
     ensures { Changed lent.old settings lent.new result }
 {
     let d = tuner::change_lent(
@@ -153,8 +148,7 @@ pub extern "C" fn daxfolin_change(lent: &mut Tuner, settings: Settings) -> u32
 }
 
 // Bytes from the keyboard; what they leave held counts from the next tracking step.
-#[unsafe(no_mangle)]
-pub extern "C" fn daxfolin_midi(lent: &mut Tuner, bytes: &[u8]) -> u32
+pub fn daxfolin_midi(lent: &mut Tuner, bytes: &[u8]) -> u32
     ensures { Keyed lent.old bytes.now lent.new result }
 {
     let d = tuner::midi_lent(
@@ -170,8 +164,7 @@ pub extern "C" fn daxfolin_midi(lent: &mut Tuner, bytes: &[u8]) -> u32
 }
 
 // Sample rate, settings, whether a list is kept, and the voices stay; everything else is fresh.
-#[unsafe(no_mangle)]
-pub extern "C" fn daxfolin_reset(lent: &mut Tuner, store: &[u32]) -> u32
+pub fn daxfolin_reset(lent: &mut Tuner, store: &[u32]) -> u32
     ensures { Reset lent.old store.now lent.new result }
 {
     let d = tuner::reset_lent(
@@ -188,8 +181,7 @@ pub extern "C" fn daxfolin_reset(lent: &mut Tuner, store: &[u32]) -> u32
 }
 
 // Takes a block, gives the last one again or refuses, and writes the outputs.
-#[unsafe(no_mangle)]
-pub extern "C" fn daxfolin_block(
+pub fn daxfolin_block(
     lent: &mut Tuner,
     number: u16,
     samples: &[i16],
@@ -222,8 +214,7 @@ pub extern "C" fn daxfolin_block(
 }
 
 // A recording's blocks of so many samples, from a block number on, as by the single calls one by one; it stops at the first that is refused.
-#[unsafe(no_mangle)]
-pub extern "C" fn daxfolin_night(
+pub fn daxfolin_night(
     lent: &mut Tuner,
     number: u16,
     size: usize,
@@ -277,8 +268,7 @@ pub fn block_in_place(
 }
 
 // What the meter shows.
-#[unsafe(no_mangle)]
-pub extern "C" fn daxfolin_meter(lent: &Tuner) -> Shown
+pub fn daxfolin_meter(lent: &Tuner) -> Shown
     ensures { (m : Meter) × Metered lent.now m × (result ≡ shown_as m) }
 {
     metered(
