@@ -1,5 +1,5 @@
 //! Links the archives that `tools/library` makes: from the folder DAXFOLIN_LIB, or from the repository's target. For x86-64 they are
-//! `rt staticlib`'s own; for another processor there is one, which `tools/native` compiles from the same proved modules.
+//! `rt lib`'s own; for another processor there is one, which `tools/native` compiles from the same proved modules.
 
 use std::path::PathBuf;
 
