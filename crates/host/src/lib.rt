@@ -4,6 +4,7 @@
 
 ghost use Rattle.std.specs.Prelude.{◌≡◌, List, [], ℤ};
 ghost use Rattle.rules.specs.Rules.{defaults, cd_rate};
+ghost use Rattle.ages.specs.Ages.{Samples};
 ghost use Rattle.cutting.specs.Cuts.{Cut};
 ghost use Rattle.meters.specs.declared.Meter.{Meter};
 ghost use Rattle.record.specs.Parts.{heard_of, Stores};
@@ -65,6 +66,13 @@ pub fn shown_as(m: Meter) -> Shown
         },
         Meter::Refused => bare(9),
     }
+}
+
+// Each sample fits 16 bits: what the types say of arrays, and nothing says of those that are lent. No code comes of it.
+fn fit(heard: [i16; KEPT_SAMPLES], eighths: [i16; KEPT_EIGHTHS])
+    ensures heard { Samples heard }
+    ensures eighths { Samples eighths }
+{
 }
 
 // What the meter shows of a tuner with these numbers; its arrays are lent.
@@ -135,6 +143,7 @@ pub fn daxfolin_start_default(lent: &mut Tuner) -> u32
 pub fn daxfolin_change(lent: &mut Tuner, settings: Settings) -> u32
     ensures { Changed lent.old settings lent.new result }
 {
+    fit(lent.heard, lent.eighths);
     let d = tuner::change_lent(
         lent.numbers,
         &lent.energies,
@@ -151,6 +160,7 @@ pub fn daxfolin_change(lent: &mut Tuner, settings: Settings) -> u32
 pub fn daxfolin_midi(lent: &mut Tuner, bytes: &[u8]) -> u32
     ensures { Keyed lent.old bytes.now lent.new result }
 {
+    fit(lent.heard, lent.eighths);
     let d = tuner::midi_lent(
         lent.numbers,
         &lent.energies,
@@ -167,6 +177,7 @@ pub fn daxfolin_midi(lent: &mut Tuner, bytes: &[u8]) -> u32
 pub fn daxfolin_reset(lent: &mut Tuner, store: &[u32]) -> u32
     ensures { Reset lent.old store.now lent.new result }
 {
+    fit(lent.heard, lent.eighths);
     let d = tuner::reset_lent(
         lent.numbers,
         &mut lent.energies,
@@ -194,6 +205,7 @@ pub fn daxfolin_block(
     ensures { Took lent.old number samples.now (four out.old first.old second.old third.old) store.old
         lent.new result (four out.new first.new second.new third.new) store.new }
 {
+    fit(lent.heard, lent.eighths);
     let d = tuner::block_lent(
         lent.numbers,
         &mut lent.energies,
@@ -228,6 +240,7 @@ pub fn daxfolin_night(
     ensures { Nighted lent.old number size samples.now (four out.old first.old second.old third.old) store.old
         lent.new result (four out.new first.new second.new third.new) store.new }
 {
+    fit(lent.heard, lent.eighths);
     let d = nights::night_lent(
         lent.numbers,
         &mut lent.energies,
@@ -271,6 +284,7 @@ pub fn block_in_place(
 pub fn daxfolin_meter(lent: &Tuner) -> Shown
     ensures { (m : Meter) × Metered lent.now m × (result ≡ shown_as m) }
 {
+    fit(lent.heard, lent.eighths);
     metered(
         lent.numbers,
         &lent.energies,

@@ -1,9 +1,5 @@
-use Rattle.std.proofs.Common.{rules}
-use Rattle.record.proofs.Fields.{field-samples}
+-- What is promised for any outputs is promised for the tuner's.
 use Rattle.host.proofs.daxfolin_change.Goals as goal
-
-pub change_lent-d-requires : goal.change_lent-d-requires
-change_lent-d-requires c = search (rules, field-samples)
 
 pub returns : goal.returns
 returns c = c.change_lent-d.ensures c.args.lent.now.outs
