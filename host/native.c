@@ -1,17 +1,13 @@
 /* The C side of the calls, for processors other than x86-64 (tools/native). In the proved module each call is a function that takes every
-   struct and slice by address and writes a struct that it answers to an address. Here the processor's own C compiler lays out arguments
-   and answers, and checks each call against the headers. No number of a take is touched. */
+   struct by address, a slice as its address and count, and writes a struct that it answers to an address, but for one of two words, which
+   it returns. Here the processor's own C compiler lays out arguments and answers, and checks each call against the headers. No number of a
+   take is touched. */
 #include "daxfolin.h"
 #include "daxfolin_smf.h"
 #include "daxfolin_wave.h"
 
-typedef struct {
-    const void *at;
-    size_t count;
-} slice;
-#define LENT(at, count) (&(const slice){at, count})
-
-/* PASSED: a call that answers a number. ANSWERED: one that answers a struct, which the module's function writes. */
+/* PASSED: a call that answers a number or a struct of two words. ANSWERED: one that answers a larger struct, which the module's function
+   writes. */
 #define MODULE(name) __asm__("daxfolin_module_" #name) __attribute__((visibility("hidden")))
 #define PASSED(type, name, parameters, module_parameters, arguments) \
     type module_##name module_parameters MODULE(name); \
@@ -27,43 +23,43 @@ typedef struct {
 
 typedef daxfolin_tuner *tuner;
 typedef const daxfolin_settings *by_address;
-typedef const slice *lent;
+#define lent const void *, size_t
 
 /* the tuner */
 #define OUTPUTS int16_t *out, size_t m, int16_t *first, size_t m1, int16_t *second, size_t m2, int16_t *third, size_t m3
-#define LENT_OUTPUTS LENT(out, m), LENT(first, m1), LENT(second, m2), LENT(third, m3)
+#define LENT_OUTPUTS out, m, first, m1, second, m2, third, m3
 PASSED(uint32_t, version, (void), (void), ())
 PASSED(uint32_t, start,
     (tuner t, uint32_t hertz, daxfolin_settings s, uint32_t listed, const int32_t *intervals, size_t voices, const uint32_t *store, size_t room),
-    (tuner, uint32_t, by_address, uint32_t, lent, lent), (t, hertz, &s, listed, LENT(intervals, voices), LENT(store, room)))
+    (tuner, uint32_t, by_address, uint32_t, lent, lent), (t, hertz, &s, listed, intervals, voices, store, room))
 PASSED(uint32_t, start_default, (tuner t), (tuner), (t))
 PASSED(uint32_t, change, (tuner t, daxfolin_settings s), (tuner, by_address), (t, &s))
-PASSED(uint32_t, midi, (tuner t, const uint8_t *bytes, size_t n), (tuner, lent), (t, LENT(bytes, n)))
-PASSED(uint32_t, reset, (tuner t, const uint32_t *store, size_t room), (tuner, lent), (t, LENT(store, room)))
+PASSED(uint32_t, midi, (tuner t, const uint8_t *bytes, size_t n), (tuner, lent), (t, bytes, n))
+PASSED(uint32_t, reset, (tuner t, const uint32_t *store, size_t room), (tuner, lent), (t, store, room))
 ANSWERED(daxfolin_answer, block, (tuner t, uint16_t number, const int16_t *in, size_t n, OUTPUTS, uint32_t *store, size_t room),
-    (daxfolin_answer *, tuner, uint16_t, lent, lent, lent, lent, lent, lent), t, number, LENT(in, n), LENT_OUTPUTS, LENT(store, room))
+    (daxfolin_answer *, tuner, uint16_t, lent, lent, lent, lent, lent, lent), t, number, in, n, LENT_OUTPUTS, store, room)
 ANSWERED(daxfolin_night_answer, night,
     (tuner t, uint16_t number, size_t size, const int16_t *in, size_t n, OUTPUTS, uint32_t *store, size_t room),
-    (daxfolin_night_answer *, tuner, uint16_t, size_t, lent, lent, lent, lent, lent, lent), t, number, size, LENT(in, n), LENT_OUTPUTS,
-    LENT(store, room))
+    (daxfolin_night_answer *, tuner, uint16_t, size_t, lent, lent, lent, lent, lent, lent), t, number, size, in, n, LENT_OUTPUTS,
+    store, room)
 ANSWERED(daxfolin_shown, meter, (const daxfolin_tuner *t), (daxfolin_shown *, const daxfolin_tuner *), t)
-ANSWERED(daxfolin_stretch, cut, (size_t length, size_t k), (daxfolin_stretch *, size_t, size_t), length, k)
+PASSED(daxfolin_stretch, cut, (size_t length, size_t k), (size_t, size_t), (length, k))
 
 /* WAVE files */
 ANSWERED(daxfolin_wave_was_read, wave_read, (const uint8_t *bytes, size_t n, int16_t *out, size_t room),
-    (daxfolin_wave_was_read *, lent, lent), LENT(bytes, n), LENT(out, room))
-ANSWERED(daxfolin_wave_written, wave_write, (uint32_t hertz, const int16_t *in, size_t n, uint8_t *out, size_t room),
-    (daxfolin_wave_written *, uint32_t, lent, lent), hertz, LENT(in, n), LENT(out, room))
-ANSWERED(daxfolin_wave_mending, wave_mend, (const uint8_t *bytes, size_t n), (daxfolin_wave_mending *, lent), LENT(bytes, n))
-ANSWERED(daxfolin_wave_written, wave_header, (uint32_t hertz, uint64_t samples, uint8_t *out, size_t room),
-    (daxfolin_wave_written *, uint32_t, uint64_t, lent), hertz, samples, LENT(out, room))
-PASSED(size_t, wave_samples, (const uint8_t *bytes, size_t n, int16_t *out, size_t room), (lent, lent), (LENT(bytes, n), LENT(out, room)))
-PASSED(size_t, wave_bytes, (const int16_t *in, size_t n, uint8_t *out, size_t room), (lent, lent), (LENT(in, n), LENT(out, room)))
+    (daxfolin_wave_was_read *, lent, lent), bytes, n, out, room)
+PASSED(daxfolin_wave_written, wave_write, (uint32_t hertz, const int16_t *in, size_t n, uint8_t *out, size_t room),
+    (uint32_t, lent, lent), (hertz, in, n, out, room))
+ANSWERED(daxfolin_wave_mending, wave_mend, (const uint8_t *bytes, size_t n), (daxfolin_wave_mending *, lent), bytes, n)
+PASSED(daxfolin_wave_written, wave_header, (uint32_t hertz, uint64_t samples, uint8_t *out, size_t room),
+    (uint32_t, uint64_t, lent), (hertz, samples, out, room))
+PASSED(size_t, wave_samples, (const uint8_t *bytes, size_t n, int16_t *out, size_t room), (lent, lent), (bytes, n, out, room))
+PASSED(size_t, wave_bytes, (const int16_t *in, size_t n, uint8_t *out, size_t room), (lent, lent), (in, n, out, room))
 ANSWERED(daxfolin_seek, seek_take, (uint64_t length), (daxfolin_seek *, uint64_t), length)
 ANSWERED(daxfolin_seek, seek_mending, (uint64_t length), (daxfolin_seek *, uint64_t), length)
-ANSWERED(daxfolin_piece, seek_wanted, (daxfolin_seek seek), (daxfolin_piece *, const daxfolin_seek *), &seek)
+PASSED(daxfolin_piece, seek_wanted, (daxfolin_seek seek), (const daxfolin_seek *), (&seek))
 ANSWERED(daxfolin_seek, seek_give, (daxfolin_seek seek, const uint8_t *bytes, size_t n), (daxfolin_seek *, const daxfolin_seek *, lent),
-    &seek, LENT(bytes, n))
+    &seek, bytes, n)
 ANSWERED(daxfolin_wave_take, seek_found, (daxfolin_seek seek), (daxfolin_wave_take *, const daxfolin_seek *), &seek)
 ANSWERED(daxfolin_wave_mending, seek_mended, (daxfolin_seek seek), (daxfolin_wave_mending *, const daxfolin_seek *), &seek)
 
