@@ -1,4 +1,1 @@
 pub mod Files
-pub mod Parts
-pub mod Ones
-pub mod Shared
