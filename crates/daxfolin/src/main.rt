@@ -1,12 +1,14 @@
 // The line program: standard input to standard output. What lines are answered is proved in the crate `lines`; here bytes are moved, and
 // the program ends at a read or a write that fails, and says on standard error what failed.
-
 #![tactic(auto)]
 
 ghost use Rattle.std.specs.Prelude.{◌+◌, ◌≤◌, ◌<◌, length, take, drop, ◌≡◌, true};
 ghost use Rattle.daxfolin.specs.Turns.{Kept, Serves, Answers, OneTurn, Working, Finishes};
 
-use libc::STDIN_FILENO;
+use std::alloc::AllocError;
+use std::io::{Read, Write};
+use std::os::fd::AsFd;
+use std::rt::{Clock, Files};
 use tuner::Tuner;
 
 // The tuner, how many bytes of a line without its end are held, whether to read on, and whether the input came to its end: neither where
@@ -28,12 +30,18 @@ struct Served {
 }
 
 // Writes all bytes, and says whether it did.
-fn write_out(bytes: &[u8]) -> bool {
-    streams::write_out(bytes, b"daxfolin: standard output")
+fn write_out<W: Write, R: Clock + Eprint>(rt: &R, output: &mut W, bytes: &[u8]) -> bool {
+    streams::write_out(rt, output, bytes, b"daxfolin: standard output")
 }
 
 // Answers all lines that end within the input, and writes the answers. The program's tuner keeps no list, so that an empty store is lent.
-fn serve(t: Tuner, input: &[u8], out: &mut [u8]) -> Served
+fn serve<W: Write, R: Clock + Eprint>(
+    rt: &R,
+    output: &mut W,
+    t: Tuner,
+    input: &[u8],
+    out: &mut [u8],
+) -> Served
     requires { 4096 ≤ length out.old }
     ensures { result.written ≡ true → Serves t input.now result.tuner result.at }
 {
@@ -44,7 +52,7 @@ fn serve(t: Tuner, input: &[u8], out: &mut [u8]) -> Served
     while moved {
         let r = lines::answer_lines(u, &input[at..], out, &mut store);
         let n = r.length;
-        if !write_out(&out[..n]) {
+        if !write_out(rt, output, &out[..n]) {
             return Served {
                 tuner: t,
                 at: 0,
@@ -79,12 +87,20 @@ fn keep(buf: &mut [u8], from: usize, to: usize) -> usize
 }
 
 // Answers what was read after the bytes that are held, and holds what is left.
-fn answer_read(t: Tuner, buf: &mut [u8], held: usize, read: usize, out: &mut [u8]) -> Turn
+fn answer_read<W: Write, R: Clock + Eprint>(
+    rt: &R,
+    output: &mut W,
+    t: Tuner,
+    buf: &mut [u8],
+    held: usize,
+    read: usize,
+    out: &mut [u8],
+) -> Turn
     requires { (held + read ≤ length buf.old) × (held ≤ 8193) × (4096 ≤ length out.old) }
     ensures { Answers t (take held buf.old) (take read (drop held buf.old)) result buf.new }
 {
     let to = held + read;
-    let s = serve(t, &buf[..to], out);
+    let s = serve(rt, output, t, &buf[..to], out);
     if !s.written {
         return Turn {
             tuner: t,
@@ -104,33 +120,39 @@ fn answer_read(t: Tuner, buf: &mut [u8], held: usize, read: usize, out: &mut [u8
 }
 
 // Reads once, after the bytes that are held, and answers.
-fn one_turn(t: Tuner, buf: &mut [u8], held: usize, out: &mut [u8]) -> Turn
+fn one_turn<I: Read, W: Write, R: Clock + Eprint>(
+    rt: &R,
+    input: &mut I,
+    output: &mut W,
+    t: Tuner,
+    buf: &mut [u8],
+    held: usize,
+    out: &mut [u8],
+) -> Turn
     requires { (held ≤ 8193) × (8193 < length buf.old) × (4096 ≤ length out.old) }
     ensures { OneTurn t (take held buf.old) result buf.new }
 {
-    let got = libc::read(STDIN_FILENO, &mut buf[held..]);
-    if got < 0 {
-        let again = streams::try_again();
-        if !again {
-            os::fail(b"daxfolin: standard input");
+    match input.read(&mut buf[held..]) {
+        Err(error) => {
+            let again = streams::try_again(rt, &error);
+            if !again {
+                streams::fail(rt, b"daxfolin: standard input", &error);
+            }
+            Turn {
+                tuner: t,
+                held: held,
+                more: again,
+                ended: false,
+            }
         }
-        return Turn {
-            tuner: t,
-            held: held,
-            more: again,
-            ended: false,
-        };
-    }
-    let n = io::count(got, &buf[held..]);
-    if n == 0 {
-        return Turn {
+        Ok(0) => Turn {
             tuner: t,
             held: held,
             more: false,
             ended: true,
-        };
+        },
+        Ok(n) => answer_read(rt, output, t, buf, held, n, out),
     }
-    answer_read(t, buf, held, n, out)
 }
 
 // What the end of the input answers: a last line may lack its end.
@@ -146,30 +168,39 @@ fn last_line(t: Tuner, held: &[u8], out: &mut [u8]) -> usize
     r.length
 }
 
-// Writes what the end of the input answers, and closes the output: some writes fail only then.
-fn finish(t: Tuner, held: &[u8], out: &mut [u8])
+// Writes what the end of the input answers, and brings the output to where it is kept: some writes fail only then.
+fn finish<W: Write + AsFd, R: Clock + Eprint + Files>(
+    rt: &R,
+    output: &mut W,
+    t: Tuner,
+    held: &[u8],
+    out: &mut [u8],
+)
     requires { Working t held.now × (4096 ≤ length out.old) }
 {
     let n = last_line(t, held, out);
-    streams::write_last(&out[..n], b"daxfolin: standard output");
+    streams::write_last(rt, output, &out[..n], b"daxfolin: standard output");
 }
 
 // A proved loop ends: no run uses up the turns.
-fn main() {
-    let mut buf = io::large_buffer();
-    let mut out = io::large_buffer();
+fn main(rt: HostRuntime) -> Result<(), AllocError> {
+    let mut input = rt.stdin();
+    let mut output = rt.stdout();
+    let mut buf = vec![in rt.alloc(); 0u8; 65536]?;
+    let mut out = vec![in rt.alloc(); 0u8; 65536]?;
     let mut t = lines::opening();
     let mut held: usize = 0;
     let mut ended = false;
     let mut turns = u64::MAX;
     while turns > 0 {
-        let r = one_turn(t, &mut buf, held, &mut out);
+        let r = one_turn(&rt, &mut input, &mut output, t, &mut buf, held, &mut out);
         t = r.tuner;
         held = r.held;
         ended = r.ended;
         turns = if r.more { turns - 1 } else { 0 };
     }
     if ended {
-        finish(t, &buf[..held], &mut out);
+        finish(&rt, &mut output, t, &buf[..held], &mut out);
     }
+    Ok(())
 }

@@ -2,17 +2,16 @@
 // Byte 0 is the call; 2, 4 and 6 a block's number, length and room, low byte first; from 8 on a start's sample rate, then scale, eps, decay and floor;
 // from 28 on the samples. Where settings are given, 2 and 6 are mode and channel. Keyboard bytes stand from 28 on, as many as the length says.
 // A night has the length of its blocks from 8 on, in the place of the sample rate. No list is kept and no voice is chosen: nothing is lent for them.
-
 #![tactic(auto)]
 
 ghost use Rattle.std.specs.Prelude.{◌≤◌, ◌<◌};
 ghost use Rattle.tuner.specs.Following.{four};
 ghost use Rattle.tuner.specs.Tuners.{Took};
 
-use libc::{STDIN_FILENO, STDOUT_FILENO};
 use meters::Meter;
 use nights::{NightAnswer, NightTaken};
 use rules::{CD_RATE, Settings};
+use std::io::{self, ErrorKind, Read};
 use tuner::{Answer, Done, Taken, Tuner};
 
 fn wide(b: u8) -> u32
@@ -75,26 +74,26 @@ fn samples(b: &[u8; 1054], n: usize) -> [i16; 513]
     xs
 }
 
-fn put(n: u64) {
-    io::print_decimal(STDOUT_FILENO, n);
-    io::write_all(STDOUT_FILENO, b" ");
+fn put(rt: &impl Print, n: u64) -> io::Result<()> {
+    print!(rt; "{n} ")
 }
 
-fn say(a: Answer) {
-    put(a.number as u64);
-    put(a.written as u64);
-    put(a.repeated as u64);
-    put(a.dropped as u64);
+fn say(rt: &impl Print, a: Answer) -> io::Result<()> {
+    put(rt, a.number as u64)?;
+    put(rt, a.written as u64)?;
+    put(rt, a.repeated as u64)?;
+    put(rt, a.dropped as u64)
 }
 
-fn show(xs: &[i16; 513], n: usize)
+fn show(rt: &impl Print, xs: &[i16; 513], n: usize) -> io::Result<()>
     requires { n ≤ 513 }
 {
     let mut i: usize = 0;
     while i < n {
-        put(level(xs[i]));
+        put(rt, level(xs[i]))?;
         i += 1;
     }
+    Ok(())
 }
 
 // The block call over a record lent: the promise of the call by value.
@@ -167,30 +166,30 @@ fn nighted(t: Tuner, number: u16, size: usize, samples: &[i16], out: &mut [i16])
 }
 
 // A block, with an output of so much room; all of the output is shown, what is not written too.
-fn block(op: u8, t: Tuner, b: &[u8; 1054]) -> Tuner {
+fn block(rt: &impl Print, op: u8, t: Tuner, b: &[u8; 1054]) -> io::Result<Tuner> {
     let n = most(word(b, 4));
     let room = most(word(b, 6));
     let number = word(b, 2) as u16;
     let xs = samples(b, n);
     let mut out = [7i16; 513];
     let r = given(op, t, number, &xs[..n], &mut out[..room]);
-    say(r.answer);
-    show(&out, room);
-    r.tuner
+    say(rt, r.answer)?;
+    show(rt, &out, room)?;
+    Ok(r.tuner)
 }
 
-fn tell(a: NightAnswer) {
-    put(a.number as u64);
-    put(a.refused as u64);
-    put(a.taken);
-    put(a.written);
-    put(a.repeated);
-    put(a.dropped);
-    say(a.again);
+fn tell(rt: &impl Print, a: NightAnswer) -> io::Result<()> {
+    put(rt, a.number as u64)?;
+    put(rt, a.refused as u64)?;
+    put(rt, a.taken)?;
+    put(rt, a.written)?;
+    put(rt, a.repeated)?;
+    put(rt, a.dropped)?;
+    say(rt, a.again)
 }
 
 // A night, shown like a block.
-fn night(t: Tuner, b: &[u8; 1054]) -> Tuner {
+fn night(rt: &impl Print, t: Tuner, b: &[u8; 1054]) -> io::Result<Tuner> {
     let n = most(word(b, 4));
     let room = most(word(b, 6));
     let number = word(b, 2) as u16;
@@ -198,30 +197,31 @@ fn night(t: Tuner, b: &[u8; 1054]) -> Tuner {
     let xs = samples(b, n);
     let mut out = [7i16; 513];
     let r = nighted(t, number, size, &xs[..n], &mut out[..room]);
-    tell(r.answer);
-    show(&out, room);
-    r.tuner
+    tell(rt, r.answer)?;
+    show(rt, &out, room)?;
+    Ok(r.tuner)
 }
 
-fn metered(t: Tuner) {
+fn metered(rt: &impl Print, t: Tuner) -> io::Result<()> {
     let m = t.meter();
     match m {
-        Meter::Searching => put(0),
-        Meter::Locking(_) => put(1),
-        Meter::Pitched(_) => put(2),
-        Meter::Refused => put(3),
+        Meter::Searching => put(rt, 0),
+        Meter::Locking(_) => put(rt, 1),
+        Meter::Pitched(_) => put(rt, 2),
+        Meter::Refused => put(rt, 3),
     }
 }
 
 // A stretch of the samples of the record, by its number.
-fn stretch(b: &[u8; 1054]) {
+fn stretch(rt: &impl Print, b: &[u8; 1054]) -> io::Result<()> {
     let xs = samples(b, 513);
     let k = word(b, 2) as usize;
     let s = cutting::cut(&xs, k);
-    put(s.len() as u64);
+    put(rt, s.len() as u64)?;
     if 0 < s.len() {
-        put(level(s[0]));
+        put(rt, level(s[0]))?;
     }
+    Ok(())
 }
 
 // The record with its position so far behind.
@@ -246,12 +246,12 @@ fn aged(t: Tuner) -> Tuner {
 }
 
 // What a start, a change, keyboard bytes and a reset answer: a number, and counts 0.
-fn took(r: Done) -> Tuner {
-    put(r.number as u64);
-    put(0);
-    put(0);
-    put(0);
-    r.tuner
+fn took(rt: &impl Print, r: Done) -> io::Result<Tuner> {
+    put(rt, r.number as u64)?;
+    put(rt, 0)?;
+    put(rt, 0)?;
+    put(rt, 0)?;
+    Ok(r.tuner)
 }
 
 // A start without a list and without voices.
@@ -282,71 +282,74 @@ fn keys(b: &[u8; 1054], n: usize) -> [u8; 513]
     ks
 }
 
-fn midi(t: Tuner, b: &[u8; 1054]) -> Tuner {
+fn midi(rt: &impl Print, t: Tuner, b: &[u8; 1054]) -> io::Result<Tuner> {
     let n = most(word(b, 4));
     let ks = keys(b, n);
-    took(t.midi(&ks[..n]))
+    took(rt, t.midi(&ks[..n]))
 }
 
 // Calls from 5 on; 11 is a block over the record lent.
-fn other(op: u8, t: Tuner, b: &[u8; 1054]) -> Tuner {
+fn other(rt: &impl Print, op: u8, t: Tuner, b: &[u8; 1054]) -> io::Result<Tuner> {
     if op == 5 {
-        metered(t);
-        return t;
+        metered(rt, t)?;
+        return Ok(t);
     }
     if op == 6 {
-        stretch(b);
-        return t;
+        stretch(rt, b)?;
+        return Ok(t);
     }
     if op == 7 {
-        return behind(t, 65536001);
+        return Ok(behind(t, 65536001));
     }
     if op == 8 {
-        return aged(t);
+        return Ok(aged(t));
     }
     if op == 9 {
-        return behind(t, 0);
+        return Ok(behind(t, 0));
     }
     if op == 10 {
-        return midi(t, b);
+        return midi(rt, t, b);
     }
     if op == 11 {
-        return block(op, t, b);
+        return block(rt, op, t, b);
     }
-    night(t, b)
+    night(rt, t, b)
 }
 
-fn played(t: Tuner, b: &[u8; 1054]) -> Tuner {
+fn played(rt: &impl Print, t: Tuner, b: &[u8; 1054]) -> io::Result<Tuner> {
     let op = b[0];
     if op == 0 {
-        return took(started(long(b, 8), settings(b)));
+        return took(rt, started(long(b, 8), settings(b)));
     }
     if op == 1 {
-        return took(started_default());
+        return took(rt, started_default());
     }
     if op == 2 {
-        return took(t.change(settings(b)));
+        return took(rt, t.change(settings(b)));
     }
     if op == 3 {
-        return took(reset(t));
+        return took(rt, reset(t));
     }
     if op == 4 {
-        return block(op, t, b);
+        return block(rt, op, t, b);
     }
-    other(op, t, b)
+    other(rt, op, t, b)
 }
 
-fn main() {
+fn main(rt: HostRuntime) -> io::Result<()> {
+    let mut input = rt.stdin();
     let mut t = started_default().tuner;
     let mut turns = u64::MAX;
     while turns > 0 {
         let mut b = [0u8; 1054];
-        let got = io::read_full(STDIN_FILENO, &mut b);
-        if got < 1054 {
-            return;
+        match input.read_exact(&mut b) {
+            Ok(()) => {}
+            Err(error) if error.kind() == ErrorKind::UnexpectedEof => return Ok(()),
+            Err(error) => return Err(error),
         }
-        t = played(t, &b);
-        io::write_all(STDOUT_FILENO, b"\n");
+        t = played(&rt, t, &b)?;
+        println!(rt)?;
         turns = turns - 1;
     }
+    Ok(())
 }

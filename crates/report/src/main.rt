@@ -1,13 +1,15 @@
 // The report: the line program's input on standard input, and the takes' figures on standard output once all is read. What is reported is proved in the
 // crate `reporting`; here bytes are moved. Where a read fails nothing is printed, and standard error says what failed.
-
 #![tactic(auto)]
 
 ghost use Rattle.std.specs.Prelude.{List, ℕ, ◌≤◌, length, take};
 ghost use Rattle.report.specs.Working.{Working};
 
-use libc::STDIN_FILENO;
 use reporting::Reporting;
+use std::alloc::AllocError;
+use std::io::{Read, Write};
+use std::os::fd::AsFd;
+use std::rt::{Clock, Files};
 
 // The report so far, how many bytes of a line without its end are held, whether to read on, and whether the input came to its end: neither where a read
 // failed.
@@ -20,67 +22,85 @@ struct Turn {
 }
 
 // Reads once, and goes on with what was read.
-fn one_turn(r: Reporting, buf: &mut [u8], line: &mut [u8], held: usize, out: &mut [u8]) -> Turn
+fn one_turn<I: Read, R: Clock + Eprint>(
+    rt: &R,
+    input: &mut I,
+    r: Reporting,
+    buf: &mut [u8],
+    line: &mut [u8],
+    held: usize,
+    out: &mut [u8],
+) -> Turn
     requires { Working r held line.old out.old }
     ensures { Working result.reporting result.held line.new out.new }
 {
-    let got = libc::read(STDIN_FILENO, buf);
-    if got < 0 {
-        let again = streams::try_again();
-        if !again {
-            os::fail(b"report: standard input");
+    match input.read(buf) {
+        Err(error) => {
+            let again = streams::try_again(rt, &error);
+            if !again {
+                streams::fail(rt, b"report: standard input", &error);
+            }
+            Turn {
+                reporting: r,
+                held: held,
+                more: again,
+                ended: false,
+            }
         }
-        return Turn {
-            reporting: r,
-            held: held,
-            more: again,
-            ended: false,
-        };
-    }
-    let n = io::count(got, buf);
-    if n == 0 {
-        return Turn {
+        Ok(0) => Turn {
             reporting: r,
             held: held,
             more: false,
             ended: true,
-        };
-    }
-    let s = reporting::read_on(r, line, held, &buf[..n], out);
-    let q = s.reporting;
-    Turn {
-        reporting: q,
-        held: s.held,
-        more: true,
-        ended: false,
+        },
+        Ok(n) => {
+            let s = reporting::read_on(r, line, held, &buf[..n], out);
+            let q = s.reporting;
+            Turn {
+                reporting: q,
+                held: s.held,
+                more: true,
+                ended: false,
+            }
+        }
     }
 }
 
 // Writes the report of all that was read.
-fn finish(r: Reporting, line: &[u8], held: usize, out: &mut [u8])
+fn finish<W: Write + AsFd, R: Clock + Eprint + Files>(
+    rt: &R,
+    output: &mut W,
+    r: Reporting,
+    line: &[u8],
+    held: usize,
+    out: &mut [u8],
+)
     requires { Working r held line.now out.old }
 {
     let n = reporting::finish(r, &line[..held], out);
-    streams::write_last(&out[..n], b"report: standard output");
+    streams::write_last(rt, output, &out[..n], b"report: standard output");
 }
 
 // A proved loop ends: no run uses up the turns.
-fn main() {
-    let mut buf = io::large_buffer();
-    let mut line = io::large_buffer();
-    let mut out = [0u8; 147147];
+fn main(rt: HostRuntime) -> Result<(), AllocError> {
+    let mut input = rt.stdin();
+    let mut output = rt.stdout();
+    let mut buf = vec![in rt.alloc(); 0u8; 65536]?;
+    let mut line = vec![in rt.alloc(); 0u8; 65536]?;
+    let mut out = vec![in rt.alloc(); 0u8; 147147]?;
     let mut r = reporting::begin();
     let mut held: usize = 0;
     let mut ended = false;
     let mut turns = u64::MAX;
     while turns > 0 {
-        let t = one_turn(r, &mut buf, &mut line, held, &mut out);
+        let t = one_turn(&rt, &mut input, r, &mut buf, &mut line, held, &mut out);
         r = t.reporting;
         held = t.held;
         ended = t.ended;
         turns = if t.more { turns - 1 } else { 0 };
     }
     if ended {
-        finish(r, &line, held, &mut out);
+        finish(&rt, &mut output, r, &line, held, &mut out);
     }
+    Ok(())
 }
