@@ -182,25 +182,35 @@ fn finish<W: Write + AsFd, R: Clock + Eprint + Files>(
     streams::write_last(rt, output, &out[..n], b"daxfolin: standard output");
 }
 
-// A proved loop ends: no run uses up the turns.
-fn main(rt: HostRuntime) -> Result<(), AllocError> {
-    let mut input = rt.stdin();
-    let mut output = rt.stdout();
-    let mut buf = vec![in rt.alloc(); 0u8; 65536]?;
-    let mut out = vec![in rt.alloc(); 0u8; 65536]?;
+// Reads, answers and writes until the input ends, or a read or a write fails. A proved loop ends: no run uses up the turns.
+fn run<I: Read, W: Write + AsFd, R: Clock + Eprint + Files>(
+    rt: &R,
+    input: &mut I,
+    output: &mut W,
+    buf: &mut [u8],
+    out: &mut [u8],
+)
+    requires { (8193 < length buf.old) × (4096 ≤ length out.old) }
+{
     let mut t = lines::opening();
     let mut held: usize = 0;
     let mut ended = false;
     let mut turns = u64::MAX;
     while turns > 0 {
-        let r = one_turn(&rt, &mut input, &mut output, t, &mut buf, held, &mut out);
+        let r = one_turn(rt, input, output, t, buf, held, out);
         t = r.tuner;
         held = r.held;
         ended = r.ended;
         turns = if r.more { turns - 1 } else { 0 };
     }
     if ended {
-        finish(&rt, &mut output, t, &buf[..held], &mut out);
+        finish(rt, output, t, &buf[..held], out);
     }
+}
+
+fn main(rt: HostRuntime) -> Result<(), AllocError> {
+    let mut buf = vec![in rt.alloc(); 0u8; 65536]?;
+    let mut out = vec![in rt.alloc(); 0u8; 65536]?;
+    run(&rt, &mut rt.stdin(), &mut rt.stdout(), &mut buf, &mut out);
     Ok(())
 }
