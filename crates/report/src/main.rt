@@ -81,26 +81,44 @@ fn finish<W: Write + AsFd, R: Clock + Eprint + Files>(
     streams::write_last(rt, output, &out[..n], b"report: standard output");
 }
 
-// A proved loop ends: no run uses up the turns.
-fn main(rt: HostRuntime) -> Result<(), AllocError> {
-    let mut input = rt.stdin();
-    let mut output = rt.stdout();
-    let mut buf = vec![in rt.alloc(); 0u8; 65536]?;
-    let mut line = vec![in rt.alloc(); 0u8; 65536]?;
-    let mut out = vec![in rt.alloc(); 0u8; 147147]?;
+// Reads until the input ends or a read fails, and then writes the report. A proved loop ends: no run uses up the turns.
+fn run<I: Read, W: Write + AsFd, R: Clock + Eprint + Files>(
+    rt: &R,
+    input: &mut I,
+    output: &mut W,
+    buf: &mut [u8],
+    line: &mut [u8],
+    out: &mut [u8],
+)
+    requires { (8193 ≤ length line.old) × (147147 ≤ length out.old) }
+{
     let mut r = reporting::begin();
     let mut held: usize = 0;
     let mut ended = false;
     let mut turns = u64::MAX;
     while turns > 0 {
-        let t = one_turn(&rt, &mut input, r, &mut buf, &mut line, held, &mut out);
+        let t = one_turn(rt, input, r, buf, line, held, out);
         r = t.reporting;
         held = t.held;
         ended = t.ended;
         turns = if t.more { turns - 1 } else { 0 };
     }
     if ended {
-        finish(&rt, &mut output, r, &line, held, &mut out);
+        finish(rt, output, r, line, held, out);
     }
+}
+
+fn main(rt: HostRuntime) -> Result<(), AllocError> {
+    let mut buf = vec![in rt.alloc(); 0u8; 65536]?;
+    let mut line = vec![in rt.alloc(); 0u8; 65536]?;
+    let mut out = vec![in rt.alloc(); 0u8; 147147]?;
+    run(
+        &rt,
+        &mut rt.stdin(),
+        &mut rt.stdout(),
+        &mut buf,
+        &mut line,
+        &mut out,
+    );
     Ok(())
 }

@@ -6,14 +6,12 @@ ghost use Rattle.std.specs.Prelude.{◌≡◌, ◌≤◌, length, true};
 ghost use Rattle.std.specs.Io.KnownBytes.{Appends};
 
 use std::fmt::{self, Display, Formatter};
-use std::fs;
 use std::fs::{OpenFile, OpenOptions};
 use std::io::{self, Cursor, ErrorKind, Write};
 use std::os::fd::AsFd;
 use std::rt::{Clock, Files};
-use std::str;
-use std::thread;
 use std::time::Duration;
+use std::{fs, str, thread};
 
 // A text that is kept as bytes.
 #[derive(Clone, Copy)]
@@ -76,7 +74,12 @@ fn takes_nothing(rt: &impl Eprint, name: &[u8]) {
 
 // Writes all bytes, each once, and says whether it did; standard error has the name where it did not. A write that takes no byte is a
 // failed one, so that it is not tried for ever. A proved loop ends: no run uses up the tries.
-pub fn write_out<W: Write, R: Clock + Eprint>(rt: &R, output: &mut W, bytes: &[u8], name: &[u8]) -> bool
+pub fn write_out<W: Write, R: Clock + Eprint>(
+    rt: &R,
+    output: &mut W,
+    bytes: &[u8],
+    name: &[u8],
+) -> bool
     ensures { result ≡ true → Appends (W.contents output.old) (W.contents output.new) bytes.now }
 {
     let mut rest = bytes;
@@ -126,7 +129,12 @@ fn open_output<R: Files>(rt: &R) -> io::Result<Option<R::File>> {
 }
 
 // Writes the last bytes to standard output, and brings them to where they are kept: some writes fail only then.
-pub fn write_last<W: Write + AsFd, R: Clock + Eprint + Files>(rt: &R, output: &mut W, bytes: &[u8], name: &[u8]) {
+pub fn write_last<W: Write + AsFd, R: Clock + Eprint + Files>(
+    rt: &R,
+    output: &mut W,
+    bytes: &[u8],
+    name: &[u8],
+) {
     if write_out(rt, output, bytes, name) {
         if let Err(error) = settled(rt, output) {
             fail(rt, name, &error);

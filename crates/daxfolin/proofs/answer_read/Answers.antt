@@ -1,6 +1,7 @@
 -- `daxfolin::answer_read` meets its contract: what was read stands after what is held, all of it is served, and what is left is kept. Where a write failed,
 -- tuner and bytes are those from before.
-use Rattle.std.proofs.Common.{◌+◌, take, not-false}
+use Rattle.std.proofs.Common.{◌+◌, take}
+use Rattle.std.proofs.lemmas.Bool.{not-false}
 use Rattle.daxfolin.specs.Turns.{Serves, nothing_read}
 use Rattle.daxfolin.specs.Laws.{kept-few, read-answered}
 use Rattle.daxfolin.proofs.answer_read.Goals as goal

@@ -10,8 +10,7 @@ pub loop-i-init : goal.loop-i-init
 loop-i-init c =
     let a = c.args in
     let e = length-take 8193 (drop a.from (take a.to a.buf.now)) in
-    let f = length-slice a.from a.to a.buf.now c.requires.1 in
-    (
+    let f = length-slice a.from a.to a.buf.now c.requires.1 in (
       omega arith,
       elim c.if-rest-lt8193.branch [ then-rest-lt8193 w ↦ omega (arith, e, f) | else-rest-lt8193 w ↦ omega (arith, e, f) ],
       record { same = refl; front = refl; rest = refl },

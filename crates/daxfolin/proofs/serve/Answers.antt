@@ -12,8 +12,7 @@ loop-moved-init g c = (none-served, refl, refl)
 pub loop-moved-preserved : goal.loop-moved-preserved
 loop-moved-preserved g c =
     let l = c.loop-moved.invariant in
-    let r = c.answer_lines-r in
-    (
+    let r = c.answer_lines-r in (
       served-more l.0 (batch_bare l.2 r.auto.store r.ensures) (omega (arith, c.requires, l.1)),
       r.auto.out ∙ l.1,
       still_empty l.2 r.auto.store,

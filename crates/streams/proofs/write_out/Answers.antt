@@ -13,16 +13,18 @@ pub loop-tries-preserved : goal.loop-tries-preserved
 loop-tries-preserved g c =
     let (done, split, appended) = c.loop-tries.invariant in
     elim c.match-write.branch [
-      in-Ok w ↦
-        let n = w.in-Ok.n in
-        let rest = c.loop-tries.rest.now in
-        (done ++ take n rest,
-         subst (λ (r : Bor (List ℕ)). c.args.bytes.now ≡ (done ++ take n rest) ++ r.now) (sym w.rest-is) (moves_front _ done rest n split),
-         Appends-trans _ _ _ _ _ appended w.in-Ok.ensures.bytes)
-    | in-Err+else-not-try_again w ↦
-        (done,
-         subst (λ (r : Bor (List ℕ)). c.args.bytes.now ≡ done ++ r.now) (sym w.rest-is) split,
-         Appends-kept _ _ _ _ appended w.in-Err.ensures.bytes)
+      | in-Ok w ↦
+          let n = w.in-Ok.n in
+          let rest = c.loop-tries.rest.now in (
+            done ++ take n rest,
+            subst (λ (r : Bor (List ℕ)). c.args.bytes.now ≡ (done ++ take n rest) ++ r.now) (sym w.rest-is) (moves_front _ done rest n split),
+            Appends-trans _ _ _ _ _ appended w.in-Ok.ensures.bytes,
+          )
+      | in-Err+else-not-try_again w ↦ (
+        done,
+        subst (λ (r : Bor (List ℕ)). c.args.bytes.now ≡ done ++ r.now) (sym w.rest-is) split,
+        Appends-kept _ _ _ _ appended w.in-Err.ensures.bytes,
+      )
     ]
 
 pub returns-then-is_empty : goal.returns-then-is_empty
