@@ -1,6 +1,6 @@
 /* Loaded before the C library (LD_PRELOAD): of four reads and writes the first is broken off by a signal, the second finds nothing ready,
-   and the other two move at most seven bytes. With CLOSE_FAILS in the environment, closing standard output fails; with TAKES_NOTHING, all
-   that happens is that a pipe takes no byte of a write. */
+   and the other two move at most seven bytes. With CLOSE_FAILS in the environment, closing standard output fails, and so does bringing a
+   file to its disk; with TAKES_NOTHING, all that happens is that a pipe takes no byte of a write. */
 #include <errno.h>
 #include <stddef.h>
 #include <stdlib.h>
@@ -45,4 +45,13 @@ int close(int fd)
         return -1;
     }
     return (int)syscall(SYS_close, fd);
+}
+
+int fdatasync(int fd)
+{
+    if (getenv("CLOSE_FAILS")) {
+        errno = EIO;
+        return -1;
+    }
+    return (int)syscall(SYS_fdatasync, fd);
 }

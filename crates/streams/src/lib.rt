@@ -114,8 +114,17 @@ const OUTPUT: &str = "/proc/self/fd/1";
 fn settled<W: AsFd, R: Files>(rt: &R, output: &W) -> io::Result<()> {
     output.as_fd().try_clone_to_owned()?;
     match open_output(rt) {
-        Ok(Some(file)) => file.sync_data(),
+        Ok(Some(file)) => synced(&file),
         _ => Ok(()),
+    }
+}
+
+// Where a file has no disk to be brought to, that is no failure.
+fn synced<F: OpenFile>(file: &F) -> io::Result<()> {
+    match file.sync_data() {
+        Err(error) if error.kind() == ErrorKind::InvalidInput => Ok(()),
+        Err(error) if error.kind() == ErrorKind::Unsupported => Ok(()),
+        done => done,
     }
 }
 
