@@ -2,7 +2,7 @@
 // writer that knows its bytes has them all.
 #![tactic(auto)]
 
-ghost use Rattle.std.specs.Prelude.{◌≡◌, ◌≤◌, length, true};
+ghost use Rattle.std.specs.Prelude.{◌≡◌, ℕ, take, true};
 ghost use Rattle.std.specs.Io.KnownBytes.{Appends};
 
 use std::fmt::{self, Display, Formatter};
@@ -80,7 +80,8 @@ pub fn write_out<W: Write, R: Clock + Eprint>(
     bytes: &[u8],
     name: &[u8],
 ) -> bool
-    ensures { result ≡ true → Appends (W.contents output.old) (W.contents output.new) bytes.now }
+    ensures all { result ≡ true → Appends (W.contents output.old) (W.contents output.new) bytes.now }
+    ensures front { (n : ℕ) × Appends (W.contents output.old) (W.contents output.new) (take n bytes.now) }
 {
     let mut rest = bytes;
     let mut tries = u64::MAX;
