@@ -72,8 +72,7 @@ pub fn shown_as(m: Meter) -> Shown
 fn fit(heard: [i16; KEPT_SAMPLES], eighths: [i16; KEPT_EIGHTHS])
     ensures heard { Samples heard }
     ensures eighths { Samples eighths }
-{
-}
+{}
 
 // What the meter shows of a tuner with these numbers; its arrays are lent.
 fn metered(

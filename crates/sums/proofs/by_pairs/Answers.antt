@@ -8,7 +8,7 @@ use mir.Syntax.{w16, w32, w64}
 use mir.Val.{SFits, to_z, of_z}
 use mir.Facts.{to_z-of_z}
 use Rattle.whole.specs.Words.{Bits, arg≤, lit, num, loop, cast, add, mul, is}
-use Rattle.whole.specs.Adding.{run-start, run, run_ok}
+use Rattle.whole.specs.Adding.{summed-start, summed, summed_ok}
 use Rattle.whole.specs.Numbers.{sum}
 use Rattle.rules.specs.Facts.{value_at}
 use Rattle.sums.specs.Direct.{high_of, low_of, parts, products, paired, pairs_sum}
@@ -16,7 +16,7 @@ use Rattle.sums.proofs.by_pairs.Goals.{After-high_part-highs, After-loop-i, Afte
 use Rattle.sums.proofs.by_pairs.Goals as goal
 
 pub loop-i-init : goal.loop-i-init
-loop-i-init c = (run-start _ _, run-start _ _, omega arith)
+loop-i-init c = (summed-start _ _, summed-start _ _, omega arith)
 
 -- what a turn adds
 module _ (c : After-pair-p) where
@@ -55,15 +55,15 @@ bottom : {l p x : ℤ} → l ≡ low_of p → p ≡ x → nat_abs l ≤ 65536 �
 bottom e t n f = is (e ∙ ap low_of t) (arg≤ n f)
 
 pub overflow_add-highs : goal.overflow_add-highs
-overflow_add-highs c = run_ok 440 c.loop-i.invariant.0 (top c.high_part-highs.ensures.0 (term (goal.at.overflow_add-highs c).After-pair-p) c.high_part-highs.ensures.1 (record { sfits = c.high_part-highs.type_inv })) (omega arith) tt
+overflow_add-highs c = summed_ok 440 c.loop-i.invariant.0 (top c.high_part-highs.ensures.0 (term (goal.at.overflow_add-highs c).After-pair-p) c.high_part-highs.ensures.1 (record { sfits = c.high_part-highs.type_inv })) (omega arith) tt
 
 pub overflow_add-lows : goal.overflow_add-lows
-overflow_add-lows c = run_ok 440 c.loop-i.invariant.1 (bottom c.low_part-lows.ensures.0 (term (goal.at.overflow_add-lows c).After-pair-p) c.low_part-lows.ensures.1 (record { sfits = c.low_part-lows.type_inv })) (omega arith) tt
+overflow_add-lows c = summed_ok 440 c.loop-i.invariant.1 (bottom c.low_part-lows.ensures.0 (term (goal.at.overflow_add-lows c).After-pair-p) c.low_part-lows.ensures.1 (record { sfits = c.low_part-lows.type_inv })) (omega arith) tt
 
 pub loop-i-preserved : goal.loop-i-preserved
 loop-i-preserved c =
     let l = c.loop-i in
-    (run 440 l.invariant.0 (top c.high_part-highs.ensures.0 (term (goal.at.loop-i-preserved c).After-pair-p) c.high_part-highs.ensures.1 (record { sfits = c.high_part-highs.type_inv })) (omega arith) tt, run 440 l.invariant.1 (bottom c.low_part-lows.ensures.0 (term (goal.at.loop-i-preserved c).After-pair-p) c.low_part-lows.ensures.1 (record { sfits = c.low_part-lows.type_inv })) (omega arith) tt, omega arith)
+    (summed 440 l.invariant.0 (top c.high_part-highs.ensures.0 (term (goal.at.loop-i-preserved c).After-pair-p) c.high_part-highs.ensures.1 (record { sfits = c.high_part-highs.type_inv })) (omega arith) tt, summed 440 l.invariant.1 (bottom c.low_part-lows.ensures.0 (term (goal.at.loop-i-preserved c).After-pair-p) c.low_part-lows.ensures.1 (record { sfits = c.low_part-lows.type_inv })) (omega arith) tt, omega arith)
 
 -- the sums at the end
 module _ (c : After-loop-i) where
