@@ -3,9 +3,9 @@ use native.Mathlib.Omega.{arith}
 use native.Mathlib.Numerals.{add-one}
 use mathlib.Core.Path.{◌≡◌, sym, ap, ◌∙◌}
 use mathlib.Core.List.{List, [], ◌∷◌, ◌++◌}
-use Prim.Native.Nat.{ℕ, ◌+◌, ◌-◌, ◌≤◌, ◌<◌}
+use Prim.Native.Nat.{ℕ, ◌+◌, ◌≤◌, ◌<◌}
 use lib.ListN.{length, get_or, take, drop, set, length-take, length-set}
-use lib.Seq.{take_all, take-suc, take-suc-set, drop-set-lt, drop-drop, get_or-take, get_or-drop, length-slice}
+use lib.Seq.{take-suc, take-suc-set, drop-set-lt, drop-drop, get_or-take, get_or-drop, length-slice}
 use Rattle.lines.specs.Serving.{held_of}
 
 -- the bytes that are to be held, from `from` to `to`

@@ -1,5 +1,5 @@
 -- What the program has before each read: the report of all that was read so far.
-use Rattle.std.specs.Prelude.{◌≡◌, List, [], ◌++◌, ℕ, ◌≤◌, length, take}
+use Rattle.std.specs.Prelude.{◌≡◌, List, ◌++◌, ℕ, ◌≤◌, length, take}
 use Rattle.std.proofs.Common.{arith}
 use Rattle.reporting.specs.declared.Reporting.{Reporting}
 use Rattle.reporting.specs.Keeping.{SoFar}

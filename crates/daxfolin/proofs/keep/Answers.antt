@@ -1,8 +1,8 @@
 -- `daxfolin::keep` meets its contract: each byte is read before it is written over.
-use Rattle.std.proofs.Common.{refl, ◌≡◌, ◌∙◌, sym, length, take, drop, arith}
+use Rattle.std.proofs.Common.{refl, take, drop, arith}
 use lib.ListN.{length-take}
 use lib.Seq.{length-slice}
-use Rattle.daxfolin.proofs.Moving.{held, one_more_lem}
+use Rattle.daxfolin.proofs.Moving.{one_more_lem}
 use Rattle.daxfolin.proofs.keep.Goals as goal
 use Rattle.daxfolin.proofs.keep.Goals.{then-rest-lt8193, else-rest-lt8193}
 

@@ -1,9 +1,7 @@
 -- `daxfolin::serve` meets its contract: each batch adds its lines to those said before, and each turn but the last moves on. A turn that answers no line
 -- had room for an answer, so no line is left.
-use Rattle.std.proofs.Common.{refl, ◌≡◌, ◌∙◌, ◌≤◌, length, arith}
-use Rattle.lines.specs.Lines.{AnsweredAll}
-use Rattle.daxfolin.specs.Turns.{bare}
-use Rattle.daxfolin.specs.Laws.{still_empty, batch_bare, left, none-served, served-more}
+use Rattle.std.proofs.Common.{refl, ◌∙◌, arith}
+use Rattle.daxfolin.specs.Laws.{still_empty, batch_bare, none-served, served-more}
 use Rattle.daxfolin.proofs.serve.Goals as goal
 
 pub loop-moved-init : goal.loop-moved-init
