@@ -5,7 +5,6 @@
 ghost use Rattle.std.specs.Prelude.{◌+◌, ◌≤◌, ◌<◌, length, take, drop, ◌≡◌, true};
 ghost use Rattle.daxfolin.specs.Turns.{Kept, Serves, Answers, OneTurn, Working, Finishes};
 
-use std::alloc::AllocError;
 use std::io::{Read, Write};
 use std::os::fd::AsFd;
 use std::rt::{Clock, Files};
@@ -208,9 +207,8 @@ fn run<I: Read, W: Write + AsFd, R: Clock + Eprint + Files>(
     }
 }
 
-fn main(rt: HostRuntime) -> Result<(), AllocError> {
-    let mut buf = vec![in rt.alloc(); 0u8; 65536]?;
-    let mut out = vec![in rt.alloc(); 0u8; 65536]?;
+fn main(rt: HostRuntime) {
+    let mut buf = [0u8; 65536];
+    let mut out = [0u8; 65536];
     run(&rt, &mut rt.stdin(), &mut rt.stdout(), &mut buf, &mut out);
-    Ok(())
 }

@@ -6,7 +6,6 @@ ghost use Rattle.std.specs.Prelude.{List, ℕ, ◌≤◌, length, take};
 ghost use Rattle.report.specs.Working.{Working};
 
 use reporting::Reporting;
-use std::alloc::AllocError;
 use std::io::{Read, Write};
 use std::os::fd::AsFd;
 use std::rt::{Clock, Files};
@@ -108,10 +107,10 @@ fn run<I: Read, W: Write + AsFd, R: Clock + Eprint + Files>(
     }
 }
 
-fn main(rt: HostRuntime) -> Result<(), AllocError> {
-    let mut buf = vec![in rt.alloc(); 0u8; 65536]?;
-    let mut line = vec![in rt.alloc(); 0u8; 65536]?;
-    let mut out = vec![in rt.alloc(); 0u8; 147147]?;
+fn main(rt: HostRuntime) {
+    let mut buf = [0u8; 65536];
+    let mut line = [0u8; 65536];
+    let mut out = [0u8; 147147];
     run(
         &rt,
         &mut rt.stdin(),
@@ -120,5 +119,4 @@ fn main(rt: HostRuntime) -> Result<(), AllocError> {
         &mut line,
         &mut out,
     );
-    Ok(())
 }
