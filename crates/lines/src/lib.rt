@@ -546,6 +546,9 @@ pub fn answer_line(t: Tuner, line: &[u8], out: &mut [u8], store: &mut [u32]) -> 
     record_line(t, line, out, store)
 }
 
+// The room that an answer may need.
+const ANSWER_ROOM: usize = 4096;
+
 // Answers one line after the other, as far as lines end within the input and there is room for an answer.
 pub fn answer_lines(t: Tuner, input: &[u8], out: &mut [u8], store: &mut [u32]) -> Replies
     ensures { AnsweredAll (desk t store.old) input.now out.old (desk result.tuner store.new) result.at result.length out.new }
@@ -555,7 +558,7 @@ pub fn answer_lines(t: Tuner, input: &[u8], out: &mut [u8], store: &mut [u32]) -
     let mut length: usize = 0;
     let mut end = text::first(input, 0, 10);
     while end < input.len() {
-        if out.len() - length < 4096 {
+        if out.len() - length < ANSWER_ROOM {
             return Replies {
                 tuner: u,
                 at: at,
