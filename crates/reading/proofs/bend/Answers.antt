@@ -47,40 +47,40 @@ module _ (c : Start) where
   share : Bits w64 4096 u (pos u)
   share = num {z = pos u} c.requires tt
 
-  abbrev riseBits : ℕ
-  riseBits = minus (word b) (word a)
+  abbrev rise_bits : ℕ
+  rise_bits = minus (word b) (word a)
 
-  rise : Bits w64 (2 ^ 16) riseBits (b -ℤ a)
+  rise : Bits w64 (2 ^ 16) rise_bits (b -ℤ a)
   rise = sub (long c.ranges.b) (long c.ranges.a) tt
 
-  abbrev cubeBits : ℕ
-  cubeBits = minus (minus (word q) (word p)) (times 3 riseBits)
+  abbrev cube_bits : ℕ
+  cube_bits = minus (minus (word q) (word p)) (times 3 rise_bits)
 
-  abbrev cubeOf : ℤ
-  cubeOf = q -ℤ p -ℤ pos 3 *ℤ (b -ℤ a)
+  abbrev cube_of : ℤ
+  cube_of = q -ℤ p -ℤ pos 3 *ℤ (b -ℤ a)
 
   spread : Bits w64 (2 ^ 16) (minus (word q) (word p)) (q -ℤ p)
   spread = sub (long c.ranges.q) (long c.ranges.p) tt
 
-  cube : Bits w64 (2 ^ 18) cubeBits cubeOf
+  cube : Bits w64 (2 ^ 18) cube_bits cube_of
   cube = sub spread (mul (lit w64 3) rise tt) tt
 
-  abbrev squareBits : ℕ
-  squareBits = minus (plus (minus (word p) (word a)) riseBits) cubeBits
+  abbrev square_bits : ℕ
+  square_bits = minus (plus (minus (word p) (word a)) rise_bits) cube_bits
 
-  abbrev squareOf : ℤ
-  squareOf = p -ℤ a +ℤ (b -ℤ a) -ℤ cubeOf
+  abbrev square_of : ℤ
+  square_of = p -ℤ a +ℤ (b -ℤ a) -ℤ cube_of
 
   fall : Bits w64 (2 ^ 16) (minus (word p) (word a)) (p -ℤ a)
   fall = sub (long c.ranges.p) (long c.ranges.a) tt
 
-  square : Bits w64 (2 ^ 17 + 2 ^ 18) squareBits squareOf
+  square : Bits w64 (2 ^ 17 + 2 ^ 18) square_bits square_of
   square = sub (add fall rise tt) cube tt
 
-  abbrev sumBits : ℕ
-  sumBits = plus (times cubeBits u) (times 4096 squareBits)
+  abbrev sum_bits : ℕ
+  sum_bits = plus (times cube_bits u) (times 4096 square_bits)
 
-  sum : Bits w64 (2 ^ 30 + 4096 * (2 ^ 17 + 2 ^ 18)) sumBits (cubeOf *ℤ pos u +ℤ pos 4096 *ℤ squareOf)
+  sum : Bits w64 (2 ^ 30 + 4096 * (2 ^ 17 + 2 ^ 18)) sum_bits (cube_of *ℤ pos u +ℤ pos 4096 *ℤ square_of)
   sum = add (mul cube share tt) (mul (lit w64 4096) square tt) tt
 
 pub overflow_sub-cube-2 : goal.overflow_sub-cube-2

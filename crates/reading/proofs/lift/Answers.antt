@@ -42,13 +42,13 @@ module _ (c : After-bend-bent) where
       let e = c.bend-bent.ensures ∙ (λ i. bend (to_z-of_z f.p i) (to_z-of_z f.a i) (to_z-of_z f.b i) (to_z-of_z f.q i) u) in
       is e (arg≤ (subst (λ (z : ℤ). nat_abs z ≤ 2 ^ 44) (sym e) (bend-within u c.requires f.p f.a f.b f.q)) (record { sfits = c.bend-bent.type_inv }))
 
-  abbrev slopeBits : ℕ
-  slopeBits = of_z w64 (to_z w64 16777216 *ℤ to_z w64 (of_z w64 (to_z w64 (word b) -ℤ to_z w64 (word p))))
+  abbrev slope_bits : ℕ
+  slope_bits = of_z w64 (to_z w64 16777216 *ℤ to_z w64 (of_z w64 (to_z w64 (word b) -ℤ to_z w64 (word p))))
 
-  slope : Bits w64 (2 ^ 40) slopeBits (pos 16777216 *ℤ (b -ℤ p))
+  slope : Bits w64 (2 ^ 40) slope_bits (pos 16777216 *ℤ (b -ℤ p))
   slope = mul (lit w64 16777216) (sub (long c.ranges.b) (long c.ranges.p) tt) tt
 
-  turn : Bits w64 (2 ^ 44 + 2 ^ 40) (of_z w64 (to_z w64 (of_z w64 c.bend-bent.result) +ℤ to_z w64 slopeBits)) (bend p a b q u +ℤ pos 16777216 *ℤ (b -ℤ p))
+  turn : Bits w64 (2 ^ 44 + 2 ^ 40) (of_z w64 (to_z w64 (of_z w64 c.bend-bent.result) +ℤ to_z w64 slope_bits)) (bend p a b q u +ℤ pos 16777216 *ℤ (b -ℤ p))
   turn = add bent slope tt
 
 pub overflow_add-result : goal.overflow_add-result
