@@ -353,8 +353,9 @@ fn track_ends(s: Song, t: Track) -> Song
     }
 }
 
-// After a byte of a track.
+// After a byte of a track; inlined, since a call would copy file and track.
 #[tactic(auto, unfolding(crate::specs::Songs::after_track))]
+#[inline(always)]
 fn after_track(s: Song, t: Track) -> Song
     ensures { result ≡ after_track s t }
 {

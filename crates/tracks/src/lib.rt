@@ -222,8 +222,9 @@ fn after_running(t: Track, b: u8) -> Result<Track, Refusal>
     after_first(t, t.running, b)
 }
 
-// After the first byte behind a delta time.
+// After the first byte behind a delta time. This, `after_length`, `after_phase` and `byte` are inlined, since each call would copy the track.
 #[tactic(auto, unfolding(crate::specs::Tracks::after_status))]
+#[inline(always)]
 fn after_status(t: Track, b: u8) -> Result<Track, Refusal>
     ensures { answered t result ≡ after_status t b }
 {
@@ -272,6 +273,7 @@ fn opened(t: Track, length: u32) -> Result<Track, Refusal>
 
 // After a byte of a length.
 #[tactic(auto, unfolding(crate::specs::Tracks::after_length))]
+#[inline(always)]
 fn after_length(t: Track, b: u8) -> Result<Track, Refusal>
     ensures { answered t result ≡ after_length t b }
 {
@@ -299,6 +301,7 @@ fn after_body(t: Track, b: u8) -> Result<Track, Refusal>
 
 // After a byte of a track that is not refused; behind its end none counts, nor in a phase that there is not.
 #[tactic(auto, unfolding(crate::specs::Tracks::after_phase))]
+#[inline(always)]
 fn after_phase(t: Track, b: u8) -> Result<Track, Refusal>
     ensures { answered t result ≡ after_phase t b }
 {
@@ -317,6 +320,7 @@ fn after_phase(t: Track, b: u8) -> Result<Track, Refusal>
 
 // After a byte: what is refused stays.
 #[tactic(auto, unfolding(crate::specs::Tracks::after_byte))]
+#[inline(always)]
 pub fn byte(t: Track, b: u8) -> Track
     ensures { result ≡ after_byte t b }
 {
