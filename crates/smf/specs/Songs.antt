@@ -15,27 +15,27 @@ unread = record { number = 0; whole = 0; phase = 0; value = 0; count = 4; left =
 
 -- the file, refused by a number
 abbrev pub refused : Song → ℕ → Song
-refused s number = record { number = number; whole = 0; phase = s.phase; value = s.value; count = s.count; left = s.left; name = s.name; head = s.head; track = s.track }
+refused s number = record s { number = number; whole = 0 }
 
 -- a number of so many bytes comes
 abbrev pub asks : Song → (phase count : ℕ) → Song
-asks s phase count = record { number = 0; whole = 0; phase = phase; value = 0; count = count; left = s.left; name = s.name; head = s.head; track = s.track }
+asks s phase count = record s { number = 0; whole = 0; phase = phase; value = 0; count = count }
 
 -- so much of it is known, and so many bytes are still to come
 abbrev pub counts : Song → (value count : ℕ) → Song
-counts s value count = record { number = 0; whole = 0; phase = s.phase; value = value; count = count; left = s.left; name = s.name; head = s.head; track = s.track }
+counts s value count = record s { number = 0; whole = 0; value = value; count = count }
 
 -- so many bytes of a body come
 abbrev pub leaves : Song → (phase left : ℕ) → Song
-leaves s phase left = record { number = 0; whole = 0; phase = phase; value = 0; count = 0; left = left; name = s.name; head = s.head; track = s.track }
+leaves s phase left = record s { number = 0; whole = 0; phase = phase; value = 0; count = 0; left = left }
 
 -- a chunk of this name, whose size comes
 abbrev pub named : Song → ℕ → Song
-named s name = record { number = 0; whole = 0; phase = 7; value = 0; count = 4; left = 0; name = name; head = s.head; track = s.track }
+named s name = record s { number = 0; whole = 0; phase = 7; value = 0; count = 4; left = 0; name = name }
 
 -- with this header, another number of so many bytes comes
 abbrev pub headed : Song → Head → (phase count : ℕ) → Song
-headed s head phase count = record { number = 0; whole = 0; phase = phase; value = 0; count = count; left = s.left; name = s.name; head = head; track = s.track }
+headed s head phase count = record s { number = 0; whole = 0; phase = phase; value = 0; count = count; head = head }
 
 -- tracks are counted as far as a header can declare them
 unfoldable pub one_more : ℕ → ℕ
@@ -43,11 +43,11 @@ one_more n = cond (ltb n 65535) (n + 1) n
 
 -- a track more begins, with so many bytes
 abbrev pub tracked : Song → ℕ → Song
-tracked s left = record { number = 0; whole = 0; phase = 8; value = 0; count = 0; left = left; name = s.name; head = record { format = s.head.format; declared = s.head.declared; division = s.head.division; tracks = one_more s.head.tracks }; track = tracks.begun }
+tracked s left = record s { number = 0; whole = 0; phase = 8; value = 0; count = 0; left = left; head = record (s.head) { tracks = one_more s.head.tracks }; track = tracks.begun }
 
 -- a byte of a track was read
 abbrev pub plays : Song → (t : Track) → (phase count left : ℕ) → Song
-plays s t phase count left = record { number = 0; whole = t.whole; phase = phase; value = 0; count = count; left = left; name = s.name; head = s.head; track = t }
+plays s t phase count left = record s { number = 0; whole = t.whole; phase = phase; value = 0; count = count; left = left; track = t }
 
 -- ---- The header
 
@@ -66,12 +66,12 @@ skips s phase left = cond (eqb left 0) (asks s 6 4) (leaves s phase left)
 unfoldable pub divided : Song → ℕ → Song
 divided s v =
     cond (divides v)
-    (skips (headed s (record { format = s.head.format; declared = s.head.declared; division = v; tracks = 0 }) 5 0) 5 s.left)
+    (skips (record s { head = record (s.head) { division = v; tracks = 0 } }) 5 s.left)
     (refused s 32)
 
 -- behind the number of tracks that the header declares
 abbrev pub declares : Song → ℕ → Song
-declares s v = headed s (record { format = s.head.format; declared = v; division = 0; tracks = 0 }) 4 2
+declares s v = headed s (record (s.head) { declared = v; division = 0; tracks = 0 }) 4 2
 
 -- behind the format: 0 or 1
 unfoldable pub formed : Song → ℕ → Song
@@ -79,7 +79,7 @@ formed s v = cond (ltb 1 v) (refused s 31) (headed s (record { format = v; decla
 
 -- behind the header's length: six bytes are looked at
 unfoldable pub long : Song → ℕ → Song
-long s v = cond (ltb v 6) (refused s 33) (asks (leaves s 1 (v - 6)) 2 2)
+long s v = cond (ltb v 6) (refused s 33) (asks (record s { left = v - 6 }) 2 2)
 
 -- behind the first name: MThd
 unfoldable pub opened : Song → ℕ → Song
@@ -93,18 +93,15 @@ sized s v =
     cond (eqb s.name 1297379947) (cond (eqb v 0) (asks (tracked s 0) 6 4) (tracked s v))
     (skips s 9 v)
 
--- behind a number of a header
-unfoldable pub numbered_late : Song → ℕ → Song
-numbered_late s v =
-    cond (eqb s.phase 3) (declares s v)
-    (cond (eqb s.phase 4) (divided s v)
-    (cond (eqb s.phase 6) (named s v) (sized s v)))
-
+-- behind a number: of the header, of a chunk's name or of its size
 unfoldable pub numbered : Song → ℕ → Song
 numbered s v =
     cond (eqb s.phase 0) (opened s v)
     (cond (eqb s.phase 1) (long s v)
-    (cond (eqb s.phase 2) (formed s v) (numbered_late s v)))
+    (cond (eqb s.phase 2) (formed s v)
+    (cond (eqb s.phase 3) (declares s v)
+    (cond (eqb s.phase 4) (divided s v)
+    (cond (eqb s.phase 6) (named s v) (sized s v))))))
 
 -- after a byte of a number
 unfoldable pub after_number : Song → ℕ → Song
@@ -122,16 +119,12 @@ after_track s t =
     cond (not (eqb t.number 0)) (refused s t.number)
     (cond (ltb s.left 2) (track_ends s t) (plays s t 8 0 (s.left - 1)))
 
--- after a byte that is passed over
-unfoldable pub after_skipped : Song → Song
-after_skipped s = cond (ltb s.left 2) (asks s 6 4) (leaves s s.phase (s.left - 1))
-
--- after any byte: what is refused stays
+-- after any byte: what is refused stays; a byte of 5 or 9 is passed over
 unfoldable pub after_byte : Song → ℕ → Song
 after_byte s b =
     cond (not (eqb s.number 0)) s
     (cond (eqb s.phase 8) (after_track s (tracks.after_byte s.track b))
-    (cond (eqb s.phase 5 || eqb s.phase 9) (after_skipped s) (after_number s b)))
+    (cond (eqb s.phase 5 || eqb s.phase 9) (skips s s.phase (s.left - 1)) (after_number s b)))
 
 -- what is answered where the file ends: the refusal; 30 within its first name; 33 where it ends within its header, within a chunk's body, without a track or with fewer than its header declares; else 0
 unfoldable pub ended : Song → ℕ

@@ -3,44 +3,52 @@
 #![tactic(auto)]
 
 ghost use Rattle.std.specs.Prelude.{◌≡◌};
-ghost use Rattle.smf.specs.Songs.{unread, refused, asks, counts, leaves, named, headed, one_more, tracked, plays, filmed, divides, skips, divided, declares, formed, long, opened, sized, numbered_late, numbered, after_number, track_ends, after_track, after_skipped, after_byte, ended};
+ghost use Rattle.smf.specs.Songs.{unread, refused, asks, counts, leaves, named, headed, one_more, tracked, plays, filmed, divides, skips, divided, declares, formed, long, opened, sized, numbered, after_number, track_ends, after_track, after_byte, ended};
+ghost use Rattle.smf.specs.Kinds.{phase_number, Numbered, answered};
 
+use refusals::Refusal;
 use tracks::Track;
 
 // What comes: the header's name, its length, the format, how many tracks, the division, the rest of the header; a chunk's name and its size; the bytes of a track; the body of another chunk.
-const HEADER: u32 = 0;
+#[derive(Clone, Copy, Debug, PartialEq, Eq)]
+enum Phase {
+    Header,
+    HeaderLength,
+    Format,
+    Tracks,
+    Division,
+    HeaderRest,
+    Chunk,
+    Size,
+    Track,
+    Body,
+}
 
-const HEADER_LENGTH: u32 = 1;
+// A number that no phase has.
+#[derive(Clone, Copy, Debug, PartialEq, Eq)]
+struct UnknownPhase;
 
-const FORMAT: u32 = 2;
+impl TryFrom<u32> for Phase {
+    type Error = UnknownPhase;
 
-const TRACKS: u32 = 3;
+    ghost try_from_gives = { Numbered };
 
-const DIVISION: u32 = 4;
-
-const HEADER_REST: u32 = 5;
-
-const CHUNK: u32 = 6;
-
-const SIZE: u32 = 7;
-
-const TRACK: u32 = 8;
-
-const BODY: u32 = 9;
-
-// The names "MThd" and "MTrk".
-const MTHD: u32 = 1297377380;
-
-const MTRK: u32 = 1297379947;
-
-// Refusals.
-const NO_MIDI_FILE: u32 = 30;
-
-const FORMAT_UNKNOWN: u32 = 31;
-
-const DIVISION_WRONG: u32 = 32;
-
-const ENDS_EARLY: u32 = 33;
+    fn try_from(number: u32) -> Result<Phase, UnknownPhase> {
+        match number {
+            0 => Ok(Phase::Header),
+            1 => Ok(Phase::HeaderLength),
+            2 => Ok(Phase::Format),
+            3 => Ok(Phase::Tracks),
+            4 => Ok(Phase::Division),
+            5 => Ok(Phase::HeaderRest),
+            6 => Ok(Phase::Chunk),
+            7 => Ok(Phase::Size),
+            8 => Ok(Phase::Track),
+            9 => Ok(Phase::Body),
+            _ => Err(UnknownPhase),
+        }
+    }
+}
 
 // What a header says: the format, how many tracks, the division; and how many tracks have begun, of which 65535 are counted.
 #[repr(C)]
@@ -71,11 +79,10 @@ pub struct Song {
 pub fn begin() -> Song
     ensures { result ≡ unread }
 {
-    let t = tracks::begin();
     Song {
         number: 0,
         whole: 0,
-        phase: HEADER,
+        phase: Phase::Header as u32,
         value: 0,
         count: 4,
         left: 0,
@@ -86,7 +93,7 @@ pub fn begin() -> Song
             division: 0,
             tracks: 0,
         },
-        track: t,
+        track: tracks::begin(),
     }
 }
 
@@ -94,37 +101,24 @@ pub fn begin() -> Song
 fn refuse(s: Song, number: u32) -> Song
     ensures { result ≡ refused s number }
 {
-    let h = s.head;
-    let t = s.track;
     Song {
-        number: number,
+        number,
         whole: 0,
-        phase: s.phase,
-        value: s.value,
-        count: s.count,
-        left: s.left,
-        name: s.name,
-        head: h,
-        track: t,
+        ..s
     }
 }
 
 // A number of so many bytes comes.
-fn asks(s: Song, phase: u32, count: u32) -> Song
-    ensures { result ≡ asks s phase count }
+fn asks(s: Song, phase: Phase, count: u32) -> Song
+    ensures { result ≡ asks s (phase_number phase) count }
 {
-    let h = s.head;
-    let t = s.track;
     Song {
         number: 0,
         whole: 0,
-        phase: phase,
+        phase: phase as u32,
         value: 0,
-        count: count,
-        left: s.left,
-        name: s.name,
-        head: h,
-        track: t,
+        count,
+        ..s
     }
 }
 
@@ -132,37 +126,22 @@ fn asks(s: Song, phase: u32, count: u32) -> Song
 fn counts(s: Song, value: u32, count: u32) -> Song
     ensures { result ≡ counts s value count }
 {
-    let h = s.head;
-    let t = s.track;
     Song {
         number: 0,
         whole: 0,
-        phase: s.phase,
-        value: value,
-        count: count,
-        left: s.left,
-        name: s.name,
-        head: h,
-        track: t,
+        value,
+        count,
+        ..s
     }
 }
 
 // So many bytes of a body come.
-fn leaves(s: Song, phase: u32, left: u32) -> Song
-    ensures { result ≡ leaves s phase left }
+fn leaves(s: Song, phase: Phase, left: u32) -> Song
+    ensures { result ≡ leaves s (phase_number phase) left }
 {
-    let h = s.head;
-    let t = s.track;
     Song {
-        number: 0,
-        whole: 0,
-        phase: phase,
-        value: 0,
-        count: 0,
-        left: left,
-        name: s.name,
-        head: h,
-        track: t,
+        left,
+        ..asks(s, phase, 0)
     }
 }
 
@@ -170,89 +149,55 @@ fn leaves(s: Song, phase: u32, left: u32) -> Song
 fn named(s: Song, name: u32) -> Song
     ensures { result ≡ named s name }
 {
-    let h = s.head;
-    let t = s.track;
     Song {
-        number: 0,
-        whole: 0,
-        phase: SIZE,
-        value: 0,
-        count: 4,
         left: 0,
-        name: name,
-        head: h,
-        track: t,
+        name,
+        ..asks(s, Phase::Size, 4)
     }
 }
 
 // With this header, another number of so many bytes comes.
-fn headed(s: Song, head: Head, phase: u32, count: u32) -> Song
-    ensures { result ≡ headed s head phase count }
+fn headed(s: Song, head: Head, phase: Phase, count: u32) -> Song
+    ensures { result ≡ headed s head (phase_number phase) count }
 {
-    let t = s.track;
     Song {
-        number: 0,
-        whole: 0,
-        phase: phase,
-        value: 0,
-        count: count,
-        left: s.left,
-        name: s.name,
-        head: head,
-        track: t,
+        head,
+        ..asks(s, phase, count)
     }
 }
 
 // Tracks are counted as far as a header can declare them.
+#[tactic(auto, unfolding(crate::specs::Songs::one_more))]
 fn one_more(tracks: u32) -> u32
     ensures { result ≡ one_more tracks }
 {
-    if tracks < 65535 {
-        return tracks + 1;
-    }
-    tracks
+    if tracks < 65535 { tracks + 1 } else { tracks }
 }
 
 // A track more begins, with so many bytes.
 fn tracked(s: Song, left: u32) -> Song
     ensures { result ≡ tracked s left }
 {
-    let h = s.head;
-    let more = Head {
-        format: h.format,
-        declared: h.declared,
-        division: h.division,
-        tracks: one_more(h.tracks),
-    };
-    let t = tracks::begin();
     Song {
-        number: 0,
-        whole: 0,
-        phase: TRACK,
-        value: 0,
-        count: 0,
-        left: left,
-        name: s.name,
-        head: more,
-        track: t,
+        left,
+        head: Head {
+            tracks: one_more(s.head.tracks),
+            ..s.head
+        },
+        track: tracks::begin(),
+        ..asks(s, Phase::Track, 0)
     }
 }
 
 // A byte of a track was read.
-fn plays(s: Song, t: Track, phase: u32, count: u32, left: u32) -> Song
-    ensures { result ≡ plays s t phase count left }
+fn plays(s: Song, track: Track, phase: Phase, count: u32, left: u32) -> Song
+    ensures { result ≡ plays s track (phase_number phase) count left }
 {
-    let h = s.head;
     Song {
-        number: 0,
-        whole: t.whole,
-        phase: phase,
-        value: 0,
-        count: count,
-        left: left,
-        name: s.name,
-        head: h,
-        track: t,
+        whole: track.whole,
+        left,
+        track,
+        ..asks(s, phase, count)
     }
 }
 
@@ -260,69 +205,68 @@ fn plays(s: Song, t: Track, phase: u32, count: u32, left: u32) -> Song
 fn filmed(frames: u32) -> bool
     ensures { result ≡ filmed frames }
 {
-    (frames == 24) | (frames == 25) | (frames == 29) | (frames == 30)
+    matches!(frames, 24 | 25 | 29 | 30)
 }
 
 // The division says how long a tick is.
+#[tactic(auto, unfolding(crate::specs::Songs::divides))]
 fn divides(v: u32) -> bool
     ensures { result ≡ divides v }
 {
-    if v < 32768 {
-        return v != 0;
+    match v {
+        0..=32767 => v != 0,
+        32768..=65535 => filmed(256 - v / 256) && v % 256 != 0,
+        _ => false,
     }
-    if 65535 < v {
-        return false;
-    }
-    filmed(256 - v / 256) & (v % 256 != 0)
 }
 
 // So many bytes are passed over, and then comes the next chunk's name.
-fn skips(s: Song, phase: u32, left: u32) -> Song
-    ensures { result ≡ skips s phase left }
+#[tactic(auto, unfolding(crate::specs::Songs::skips))]
+fn skips(s: Song, phase: Phase, left: u32) -> Song
+    ensures { result ≡ skips s (phase_number phase) left }
 {
     if left == 0 {
-        return asks(s, CHUNK, 4);
+        return asks(s, Phase::Chunk, 4);
     }
     leaves(s, phase, left)
 }
 
 // Behind the division.
-fn divided(s: Song, v: u32) -> Song
-    ensures { result ≡ divided s v }
+#[tactic(auto, unfolding(crate::specs::Songs::divided))]
+fn divided(s: Song, v: u32) -> Result<Song, Refusal>
+    ensures { answered s result ≡ divided s v }
 {
-    if divides(v) {
-        let h = s.head;
-        let head = Head {
-            format: h.format,
-            declared: h.declared,
-            division: v,
-            tracks: 0,
-        };
-        return skips(headed(s, head, HEADER_REST, 0), HEADER_REST, s.left);
+    if !divides(v) {
+        return Err(Refusal::DivisionWrong);
     }
-    refuse(s, DIVISION_WRONG)
+    let head = Head {
+        division: v,
+        tracks: 0,
+        ..s.head
+    };
+    Ok(skips(Song { head, ..s }, Phase::HeaderRest, s.left))
 }
 
 // Behind the number of tracks that the header declares.
 fn declares(s: Song, v: u32) -> Song
     ensures { result ≡ declares s v }
 {
-    let h = s.head;
     let head = Head {
-        format: h.format,
         declared: v,
         division: 0,
         tracks: 0,
+        ..s.head
     };
-    headed(s, head, DIVISION, 2)
+    headed(s, head, Phase::Division, 2)
 }
 
 // Behind the format.
-fn formed(s: Song, v: u32) -> Song
-    ensures { result ≡ formed s v }
+#[tactic(auto, unfolding(crate::specs::Songs::formed))]
+fn formed(s: Song, v: u32) -> Result<Song, Refusal>
+    ensures { answered s result ≡ formed s v }
 {
-    if 1 < v {
-        return refuse(s, FORMAT_UNKNOWN);
+    if v > 1 {
+        return Err(Refusal::FormatUnknown);
     }
     let head = Head {
         format: v,
@@ -330,97 +274,88 @@ fn formed(s: Song, v: u32) -> Song
         division: 0,
         tracks: 0,
     };
-    headed(s, head, TRACKS, 2)
+    Ok(headed(s, head, Phase::Tracks, 2))
 }
 
 // Behind the header's length.
-fn long(s: Song, v: u32) -> Song
-    ensures { result ≡ long s v }
+#[tactic(auto, unfolding(crate::specs::Songs::long))]
+fn long(s: Song, v: u32) -> Result<Song, Refusal>
+    ensures { answered s result ≡ long s v }
 {
     if v < 6 {
-        return refuse(s, ENDS_EARLY);
+        return Err(Refusal::EndsEarly);
     }
-    asks(leaves(s, HEADER_LENGTH, v - 6), FORMAT, 2)
+    let left = v - 6;
+    Ok(asks(Song { left, ..s }, Phase::Format, 2))
 }
 
 // Behind the first name.
-fn opened(s: Song, v: u32) -> Song
-    ensures { result ≡ opened s v }
+#[tactic(auto, unfolding(crate::specs::Songs::opened))]
+fn opened(s: Song, v: u32) -> Result<Song, Refusal>
+    ensures { answered s result ≡ opened s v }
 {
-    if v == MTHD {
-        return asks(s, HEADER_LENGTH, 4);
+    if v != u32::from_be_bytes(*b"MThd") {
+        return Err(Refusal::NoMidiFile);
     }
-    refuse(s, NO_MIDI_FILE)
+    Ok(asks(s, Phase::HeaderLength, 4))
 }
 
 // Behind a chunk's size.
+#[tactic(auto, unfolding(crate::specs::Songs::sized))]
 fn sized(s: Song, v: u32) -> Song
     ensures { result ≡ sized s v }
 {
-    if s.name == MTRK {
-        if v == 0 {
-            return asks(tracked(s, 0), CHUNK, 4);
-        }
-        return tracked(s, v);
+    if s.name != u32::from_be_bytes(*b"MTrk") {
+        return skips(s, Phase::Body, v);
     }
-    skips(s, BODY, v)
+    if v == 0 {
+        return asks(tracked(s, 0), Phase::Chunk, 4);
+    }
+    tracked(s, v)
 }
 
-// Behind a number that is not among the first three.
-fn numbered_late(s: Song, v: u32) -> Song
-    ensures { result ≡ numbered_late s v }
+// Behind a number; in a phase that there is not, it is a chunk's size.
+#[tactic(auto, unfolding(crate::specs::Songs::numbered))]
+fn numbered(s: Song, v: u32) -> Result<Song, Refusal>
+    ensures { answered s result ≡ numbered s v }
 {
-    if s.phase == TRACKS {
-        return declares(s, v);
+    match Phase::try_from(s.phase) {
+        Ok(Phase::Header) => opened(s, v),
+        Ok(Phase::HeaderLength) => long(s, v),
+        Ok(Phase::Format) => formed(s, v),
+        Ok(Phase::Tracks) => Ok(declares(s, v)),
+        Ok(Phase::Division) => divided(s, v),
+        Ok(Phase::Chunk) => Ok(named(s, v)),
+        _ => Ok(sized(s, v)),
     }
-    if s.phase == DIVISION {
-        return divided(s, v);
-    }
-    if s.phase == CHUNK {
-        return named(s, v);
-    }
-    sized(s, v)
-}
-
-// Behind a number.
-fn numbered(s: Song, v: u32) -> Song
-    ensures { result ≡ numbered s v }
-{
-    if s.phase == HEADER {
-        return opened(s, v);
-    }
-    if s.phase == HEADER_LENGTH {
-        return long(s, v);
-    }
-    if s.phase == FORMAT {
-        return formed(s, v);
-    }
-    numbered_late(s, v)
 }
 
 // After a byte of a number.
-fn after_number(s: Song, b: u8) -> Song
-    ensures { result ≡ after_number s b }
+#[tactic(auto, unfolding(crate::specs::Songs::after_number))]
+fn after_number(s: Song, b: u8) -> Result<Song, Refusal>
+    ensures { answered s result ≡ after_number s b }
 {
-    let value = s.value % 16777216 * 256 + b as u32;
+    let value = s.value % 16777216 * 256 + u32::from(b);
     if s.count < 2 {
         return numbered(s, value);
     }
-    counts(s, value, s.count - 1)
+    Ok(counts(s, value, s.count - 1))
 }
 
 // Behind the last byte of a track.
+#[tactic(auto, unfolding(crate::specs::Songs::track_ends))]
 fn track_ends(s: Song, t: Track) -> Song
     ensures { result ≡ track_ends s t }
 {
-    let number = tracks::end(t);
-    if number == 0 {
-        return plays(s, t, CHUNK, 4, 0);
+    match tracks::end(t) {
+        0 => plays(s, t, Phase::Chunk, 4, 0),
+        number => refuse(s, number),
     }
-    refuse(s, number)
 }
 
-// After a byte of a track.
+// After a byte of a track; inlined, since a call would copy file and track.
+#[tactic(auto, unfolding(crate::specs::Songs::after_track))]
+#[inline(always)]
 fn after_track(s: Song, t: Track) -> Song
     ensures { result ≡ after_track s t }
 {
@@ -430,52 +365,43 @@ fn after_track(s: Song, t: Track) -> Song
     if s.left < 2 {
         return track_ends(s, t);
     }
-    plays(s, t, TRACK, 0, s.left - 1)
-}
-
-// After a byte that is passed over.
-fn after_skipped(s: Song) -> Song
-    ensures { result ≡ after_skipped s }
-{
-    if s.left < 2 {
-        return asks(s, CHUNK, 4);
-    }
-    leaves(s, s.phase, s.left - 1)
+    plays(s, t, Phase::Track, 0, s.left - 1)
 }
 
 // After a byte: what is refused stays.
+#[tactic(auto, unfolding(crate::specs::Songs::after_byte))]
 pub fn byte(s: Song, b: u8) -> Song
     ensures { result ≡ after_byte s b }
 {
     if s.number != 0 {
         return s;
     }
-    if s.phase == TRACK {
-        let t = s.track;
-        return after_track(s, tracks::byte(t, b));
+    match Phase::try_from(s.phase) {
+        Ok(Phase::Track) => after_track(s, tracks::byte(s.track, b)),
+        Ok(phase @ (Phase::HeaderRest | Phase::Body)) => skips(s, phase, s.left.saturating_sub(1)),
+        _ => match after_number(s, b) {
+            Ok(next) => next,
+            Err(refusal) => refuse(s, refusal.number()),
+        },
     }
-    if (s.phase == HEADER_REST) | (s.phase == BODY) {
-        return after_skipped(s);
-    }
-    after_number(s, b)
 }
 
 // What is answered where the file ends: the refusal, or 0.
+#[tactic(auto, unfolding(crate::specs::Songs::ended))]
 pub fn end(s: Song) -> u32
     ensures { result ≡ ended s }
 {
     if s.number != 0 {
         return s.number;
     }
-    if s.phase == HEADER {
-        return NO_MIDI_FILE;
+    let Head {
+        declared,
+        tracks,
+        ..
+    } = s.head;
+    match Phase::try_from(s.phase) {
+        Ok(Phase::Header) => Refusal::NoMidiFile.number(),
+        Ok(Phase::Chunk | Phase::Size) if tracks != 0 && tracks >= declared => 0,
+        _ => Refusal::EndsEarly.number(),
     }
-    if (s.phase == CHUNK) | (s.phase == SIZE) {
-        let h = s.head;
-        if (h.tracks < h.declared) | (h.tracks == 0) {
-            return ENDS_EARLY;
-        }
-        return 0;
-    }
-    ENDS_EARLY
 }

@@ -12,23 +12,23 @@ begun = record { number = 0; whole = 0; phase = 0; running = 0; status = 0; firs
 
 -- the track, refused by a number
 abbrev pub refused : Track → ℕ → Track
-refused t number = record { number = number; whole = 0; phase = t.phase; running = t.running; status = t.status; first = t.first; value = t.value; left = t.left; tick = t.tick }
+refused t number = record t { number = number; whole = 0 }
 
 -- within an event: what comes next, and what is known of it
 abbrev pub partly : Track → (phase status first value left : ℕ) → Track
-partly t phase status first value left = record { number = 0; whole = 0; phase = phase; running = t.running; status = status; first = first; value = value; left = left; tick = t.tick }
+partly t phase status first value left = record t { number = 0; whole = 0; phase = phase; status = status; first = first; value = value; left = left }
 
 -- behind a channel's message: its status is the running one
 abbrev pub message : Track → (status first second : ℕ) → Track
-message t status first second = record { number = 0; whole = 1; phase = 0; running = status; status = status; first = first; value = second; left = 0; tick = t.tick }
+message t status first second = record t { number = 0; whole = 1; phase = 0; running = status; status = status; first = first; value = second; left = 0 }
 
 -- behind another event, which ends the running status: what it was, what comes next, and its number
 abbrev pub other : Track → (what phase value : ℕ) → Track
-other t what phase value = record { number = 0; whole = what; phase = phase; running = 0; status = t.status; first = t.first; value = value; left = 0; tick = t.tick }
+other t what phase value = record t { number = 0; whole = what; phase = phase; running = 0; value = value; left = 0 }
 
 -- behind a delta time: the event's tick
 abbrev pub timed : Track → ℕ → Track
-timed t tick = record { number = 0; whole = 0; phase = 2; running = t.running; status = 0; first = 0; value = 0; left = 0; tick = tick }
+timed t tick = record t { number = 0; whole = 0; phase = 2; status = 0; first = 0; value = 0; left = 0; tick = tick }
 
 -- ---- A delta time
 
@@ -109,26 +109,21 @@ after_body t b =
 
 -- ---- A byte
 
--- after a meta event's type, a byte of a length, of a body, or one behind the track's end, where none counts
-unfoldable pub after_rest : Track → ℕ → Track
-after_rest t b =
-    cond (eqb t.phase 5) (partly t 6 255 b 0 4)
-    (cond (eqb t.phase 6) (after_length t b)
-    (cond (eqb t.phase 7) (after_body t b) (other t 0 8 0)))
-
--- after a byte behind a delta time
-unfoldable pub after_part : Track → ℕ → Track
-after_part t b =
-    cond (eqb t.phase 2) (after_status t b)
+-- after a byte in any phase; behind the track's end none counts
+unfoldable pub after_phase : Track → ℕ → Track
+after_phase t b =
+    cond (eqb t.phase 0) (after_delta t 0 4 b)
+    (cond (eqb t.phase 1) (after_delta t t.value t.left b)
+    (cond (eqb t.phase 2) (after_status t b)
     (cond (eqb t.phase 3) (after_first t t.status b)
-    (cond (eqb t.phase 4) (after_second t b) (after_rest t b)))
+    (cond (eqb t.phase 4) (after_second t b)
+    (cond (eqb t.phase 5) (partly t 6 255 b 0 4)
+    (cond (eqb t.phase 6) (after_length t b)
+    (cond (eqb t.phase 7) (after_body t b) (other t 0 8 0))))))))
 
 -- after any byte: what is refused stays
 unfoldable pub after_byte : Track → ℕ → Track
-after_byte t b =
-    cond (not (eqb t.number 0)) t
-    (cond (eqb t.phase 0) (after_delta t 0 4 b)
-    (cond (eqb t.phase 1) (after_delta t t.value t.left b) (after_part t b)))
+after_byte t b = cond (eqb t.number 0) (after_phase t b) t
 
 -- what is answered where the track's chunk ends: the refusal, or 0
 unfoldable pub ended : Track → ℕ

@@ -3,55 +3,69 @@
 #![tactic(auto)]
 
 ghost use Rattle.std.specs.Prelude.{◌≡◌};
-ghost use Rattle.tracks.specs.Tracks.{begun, refused, partly, message, other, timed, quantified, is_tempo, is_end, has_one, later, after_delta, after_running, after_first, after_second, after_status, closed, opened, after_length, after_body, after_rest, after_part, after_byte, ended};
+ghost use Rattle.tracks.specs.Tracks.{begun, refused, partly, message, other, timed, quantified, is_tempo, has_one, later, after_delta, after_running, after_first, after_second, after_status, closed, opened, after_length, after_body, after_phase, after_byte, ended};
+ghost use Rattle.tracks.specs.Kinds.{phase_number, whole_number, Numbered, answered};
+
+use refusals::Refusal;
 
 // What the next byte is: the first of a delta time, a further one, a status or running data, the first and the second data byte, a meta event's type, a length, a body; or nothing counts behind the track's end.
-const READY: u32 = 0;
+#[derive(Clone, Copy, Debug, PartialEq, Eq)]
+enum Phase {
+    Ready,
+    Delta,
+    Status,
+    First,
+    Second,
+    Meta,
+    Length,
+    Body,
+    Ended,
+}
 
-const DELTA: u32 = 1;
+// A number that no phase has.
+#[derive(Clone, Copy, Debug, PartialEq, Eq)]
+struct UnknownPhase;
 
-const STATUS: u32 = 2;
+impl TryFrom<u32> for Phase {
+    type Error = UnknownPhase;
 
-const FIRST: u32 = 3;
+    ghost try_from_gives = { Numbered };
 
-const SECOND: u32 = 4;
-
-const META: u32 = 5;
-
-const LENGTH: u32 = 6;
-
-const BODY: u32 = 7;
-
-const ENDED: u32 = 8;
+    fn try_from(number: u32) -> Result<Phase, UnknownPhase> {
+        match number {
+            0 => Ok(Phase::Ready),
+            1 => Ok(Phase::Delta),
+            2 => Ok(Phase::Status),
+            3 => Ok(Phase::First),
+            4 => Ok(Phase::Second),
+            5 => Ok(Phase::Meta),
+            6 => Ok(Phase::Length),
+            7 => Ok(Phase::Body),
+            8 => Ok(Phase::Ended),
+            _ => Err(UnknownPhase),
+        }
+    }
+}
 
 // What became whole by the last byte: nothing, a channel's message, a tempo, the track's end, an event that is passed over.
-const NOTHING: u32 = 0;
+#[derive(Clone, Copy, Debug, PartialEq, Eq)]
+enum Whole {
+    Nothing,
+    Message,
+    Tempo,
+    End,
+    Other,
+}
 
-const MESSAGE: u32 = 1;
+// A meta event's status, and the types of two of them.
+const META_EVENT: u32 = 255;
 
-const TEMPO: u32 = 2;
+const END_OF_TRACK: u32 = 47;
 
-const END: u32 = 3;
-
-const OTHER: u32 = 4;
-
-// Refusals.
-const WITHIN_AN_EVENT: u32 = 34;
-
-const QUANTITY_TOO_LONG: u32 = 35;
-
-const NO_RUNNING_STATUS: u32 = 36;
-
-const STATUS_WITHIN: u32 = 37;
-
-const UNKNOWN_STATUS: u32 = 38;
-
-const TEMPO_WRONG: u32 = 39;
-
-const TOO_LONG: u32 = 40;
+const SET_TEMPO: u32 = 81;
 
 // No event comes behind this tick and one delta time more.
-const MOST_TICK: u64 = 281474976710656;
+const MOST_TICK: u64 = 1 << 48;
 
 // A track that is read: the refusal or 0, what became whole, what comes next, the running status or 0, the event's status, its first data byte or type, a number so far, how many bytes it still has, and the tick of the event.
 #[repr(C)]
@@ -74,8 +88,8 @@ pub fn begin() -> Track
 {
     Track {
         number: 0,
-        whole: NOTHING,
-        phase: READY,
+        whole: Whole::Nothing as u32,
+        phase: Phase::Ready as u32,
         running: 0,
         status: 0,
         first: 0,
@@ -85,37 +99,19 @@ pub fn begin() -> Track
     }
 }
 
-// The track, refused.
-fn refuse(t: Track, number: u32) -> Track
-    ensures { result ≡ refused t number }
-{
-    Track {
-        number: number,
-        whole: NOTHING,
-        phase: t.phase,
-        running: t.running,
-        status: t.status,
-        first: t.first,
-        value: t.value,
-        left: t.left,
-        tick: t.tick,
-    }
-}
-
 // Within an event: what comes next, and what is known of it.
-fn part(t: Track, phase: u32, status: u32, first: u32, value: u32, left: u32) -> Track
-    ensures { result ≡ partly t phase status first value left }
+fn part(t: Track, phase: Phase, status: u32, first: u32, value: u32, left: u32) -> Track
+    ensures { result ≡ partly t (phase_number phase) status first value left }
 {
     Track {
         number: 0,
-        whole: NOTHING,
-        phase: phase,
-        running: t.running,
-        status: status,
-        first: first,
-        value: value,
-        left: left,
-        tick: t.tick,
+        whole: Whole::Nothing as u32,
+        phase: phase as u32,
+        status,
+        first,
+        value,
+        left,
+        ..t
     }
 }
 
@@ -124,32 +120,20 @@ fn message(t: Track, status: u32, first: u32, second: u32) -> Track
     ensures { result ≡ message t status first second }
 {
     Track {
-        number: 0,
-        whole: MESSAGE,
-        phase: READY,
+        whole: Whole::Message as u32,
         running: status,
-        status: status,
-        first: first,
-        value: second,
-        left: 0,
-        tick: t.tick,
+        ..part(t, Phase::Ready, status, first, second, 0)
     }
 }
 
 // Behind another event, which ends the running status: what it was, what comes next, and its number.
-fn other(t: Track, what: u32, phase: u32, value: u32) -> Track
-    ensures { result ≡ other t what phase value }
+fn other(t: Track, whole: Whole, phase: Phase, value: u32) -> Track
+    ensures { result ≡ other t (whole_number whole) (phase_number phase) value }
 {
     Track {
-        number: 0,
-        whole: what,
-        phase: phase,
+        whole: whole as u32,
         running: 0,
-        status: t.status,
-        first: t.first,
-        value: value,
-        left: 0,
-        tick: t.tick,
+        ..part(t, phase, t.status, t.first, value, 0)
     }
 }
 
@@ -158,15 +142,8 @@ fn timed(t: Track, tick: u64) -> Track
     ensures { result ≡ timed t tick }
 {
     Track {
-        number: 0,
-        whole: NOTHING,
-        phase: STATUS,
-        running: t.running,
-        status: 0,
-        first: 0,
-        value: 0,
-        left: 0,
-        tick: tick,
+        tick,
+        ..part(t, Phase::Status, 0, 0, 0, 0)
     }
 }
 
@@ -174,216 +151,202 @@ fn timed(t: Track, tick: u64) -> Track
 fn more(value: u32, b: u8) -> u32
     ensures { result ≡ quantified value b }
 {
-    value % 2097152 * 128 + (b % 128) as u32
+    value % 2097152 * 128 + u32::from(b % 128)
 }
 
 // After a byte of a delta time of which so much is known, and which may have so many bytes still.
-fn after_delta(t: Track, value: u32, left: u32, b: u8) -> Track
-    ensures { result ≡ after_delta t value left b }
+#[tactic(auto, unfolding(crate::specs::Tracks::after_delta))]
+fn after_delta(t: Track, value: u32, left: u32, b: u8) -> Result<Track, Refusal>
+    ensures { answered t result ≡ after_delta t value left b }
 {
     if b < 128 {
         return later(t, more(value, b));
     }
     if left < 2 {
-        return refuse(t, QUANTITY_TOO_LONG);
+        return Err(Refusal::QuantityTooLong);
     }
-    part(t, DELTA, 0, 0, more(value, b), left - 1)
+    Ok(part(t, Phase::Delta, 0, 0, more(value, b), left - 1))
 }
 
 // So many ticks later.
-fn later(t: Track, ticks: u32) -> Track
-    ensures { result ≡ later t ticks }
+#[tactic(auto, unfolding(crate::specs::Tracks::later))]
+fn later(t: Track, ticks: u32) -> Result<Track, Refusal>
+    ensures { answered t result ≡ later t ticks }
 {
-    if MOST_TICK < t.tick {
-        return refuse(t, TOO_LONG);
+    if t.tick > MOST_TICK {
+        return Err(Refusal::TrackTooLong);
     }
-    timed(t, t.tick + ticks as u64)
+    Ok(timed(t, t.tick + u64::from(ticks)))
 }
 
 // The status has one data byte: program change and channel pressure.
 fn has_one(status: u32) -> bool
     ensures { result ≡ has_one status }
 {
-    (192 <= status) & (status < 224)
+    matches!(status, 192..=223)
 }
 
 // After the first data byte under a status.
-fn after_first(t: Track, status: u32, b: u8) -> Track
-    ensures { result ≡ after_first t status b }
+#[tactic(auto, unfolding(crate::specs::Tracks::after_first))]
+fn after_first(t: Track, status: u32, b: u8) -> Result<Track, Refusal>
+    ensures { answered t result ≡ after_first t status b }
 {
-    if 128 <= b {
-        return refuse(t, STATUS_WITHIN);
+    if b >= 128 {
+        return Err(Refusal::StatusWithin);
     }
     if has_one(status) {
-        return message(t, status, b as u32, 0);
+        return Ok(message(t, status, u32::from(b), 0));
     }
-    part(t, SECOND, status, b as u32, 0, 0)
+    Ok(part(t, Phase::Second, status, u32::from(b), 0, 0))
 }
 
 // After the second data byte.
-fn after_second(t: Track, b: u8) -> Track
-    ensures { result ≡ after_second t b }
+#[tactic(auto, unfolding(crate::specs::Tracks::after_second))]
+fn after_second(t: Track, b: u8) -> Result<Track, Refusal>
+    ensures { answered t result ≡ after_second t b }
 {
-    if 128 <= b {
-        return refuse(t, STATUS_WITHIN);
+    if b >= 128 {
+        return Err(Refusal::StatusWithin);
     }
-    message(t, t.status, t.first, b as u32)
+    Ok(message(t, t.status, t.first, u32::from(b)))
 }
 
 // After a data byte where a status may stand.
-fn after_running(t: Track, b: u8) -> Track
-    ensures { result ≡ after_running t b }
+#[tactic(auto, unfolding(crate::specs::Tracks::after_running))]
+fn after_running(t: Track, b: u8) -> Result<Track, Refusal>
+    ensures { answered t result ≡ after_running t b }
 {
     if t.running == 0 {
-        return refuse(t, NO_RUNNING_STATUS);
+        return Err(Refusal::NoRunningStatus);
     }
     after_first(t, t.running, b)
 }
 
-// After the first byte behind a delta time.
-fn after_status(t: Track, b: u8) -> Track
-    ensures { result ≡ after_status t b }
+// After the first byte behind a delta time. This, `after_length`, `after_phase` and `byte` are inlined, since each call would copy the track.
+#[tactic(auto, unfolding(crate::specs::Tracks::after_status))]
+#[inline(always)]
+fn after_status(t: Track, b: u8) -> Result<Track, Refusal>
+    ensures { answered t result ≡ after_status t b }
 {
-    if b < 128 {
-        return after_running(t, b);
+    match b {
+        0..=127 => after_running(t, b),
+        128..=239 => Ok(part(t, Phase::First, u32::from(b), 0, 0, 0)),
+        240 | 247 => Ok(part(t, Phase::Length, u32::from(b), 0, 0, 4)),
+        255 => Ok(part(t, Phase::Meta, META_EVENT, 0, 0, 0)),
+        _ => Err(Refusal::UnknownStatus),
     }
-    if b < 240 {
-        return part(t, FIRST, b as u32, 0, 0, 0);
-    }
-    if (b == 240) | (b == 247) {
-        return part(t, LENGTH, b as u32, 0, 0, 4);
-    }
-    if b == 255 {
-        return part(t, META, 255, 0, 0, 0);
-    }
-    refuse(t, UNKNOWN_STATUS)
 }
 
+// The event is a tempo.
 fn is_tempo(t: Track) -> bool
     ensures { result ≡ is_tempo t }
 {
-    (t.status == 255) & (t.first == 81)
-}
-
-fn is_end(t: Track) -> bool
-    ensures { result ≡ is_end t }
-{
-    (t.status == 255) & (t.first == 47)
+    t.status == META_EVENT && t.first == SET_TEMPO
 }
 
 // Behind the body of an exclusive or a meta event, whose last three bytes are this number.
-fn closed(t: Track, value: u32) -> Track
-    ensures { result ≡ closed t value }
+#[tactic(auto, unfolding(crate::specs::Tracks::closed))]
+fn closed(t: Track, value: u32) -> Result<Track, Refusal>
+    ensures { answered t result ≡ closed t value }
 {
-    if is_end(t) {
-        return other(t, END, ENDED, 0);
+    match (t.status, t.first) {
+        (META_EVENT, END_OF_TRACK) => Ok(other(t, Whole::End, Phase::Ended, 0)),
+        (META_EVENT, SET_TEMPO) if value == 0 => Err(Refusal::TempoWrong),
+        (META_EVENT, SET_TEMPO) => Ok(other(t, Whole::Tempo, Phase::Ready, value)),
+        _ => Ok(other(t, Whole::Other, Phase::Ready, 0)),
     }
-    if is_tempo(t) {
-        if value == 0 {
-            return refuse(t, TEMPO_WRONG);
-        }
-        return other(t, TEMPO, READY, value);
-    }
-    other(t, OTHER, READY, 0)
 }
 
 // Behind the length of a body.
-fn opened(t: Track, length: u32) -> Track
-    ensures { result ≡ opened t length }
+#[tactic(auto, unfolding(crate::specs::Tracks::opened))]
+fn opened(t: Track, length: u32) -> Result<Track, Refusal>
+    ensures { answered t result ≡ opened t length }
 {
-    if is_tempo(t) {
-        if length == 3 {
-            return part(t, BODY, t.status, t.first, 0, 3);
-        }
-        return refuse(t, TEMPO_WRONG);
+    if is_tempo(t) && length != 3 {
+        return Err(Refusal::TempoWrong);
     }
     if length == 0 {
         return closed(t, 0);
     }
-    part(t, BODY, t.status, t.first, 0, length)
+    Ok(part(t, Phase::Body, t.status, t.first, 0, length))
 }
 
 // After a byte of a length.
-fn after_length(t: Track, b: u8) -> Track
-    ensures { result ≡ after_length t b }
+#[tactic(auto, unfolding(crate::specs::Tracks::after_length))]
+#[inline(always)]
+fn after_length(t: Track, b: u8) -> Result<Track, Refusal>
+    ensures { answered t result ≡ after_length t b }
 {
+    let value = more(t.value, b);
     if b < 128 {
-        return opened(t, more(t.value, b));
+        return opened(t, value);
     }
     if t.left < 2 {
-        return refuse(t, QUANTITY_TOO_LONG);
+        return Err(Refusal::QuantityTooLong);
     }
-    part(t, LENGTH, t.status, t.first, more(t.value, b), t.left - 1)
+    Ok(part(t, Phase::Length, t.status, t.first, value, t.left - 1))
 }
 
 // After a byte of a body.
-fn after_body(t: Track, b: u8) -> Track
-    ensures { result ≡ after_body t b }
+#[tactic(auto, unfolding(crate::specs::Tracks::after_body))]
+fn after_body(t: Track, b: u8) -> Result<Track, Refusal>
+    ensures { answered t result ≡ after_body t b }
 {
-    let value = t.value % 65536 * 256 + b as u32;
+    let value = t.value % 65536 * 256 + u32::from(b);
     if t.left < 2 {
         return closed(t, value);
     }
-    part(t, BODY, t.status, t.first, value, t.left - 1)
+    Ok(part(t, Phase::Body, t.status, t.first, value, t.left - 1))
 }
 
-// After a byte behind a meta event's status, of a length, of a body, or behind the track's end, where none counts.
-fn after_rest(t: Track, b: u8) -> Track
-    ensures { result ≡ after_rest t b }
+// After a byte of a track that is not refused; behind its end none counts, nor in a phase that there is not.
+#[tactic(auto, unfolding(crate::specs::Tracks::after_phase))]
+#[inline(always)]
+fn after_phase(t: Track, b: u8) -> Result<Track, Refusal>
+    ensures { answered t result ≡ after_phase t b }
 {
-    if t.phase == META {
-        return part(t, LENGTH, 255, b as u32, 0, 4);
+    match Phase::try_from(t.phase) {
+        Ok(Phase::Ready) => after_delta(t, 0, 4, b),
+        Ok(Phase::Delta) => after_delta(t, t.value, t.left, b),
+        Ok(Phase::Status) => after_status(t, b),
+        Ok(Phase::First) => after_first(t, t.status, b),
+        Ok(Phase::Second) => after_second(t, b),
+        Ok(Phase::Meta) => Ok(part(t, Phase::Length, META_EVENT, u32::from(b), 0, 4)),
+        Ok(Phase::Length) => after_length(t, b),
+        Ok(Phase::Body) => after_body(t, b),
+        Ok(Phase::Ended) | Err(UnknownPhase) => Ok(other(t, Whole::Nothing, Phase::Ended, 0)),
     }
-    if t.phase == LENGTH {
-        return after_length(t, b);
-    }
-    if t.phase == BODY {
-        return after_body(t, b);
-    }
-    other(t, NOTHING, ENDED, 0)
-}
-
-// After a byte behind a delta time.
-fn after_part(t: Track, b: u8) -> Track
-    ensures { result ≡ after_part t b }
-{
-    if t.phase == STATUS {
-        return after_status(t, b);
-    }
-    if t.phase == FIRST {
-        return after_first(t, t.status, b);
-    }
-    if t.phase == SECOND {
-        return after_second(t, b);
-    }
-    after_rest(t, b)
 }
 
 // After a byte: what is refused stays.
+#[tactic(auto, unfolding(crate::specs::Tracks::after_byte))]
+#[inline(always)]
 pub fn byte(t: Track, b: u8) -> Track
     ensures { result ≡ after_byte t b }
 {
     if t.number != 0 {
         return t;
     }
-    if t.phase == READY {
-        return after_delta(t, 0, 4, b);
+    match after_phase(t, b) {
+        Ok(next) => next,
+        Err(refusal) => Track {
+            number: refusal.number(),
+            whole: Whole::Nothing as u32,
+            ..t
+        },
     }
-    if t.phase == DELTA {
-        return after_delta(t, t.value, t.left, b);
-    }
-    after_part(t, b)
 }
 
 // What is answered where the track's chunk ends: the refusal, or 0.
+#[tactic(auto, unfolding(crate::specs::Tracks::ended))]
 pub fn end(t: Track) -> u32
     ensures { result ≡ ended t }
 {
     if t.number != 0 {
         return t.number;
     }
-    if (t.phase == READY) | (t.phase == ENDED) {
-        return 0;
+    match Phase::try_from(t.phase) {
+        Ok(Phase::Ready | Phase::Ended) => 0,
+        _ => Refusal::WithinAnEvent.number(),
     }
-    WITHIN_AN_EVENT
 }
