@@ -8,7 +8,8 @@ use borrow.Author.Tests.{le-leb}
 use Rattle.std.proofs.Math.Dec.{ltb, eqb}
 use Rattle.riff.specs.declared.Found.{Found}
 use Rattle.riff.specs.declared.Walk.{Walk}
-use Rattle.riff.specs.Riff.{number_at, Chunk, chunks, data_name, refused_by}
+use Rattle.riff.specs.declared.Chunk.{Chunk}
+use Rattle.riff.specs.Riff.{number_at, chunks, data_name, refused_by}
 use Rattle.riff.specs.Chunks.{first-before}
 use Rattle.riff.specs.Walks.{found_of}
 use Rattle.riff.specs.Walking.{Seen}

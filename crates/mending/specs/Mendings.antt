@@ -2,7 +2,8 @@
 use Rattle.std.specs.Prelude.{◌≡◌, ◌⊎◌, Bool, false, not, cond, ◌||◌, List, [], ◌∷◌, ℕ, ◌+◌, ◌-◌, ◌/◌, ◌%◌, ◌≤◌, ◌<◌, leb, ltb, eqb, length, get_or}
 use Rattle.std.proofs.Math.Option.{Option, none, some}
 use Rattle.std.proofs.lemmas.List.Edits.{sets}
-use Rattle.riff.specs.Riff.{number_at, bytes_of, Chunk, chunks, first_of, any_past, fmt_name, data_name, refused_by}
+use Rattle.riff.specs.declared.Chunk.{Chunk}
+use Rattle.riff.specs.Riff.{number_at, bytes_of, chunks, first_of, any_past, fmt_name, data_name, refused_by}
 use Rattle.wave.specs.Waves.{is_wave, riff_end_of, chunks_of, no_fmt, wrong_fmt, no_data, refusal, place_of, count_of}
 use Rattle.mending.specs.declared.Mending.{Mending}
 

@@ -4,7 +4,8 @@ use Rattle.std.specs.Prelude.{◌≡◌, false, ◌||◌, List, ℕ, ◌+◌, �
 use Rattle.std.proofs.Common.{sym, ap, ◌∙◌, arith, ltb-false, ne_eqb}
 use Rattle.std.proofs.Math.Option.{some}
 use Rattle.whole.specs.Tests.{cond_case, neither}
-use Rattle.riff.specs.Riff.{number_at, Chunk, any_past, fmt_name, data_name}
+use Rattle.riff.specs.declared.Chunk.{Chunk}
+use Rattle.riff.specs.Riff.{number_at, any_past, fmt_name, data_name}
 use Rattle.riff.specs.Chunks.{first-shorter}
 use Rattle.wave.specs.Waves.{riff_end_of, walk_end, chunks_of, fmt_of, data_of, refusal, place_in, place_of, count_in, count_of}
 use Rattle.wave.specs.Judging.{Right, of_right}

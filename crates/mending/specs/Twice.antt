@@ -11,7 +11,8 @@ use Rattle.std.proofs.Math.Dec.{leb, eqb}
 use Rattle.std.proofs.lemmas.List.Edits.{sets}
 use Rattle.std.proofs.Math.Seq.{length-sets}
 use Rattle.whole.specs.Tests.{by, cond_case, cond_no, yes_and_no, neither, and_left, and_right}
-use Rattle.riff.specs.Riff.{number_at, bytes_of, Chunk, chunk_at, body, next, chunks_from, chunks, first_of, fmt_name, data_name, refused_by}
+use Rattle.riff.specs.declared.Chunk.{Chunk}
+use Rattle.riff.specs.Riff.{number_at, bytes_of, chunk_at, body, next, chunks_from, chunks, first_of, fmt_name, data_name, refused_by}
 use Rattle.riff.specs.Stores.{Outside, outside_stays, inside-stored, stored-again}
 use Rattle.riff.specs.Numbers.{length-bytes_of, number_outside, number-stored}
 use Rattle.riff.specs.Chunks.{first-here, first-later, first-before}

@@ -6,7 +6,8 @@ use Rattle.std.proofs.lemmas.Option.{same_Some, none-some}
 use Prim.Native.Nat.{ℕ, zero, suc, ◌+◌, ◌*◌, ◌≤◌, ◌<◌}
 use borrow.Author.Tests.{le-leb, leb-true, ltb-false}
 use Rattle.whole.specs.Tests.{by, neither}
-use Rattle.riff.specs.Riff.{Chunk, chunk_at, body, behind, next, chunks_from, first_of, any_past}
+use Rattle.riff.specs.declared.Chunk.{Chunk}
+use Rattle.riff.specs.Riff.{chunk_at, body, behind, next, chunks_from, first_of, any_past}
 
 -- the chunk at the head, or one behind it
 module _ (name : ℕ) (c : Chunk) (cs : List Chunk) where

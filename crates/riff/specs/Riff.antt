@@ -1,7 +1,7 @@
 -- RIFF files, in the words of Microsoft's and IBM's Multimedia Programming Interface and Data Specifications: numbers, chunks, and the walk over them. Definitions only.
 -- A file is the list of its bytes, each 0 to 255, and a place counts from 0; past the file's end a byte counts as 0.
 use Rattle.std.specs.Prelude.{◌≡◌, ◌⊎◌, Bool, true, false, cond, ◌||◌, List, [], ◌∷◌, ◌++◌, ℕ, zero, suc, ◌+◌, ◌*◌, ◌/◌, ◌%◌, ◌≤◌, leb, ltb, eqb, get_or, Option, Some, None}
-pub use Rattle.riff.specs.declared.Chunk.{Chunk}
+use Rattle.riff.specs.declared.Chunk.{Chunk}
 
 -- ---- numbers
 

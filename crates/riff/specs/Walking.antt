@@ -9,7 +9,8 @@ use Rattle.std.proofs.lemmas.Bool.{lt-leb}
 use Rattle.std.proofs.Math.Seq.{append_snoc}
 use Rattle.riff.specs.Chunks.{first-before}
 use Rattle.riff.specs.declared.Walk.{Walk}
-use Rattle.riff.specs.Riff.{Chunk, chunk_at, behind, next, chunks_from, chunks, first_of, any_past, fmt_name, data_name}
+use Rattle.riff.specs.declared.Chunk.{Chunk}
+use Rattle.riff.specs.Riff.{chunk_at, behind, next, chunks_from, chunks, first_of, any_past, fmt_name, data_name}
 use Rattle.riff.specs.Walks.{found_first, set_out, stepped}
 
 -- a walk to an end has seen these chunks

@@ -1,7 +1,8 @@
 -- A walk over chunks, one step after the other: what it keeps of each chunk that it comes by. Definitions only.
 use Rattle.std.specs.Prelude.{false, cond, ◌||◌, ℕ, ltb, eqb, Option, Some, None}
 use Rattle.riff.specs.declared.Walk.{Walk}
-use Rattle.riff.specs.Riff.{Chunk, behind, next, fmt_name, data_name}
+use Rattle.riff.specs.declared.Chunk.{Chunk}
+use Rattle.riff.specs.Riff.{behind, next, fmt_name, data_name}
 
 -- the first chunk of a name stays, after one chunk more
 abbrev pub found_first : Option Chunk → ℕ → Chunk → Option Chunk

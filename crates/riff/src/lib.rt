@@ -30,8 +30,8 @@ pub struct Walk {
     pub past: bool,
 }
 
-#[tactic(auto, using(crate::specs::Numbers::two_is))]
 // The number of two bytes at a place, the least first.
+#[tactic(auto, using(crate::specs::Numbers::two_is))]
 pub fn two(bytes: &[u8], at: usize) -> u16
     requires { at + 2 ≤ length bytes.now }
     ensures { result ≡ number_at bytes.now at 2 }
@@ -39,8 +39,8 @@ pub fn two(bytes: &[u8], at: usize) -> u16
     u16::from_le_bytes([bytes[at], bytes[at + 1]])
 }
 
-#[tactic(auto, using(crate::specs::Numbers::four_is))]
 // The number of four bytes at a place, the least first.
+#[tactic(auto, using(crate::specs::Numbers::four_is))]
 pub fn four(bytes: &[u8], at: usize) -> u32
     requires { at + 4 ≤ length bytes.now }
     ensures { result ≡ number_at bytes.now at 4 }
@@ -117,8 +117,8 @@ impl Walk {
         8 <= end && self.at <= end - 8
     }
 
-    #[tactic(auto, unfolding(crate::specs::Riff::number_at))]
     // A step of the walk to an end, by the chunk at its place.
+    #[tactic(auto, unfolding(crate::specs::Riff::number_at))]
     pub fn step(self, end: usize, chunk: Chunk) -> Walk
         requires { (chunk.at + 8 ≤ end) × (end < 2 ^ 63) }
         ensures { result ≡ stepped end self chunk }

@@ -6,7 +6,8 @@ use Rattle.std.proofs.lemmas.Bool.{lt-leb, not-false, eqb-false}
 use Rattle.whole.specs.Tests.{by, cond_case, cond_yes, cond_no, and_right}
 use Rattle.riff.specs.declared.Found.{Found}
 use Rattle.riff.specs.declared.Walk.{Walk}
-use Rattle.riff.specs.Riff.{number_at, Chunk, chunk_at, chunks, first_of, any_past, fmt_name, data_name}
+use Rattle.riff.specs.declared.Chunk.{Chunk}
+use Rattle.riff.specs.Riff.{number_at, chunk_at, chunks, first_of, any_past, fmt_name, data_name}
 use Rattle.riff.specs.Numbers.{number-part}
 use Rattle.riff.specs.Refusals.{passed}
 use Rattle.riff.specs.Walks.{found_of, set_out, stepped}
