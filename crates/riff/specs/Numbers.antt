@@ -1,5 +1,5 @@
 -- Laws of numbers in bytes: how two and four bytes are read and stored, and that what is stored is read back.
-use Rattle.std.specs.Prelude.{◌≡◌, refl, List, [], ◌∷◌, ◌++◌, length, take, drop}
+use Rattle.std.specs.Prelude.{set, ◌≡◌, refl, List, [], ◌∷◌, ◌++◌, length, take, drop}
 use Rattle.std.proofs.Common.{sym, ◌∙◌, inl, inr, ⊎_elim, append_assoc, pow-suc, length-take-le, get_or-append-add, get_or-take, get_or-drop}
 use Rattle.std.proofs.Math.Path.{ap}
 use Prim.Native.Nat.{ℕ, zero, suc, ◌+◌, ◌*◌, ◌/◌, ◌%◌, ◌^◌, ◌≤◌, ◌<◌}
@@ -32,7 +32,7 @@ unfolding bytes_of
 length-bytes_of zero n = refl
 length-bytes_of (suc k) n = ap suc (length-bytes_of k (n / 256))
 
--- the four bytes that std has of a number, and the first two of them
+-- the four bytes that std has of a number, and two of them that are stored
 pub four-bytes : (n : ℕ) → to_le_bytes w32 n ≡ bytes_of 4 n
 unfolding bytes_of
 four-bytes n =
@@ -40,9 +40,9 @@ four-bytes n =
     let f : n / 16777216 ≡ n / 256 / 256 / 256 = omega arith in
     λ i. (n % 256) ∷ (n / 256 % 256) ∷ (e i % 256) ∷ (f i % 256) ∷ []
 
-pub two-bytes : (n : ℕ) → take 2 (to_le_bytes w32 n) ≡ bytes_of 2 n
+pub two_stored : (l : List ℕ) (at n : ℕ) → set (set l at (n % 256)) (at + 1) (n / 256 % 256) ≡ sets l at (bytes_of 2 n)
 unfolding bytes_of
-two-bytes n = refl
+two_stored l at n = let e : at + 1 ≡ suc at = omega arith in ap (λ (k : ℕ). set (set l at (n % 256)) k (n / 256 % 256)) e
 
 -- ---- behind other bytes, and back
 pub number_behind : (p q : List ℕ) (at k : ℕ) → number_at (p ++ q) (length p + at) k ≡ number_at q at k

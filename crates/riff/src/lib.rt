@@ -53,7 +53,9 @@ pub fn put_two(out: &mut [u8], at: usize, n: u32)
     requires { at + 2 ≤ length out.old }
     ensures { out.new ≡ sets out.old at (bytes_of 2 n) }
 {
-    out[at..at + 2].copy_from_slice(&n.to_le_bytes()[..2]);
+    let [low, high, ..] = n.to_le_bytes();
+    out[at] = low;
+    out[at + 1] = high;
 }
 
 // Four bytes of a number, the least first, at a place.

@@ -1,10 +1,8 @@
 -- Laws of a sample as sixteen bits, and of samples whose bytes are stored one after the other.
-use Rattle.std.specs.Prelude.{◌≡◌, refl, List, [], ◌∷◌, ◌++◌, ℕ, suc, ◌+◌, ◌-◌, ◌*◌, ◌<◌, T, ℤ, pos, negsuc, nat_abs, ◌+ℤ◌, length, get_or, take, ◌<ℤ◌, ◌≤ℤ◌}
-use Rattle.std.proofs.Common.{sym, ap, ◌∙◌, append-nil, append_assoc, add-one, arith, ltb→lt, length-append, length-take-le, take-suc, SFits, Fits}
+use Rattle.std.specs.Prelude.{◌≡◌, refl, List, [], ◌∷◌, ◌++◌, ℕ, ◌+◌, ◌-◌, ◌*◌, ◌<◌, ℤ, pos, negsuc, length, get_or, take}
+use Rattle.std.proofs.Common.{sym, ap, ◌∙◌, append-nil, append_assoc, add-one, arith, length-append, length-take-le, take-suc, SFits}
 use Rattle.std.proofs.lemmas.List.Edits.{sets}
-use Rattle.std.specs.Int.Signed.{non_neg}
 use Rattle.std.specs.Int.{w16, cast_unsigned}
-use Rattle.whole.specs.Bounds.{subℕ-ge}
 use Rattle.riff.specs.Riff.{bytes_of}
 use Rattle.riff.specs.Stores.{stored_then}
 use Rattle.riff.specs.Numbers.{length-bytes_of}
@@ -43,8 +41,8 @@ bytes-more (y ∷ xs) x = ap (λ (l : List ℕ). bytes_of 2 (bits_of y) ++ l) (b
 
 pub bytes-put : (xs : List ℤ) (i : ℕ) (l : List ℕ) {out out' : List ℕ} → i < length xs → out ≡ sets l 0 (sample_bytes (take i xs)) → out' ≡ sets out (2 * i) (bytes_of 2 (bits_of (get_or xs i (pos 0)))) →
     out' ≡ sets l 0 (sample_bytes (take (i + 1) xs))
-bytes-put xs i l h p q =
+bytes-put xs i l {out} h p q =
     let x = get_or xs i (pos 0) in
     let n = length-sample_bytes (take i xs) ∙ ap (λ (k : ℕ). 2 * k) (length-take-le i xs (omega arith)) in
-    stored_then l 0 (2 * i) (sample_bytes (take i xs)) (bytes_of 2 (bits_of x)) n p q
+    stored_then l 0 (2 * i) (sample_bytes (take i xs)) (bytes_of 2 (bits_of x)) n p (q ∙ ap (λ (k : ℕ). sets out k (bytes_of 2 (bits_of x))) (let e : 2 * i ≡ 0 + 2 * i = omega arith in e))
     ∙ ap (sets l 0) (sym (ap sample_bytes (ap (λ (k : ℕ). take k xs) (add-one i) ∙ take-suc xs i (pos 0) h) ∙ bytes-more (take i xs) x))

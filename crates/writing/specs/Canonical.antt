@@ -47,7 +47,7 @@ unwritten hertz xs room = unwritten_by hertz (length xs) (44 + 2 * length xs) ro
 -- the header before so many samples, where there is room for so many bytes; or a refusal, and nothing is written
 abbrev pub Begun : (hertz count bytes : ℕ) → List ℕ → Result ℕ Refusal → List ℕ → Type 0
 Begun hertz count bytes out r out' =
-    MatchResult r (λ written. (unwritten_by hertz count bytes (length out) ≡ 0) × (written ≡ bytes) × (out' ≡ sets out 0 (header hertz (2 * count))))
+    MatchResult r (λ written. (unwritten_by hertz count bytes (length out) ≡ 0) × (written ≡ bytes) × (bytes ≤ length out) × (out' ≡ sets out 0 (header hertz (2 * count))))
     (λ refused. (unwritten_by hertz count bytes (length out) ≡ refusal_number refused) × (out' ≡ out))
 
 -- the bytes written, or a refusal, as it is answered

@@ -96,7 +96,7 @@ fn write_take(hertz: u32, xs: &[i16], out: &mut [u8]) -> Result<usize, Refusal>
     ensures { WasWritten hertz xs.now out.old (written_answered result) out.new }
 {
     let length = begin(hertz, xs.len(), HEADER + 2 * xs.len(), out)?;
-    put_samples(&mut out[HEADER..], xs);
+    put_samples(&mut out[HEADER..length], xs);
     Ok(length)
 }
 
