@@ -1,6 +1,6 @@
 -- Laws of the first chunk of a name: where a walk comes by it.
 use Rattle.std.specs.Prelude.{◌≡◌, true, false, List, [], ◌∷◌, leb, ltb, eqb, Some}
-use Rattle.std.proofs.Common.{subst, arith}
+use Rattle.std.proofs.Common.{subst, arith, eqb-true}
 use Rattle.std.proofs.Math.Path.{ap}
 use Rattle.std.proofs.lemmas.Option.{same_Some, none-some}
 use Prim.Native.Nat.{ℕ, zero, suc, ◌+◌, ◌*◌, ◌≤◌, ◌<◌}
@@ -18,6 +18,15 @@ module _ (name : ℕ) (c : Chunk) (cs : List Chunk) where
   pub first-later : eqb c.name name ≡ false → first_of name (c ∷ cs) ≡ first_of name cs
   unfolding first_of
   first-later e = rw e
+
+-- it has that name
+pub first_named : (name : ℕ) (cs : List Chunk) (c : Chunk) → first_of name cs ≡ Some c → c.name ≡ name
+unfolding first_of
+first_named name [] c e = absurd (none-some c e)
+first_named name (d ∷ cs) c e =
+    by (eqb d.name name)
+    (λ z. subst (λ (k : Chunk). k.name ≡ name) (same_Some d c (rw z at e)) (eqb-true d.name name z))
+    (λ z. first_named name cs c (rw z at e))
 
 -- it stands at the walk's place or behind it, and its eight bytes lie before the end
 pub record Before (end at : ℕ) (c : Chunk) : Type 0 where

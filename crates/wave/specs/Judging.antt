@@ -162,7 +162,7 @@ module _ {file : List ℕ} {riff end : ℕ} {hertz : Option ℕ} {w : Walk} (s :
   seen_all : Seen (walk_end file) (chunks_of file) w
   seen_all = subst (λ (k : ℕ). Seen k (chunks file k) w) walked_to s.seen
 
-  judged_refusal : judged w hertz riff (length file) ≡ refusal file
+  pub judged_refusal : judged w hertz riff (length file) ≡ refusal file
   judged_refusal = ap (λ (k : ℕ). judged w hertz k (length file)) s.riff-is ∙ judged-is file s.wave seen_all (s.hertz-is ∙ ap (λ (k : ℕ). fmt_rate file k w.fmt) walked_to)
 
   pub take-refused : (r : Refusal) → judged w hertz riff (length file) ≡ refusal_number r → TakeIn file (take_answered (Err r))
