@@ -48,42 +48,42 @@ pub fn daxfolin_wave_mend(bytes: &[u8]) -> Mending
 pub fn daxfolin_seek_take(length: usize) -> Seek
     ensures { result ≡ begun length 0 }
 {
-    seeking::begin(length, 0)
+    Seek::begin(length, 0)
 }
 
 // A seek for what is mended in a file of so many bytes.
 pub fn daxfolin_seek_mending(length: usize) -> Seek
     ensures { result ≡ begun length 1 }
 {
-    seeking::begin(length, 1)
+    Seek::begin(length, 1)
 }
 
 // What a seek wants of its file: no bytes where it is at its end.
 pub fn daxfolin_seek_wanted(seek: Seek) -> Piece
     ensures { result ≡ seek.wanted }
 {
-    seeking::wanted(seek)
+    seek.wanted()
 }
 
 // A seek that is given the bytes that it wants; where they are not as many, it stays.
 pub fn daxfolin_seek_give(seek: Seek, bytes: &[u8]) -> Seek
     ensures { result ≡ given_to seek bytes.now }
 {
-    seeking::give(seek, bytes)
+    seek.give(bytes)
 }
 
 // The take that a seek found.
 pub fn daxfolin_seek_found(seek: Seek) -> WaveTake
     ensures { result ≡ found_in seek }
 {
-    seeking::found(seek)
+    seek.found()
 }
 
 // What is mended, by a seek.
 pub fn daxfolin_seek_mended(seek: Seek) -> Mending
     ensures { result ≡ mended_in seek }
 {
-    seeking::mended(seek)
+    seek.mended()
 }
 
 // Writes the canonical header before so many samples to the front of the output.
@@ -97,8 +97,8 @@ pub fn daxfolin_wave_header(hertz: u32, samples: usize, out: &mut [u8]) -> WaveW
 pub fn daxfolin_wave_samples(bytes: &[u8], out: &mut [i16]) -> usize
     ensures { SamplesMoved bytes.now out.old result out.new }
 {
-    let count = wave::least(bytes.len() / 2, out.len());
-    wave::samples(bytes, 0, out, count);
+    let count = (bytes.len() / 2).min(out.len());
+    wave::samples(bytes, &mut out[..count]);
     count
 }
 
@@ -106,8 +106,8 @@ pub fn daxfolin_wave_samples(bytes: &[u8], out: &mut [i16]) -> usize
 pub fn daxfolin_wave_bytes(samples: &[i16], out: &mut [u8]) -> usize
     ensures { BytesMoved samples.now out.old result out.new }
 {
-    let count = wave::least(samples.len(), out.len() / 2);
-    writing::put_samples(out, 0, &samples[..count]);
+    let count = samples.len().min(out.len() / 2);
+    writing::put_samples(out, &samples[..count]);
     count
 }
 

@@ -1,8 +1,8 @@
 -- Recordings left by a recorder that stopped, in the words of change request K9: which two sizes of a WAVE file are bad, and what they become; and what mending keeps. Definitions only.
-use Rattle.std.specs.Prelude.{◌≡◌, ◌⊎◌, Bool, false, not, cond, ◌||◌, List, [], ◌∷◌, ℕ, ◌+◌, ◌-◌, ◌/◌, ◌%◌, ◌≤◌, ◌<◌, leb, ltb, eqb, length, get_or}
-use Rattle.std.proofs.Math.Option.{Option, none, some}
+use Rattle.std.specs.Prelude.{◌≡◌, ◌⊎◌, Bool, false, not, cond, ◌||◌, List, [], ◌∷◌, ℕ, ◌+◌, ◌-◌, ◌/◌, ◌%◌, ◌≤◌, ◌<◌, leb, ltb, eqb, length, get_or, Option, Some, None}
 use Rattle.std.proofs.lemmas.List.Edits.{sets}
-use Rattle.riff.specs.Riff.{number_at, bytes_of, Chunk, chunks, first_of, any_past, fmt_name, data_name, refused_by}
+use Rattle.riff.specs.declared.Chunk.{Chunk}
+use Rattle.riff.specs.Riff.{number_at, bytes_of, chunks, first_of, any_past, fmt_name, data_name, refused_by}
 use Rattle.wave.specs.Waves.{is_wave, riff_end_of, chunks_of, no_fmt, wrong_fmt, no_data, refusal, place_of, count_of}
 use Rattle.mending.specs.declared.Mending.{Mending}
 
@@ -49,8 +49,8 @@ no_mending n = record { number = n; riff = record { at = 0; old = 0; new = 0 }; 
 
 -- what is mended in a file
 unfoldable pub mending_in : List ℕ → Option Chunk → Mending
-mending_in file none = no_mending 27
-mending_in file (some d) = sizes_of (length file) (number_at file 4 4) d.at d.size
+mending_in file None = no_mending 27
+mending_in file (Some d) = sizes_of (length file) (number_at file 4 4) d.at d.size
 
 unfoldable pub mending_of : List ℕ → Mending
 mending_of file = cond (eqb (unmended file) 0) (mending_in file (data_in file)) (no_mending (unmended file))

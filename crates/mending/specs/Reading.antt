@@ -1,10 +1,10 @@
 -- A mended file as K4 reads it: its walk, to the end of the RIFF chunk, finds the fmt and the mended data;
 -- so it is refused by nothing but an odd data size, 22, or a chunk behind the data that runs past the RIFF chunk, 24.
-use Rattle.std.specs.Prelude.{◌≡◌, false, ◌||◌, List, ℕ, ◌+◌, ◌-◌, ◌/◌, ◌%◌, ◌≤◌, ltb, length}
+use Rattle.std.specs.Prelude.{◌≡◌, false, ◌||◌, List, ℕ, ◌+◌, ◌-◌, ◌/◌, ◌%◌, ◌≤◌, ltb, length, Some}
 use Rattle.std.proofs.Common.{sym, ap, ◌∙◌, arith, ltb-false, ne_eqb}
-use Rattle.std.proofs.Math.Option.{some}
 use Rattle.whole.specs.Tests.{cond_case, neither}
-use Rattle.riff.specs.Riff.{number_at, Chunk, any_past, fmt_name, data_name}
+use Rattle.riff.specs.declared.Chunk.{Chunk}
+use Rattle.riff.specs.Riff.{number_at, any_past, fmt_name, data_name}
 use Rattle.riff.specs.Chunks.{first-shorter}
 use Rattle.wave.specs.Waves.{riff_end_of, walk_end, chunks_of, fmt_of, data_of, refusal, place_in, place_of, count_in, count_of}
 use Rattle.wave.specs.Judging.{Right, of_right}
@@ -32,13 +32,13 @@ module _ (file : List ℕ) (m : Mendable file) where
   end_is : walk_end (outer file m) ≡ riff_end_of (outer file m)
   end_is = omega (arith, inside)
 
-  pub data_read : data_of (outer file m) ≡ some (record { at = at file m; name = m.data'.name; size = size file m })
+  pub data_read : data_of (outer file m) ≡ Some (record { at = at file m; name = m.data'.name; size = size file m })
   data_read =
       let g = outer file m in
       let d : Chunk = record { at = at file m; name = m.data'.name; size = size file m } in
       first-shorter g data_name (length g) (walk_end g) d (omega (arith, covers, end_is)) (length g) (walk_end g) 12 (omega arith) (data_new file m)
 
-  pub fmt-read : fmt_of (outer file m) ≡ some m.fmt
+  pub fmt-read : fmt_of (outer file m) ≡ Some m.fmt
   fmt-read =
       let g = outer file m in
       first-shorter g fmt_name (length g) (walk_end g) m.fmt (omega (arith, covers, end_is, (fmt-both file m).1)) (length g) (walk_end g) 12 (omega arith) (fmt-kept file m)

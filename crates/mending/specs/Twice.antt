@@ -1,17 +1,18 @@
 -- Mending changes no byte but the two sizes' eight, and mending twice changes nothing more:
 -- the walk over the mended file comes by the same chunks as far as the data, and each new size is its own mending.
-use Rattle.std.specs.Prelude.{◌≡◌, refl, Bool, true, not, cond, ◌&&◌, ◌||◌, List, ◌∷◌, ltb, length, get_or}
+use Rattle.std.specs.Prelude.{◌≡◌, refl, Bool, true, not, cond, ◌&&◌, ◌||◌, List, ◌∷◌, ltb, length, get_or, Option, Some, None}
 use Rattle.std.proofs.Common.{sym, ◌∙◌, inl, inr, ⊎_elim, arith}
 use Rattle.std.proofs.Math.Path.{ap, subst}
 use Rattle.std.proofs.Math.Bool.{false}
-use Rattle.std.proofs.Math.Option.{Option, none, some, some-injective, some-ne-none}
+use Rattle.std.proofs.lemmas.Option.{same_Some, none-some}
 use Prim.Native.Nat.{ℕ, zero, suc, ◌+◌, ◌-◌, ◌%◌, ◌≤◌, ◌<◌}
 use borrow.Author.Tests.{le-leb, leb-true, leb-false, ltb-false, eqb-true, not-false}
 use Rattle.std.proofs.Math.Dec.{leb, eqb}
 use Rattle.std.proofs.lemmas.List.Edits.{sets}
 use Rattle.std.proofs.Math.Seq.{length-sets}
 use Rattle.whole.specs.Tests.{by, cond_case, cond_no, yes_and_no, neither, and_left, and_right}
-use Rattle.riff.specs.Riff.{number_at, bytes_of, Chunk, chunk_at, body, next, chunks_from, chunks, first_of, fmt_name, data_name, refused_by}
+use Rattle.riff.specs.declared.Chunk.{Chunk}
+use Rattle.riff.specs.Riff.{number_at, bytes_of, chunk_at, body, next, chunks_from, chunks, first_of, fmt_name, data_name, refused_by}
 use Rattle.riff.specs.Stores.{Outside, outside_stays, inside-stored, stored-again}
 use Rattle.riff.specs.Numbers.{length-bytes_of, number_outside, number-stored}
 use Rattle.riff.specs.Chunks.{first-here, first-later, first-before}
@@ -29,63 +30,63 @@ module _ (file file' : List ℕ) (end : ℕ) (d : Chunk) (size : ℕ) (same : (a
   chunk_same at l h = λ i. record { at = at; name = same at 4 l (omega arith) i; size = same (at + 4) 4 (omega arith) (omega arith) i }
 
   -- a chunk that is not the data's, where the data is still to come, stands before it
-  before_data : (n at : ℕ) → first_of data_name (chunks_from n file end (next (chunk_at file at))) ≡ some d → at + 8 ≤ d.at
+  before_data : (n at : ℕ) → first_of data_name (chunks_from n file end (next (chunk_at file at))) ≡ Some d → at + 8 ≤ d.at
   before_data n at e = omega (arith, (first-before file end data_name n (next (chunk_at file at)) d e).from)
 
   -- the data, with its new size
   data' : Chunk
   data' = record { at = d.at; name = d.name; size = size }
 
-  data_same : (n at : ℕ) → 12 ≤ at → first_of data_name (chunks_from n file end at) ≡ some d → first_of data_name (chunks_from n file' end at) ≡ some data'
+  data_same : (n at : ℕ) → 12 ≤ at → first_of data_name (chunks_from n file end at) ≡ Some d → first_of data_name (chunks_from n file' end at) ≡ Some data'
   unfolding chunks_from first_of data'
-  data_same zero at l e = absurd (some-ne-none d (sym e))
+  data_same zero at l e = absurd (none-some d e)
   data_same (suc n) at l e =
       by (leb (at + 8) end)
       (λ y.
       by (eqb (chunk_at file at).name data_name)
       (λ z.
-      let w = some-injective (chunk_at file at) d (rw (y, z) at e) in
+      let w = same_Some (chunk_at file at) d (rw (y, z) at e) in
       let a = ap (λ (c : Chunk). c.at) w in
       let m = same at 4 l (omega (arith, a)) in
       ap (first_of data_name) (chunks-more file' end n at (leb-true (at + 8) end y))
       ∙ first-here data_name (chunk_at file' at) (chunks_from n file' end (next (chunk_at file' at))) (ap (λ (k : ℕ). eqb k data_name) m ∙ z)
-      ∙ (λ i. some (record { at = a i; name = (m ∙ ap (λ (c : Chunk). c.name) w) i; size = (ap (λ (k : ℕ). number_at file' (k + 4) 4) a ∙ stored) i })))
+      ∙ (λ i. Some (record { at = a i; name = (m ∙ ap (λ (c : Chunk). c.name) w) i; size = (ap (λ (k : ℕ). number_at file' (k + 4) 4) a ∙ stored) i })))
       (λ z.
-      let r : first_of data_name (chunks_from n file end (next (chunk_at file at))) ≡ some d = rw (y, z) at e in
+      let r : first_of data_name (chunks_from n file end (next (chunk_at file at))) ≡ Some d = rw (y, z) at e in
       ap (first_of data_name) (chunks-more file' end n at (leb-true (at + 8) end y))
       ∙ ap (λ (c : Chunk). first_of data_name (c ∷ chunks_from n file' end (next c))) (chunk_same at l (before_data n at r))
       ∙ first-later data_name (chunk_at file at) (chunks_from n file' end (next (chunk_at file at))) z
       ∙ data_same n (next (chunk_at file at)) (omega arith) r))
-      (λ y. absurd (some-ne-none d (sym (rw y at e))))
+      (λ y. absurd (none-some d (rw y at e)))
 
   -- a fmt before the data
   module _ (f : Chunk) (order : f.at ≤ d.at) where
-    fmt-same : (n at : ℕ) → 12 ≤ at → first_of data_name (chunks_from n file end at) ≡ some d → first_of fmt_name (chunks_from n file end at) ≡ some f →
-        (first_of fmt_name (chunks_from n file' end at) ≡ some f) × (next f ≤ d.at)
+    fmt-same : (n at : ℕ) → 12 ≤ at → first_of data_name (chunks_from n file end at) ≡ Some d → first_of fmt_name (chunks_from n file end at) ≡ Some f →
+        (first_of fmt_name (chunks_from n file' end at) ≡ Some f) × (next f ≤ d.at)
     unfolding chunks_from first_of number_at
-    fmt-same zero at l e g = absurd (some-ne-none d (sym e))
+    fmt-same zero at l e g = absurd (none-some d e)
     fmt-same (suc n) at l e g =
         let c = chunk_at file at in
         by (leb (at + 8) end)
         (λ y.
         by (eqb c.name data_name)
         (λ z.
-        let a = ap (λ (k : Chunk). k.at) (some-injective c d (rw (y, z) at e)) in
+        let a = ap (λ (k : Chunk). k.at) (same_Some c d (rw (y, z) at e)) in
         let t : eqb c.name fmt_name ≡ false = ap (λ (k : ℕ). eqb k fmt_name) (eqb-true c.name data_name z) in
-        let h : first_of fmt_name (chunks_from n file end (next c)) ≡ some f = rw (y, t) at g in
+        let h : first_of fmt_name (chunks_from n file end (next c)) ≡ Some f = rw (y, t) at g in
         absurd (omega (arith, a, (first-before file end fmt_name n (next c) f h).from)))
         (λ z.
-        let r : first_of data_name (chunks_from n file end (next c)) ≡ some d = rw (y, z) at e in
+        let r : first_of data_name (chunks_from n file end (next c)) ≡ Some d = rw (y, z) at e in
         let s = ap (first_of fmt_name) (chunks-more file' end n at (leb-true (at + 8) end y)) ∙ ap (λ (k : Chunk). first_of fmt_name (k ∷ chunks_from n file' end (next k))) (chunk_same at l (before_data n at r)) in
         by (eqb c.name fmt_name)
         (λ t.
-        let w : c ≡ f = some-injective c f (rw (y, t) at g) in
-        (s ∙ first-here fmt_name c (chunks_from n file' end (next c)) t ∙ ap some w, subst (λ (k : Chunk). next k ≤ d.at) w (first-before file end data_name n (next c) d r).from))
+        let w : c ≡ f = same_Some c f (rw (y, t) at g) in
+        (s ∙ first-here fmt_name c (chunks_from n file' end (next c)) t ∙ ap Some w, subst (λ (k : Chunk). next k ≤ d.at) w (first-before file end data_name n (next c) d r).from))
         (λ t.
-        let h : first_of fmt_name (chunks_from n file end (next c)) ≡ some f = rw (y, t) at g in
+        let h : first_of fmt_name (chunks_from n file end (next c)) ≡ Some f = rw (y, t) at g in
         let i = fmt-same n (next c) (omega arith) r h in
         (s ∙ first-later fmt_name c (chunks_from n file' end (next c)) t ∙ i.0, i.1))))
-        (λ y. absurd (some-ne-none d (sym (rw y at e))))
+        (λ y. absurd (none-some d (rw y at e)))
 
 -- ---- the sizes
 
@@ -127,10 +128,10 @@ pub record Mendable (file : List ℕ) : Type 0 where
   pub wave : is_wave file ≡ true
   pub short : leb 2147483648 (length file) ≡ false
   pub fmt : Chunk
-  pub fmt-is : fmt_in file ≡ some fmt
+  pub fmt-is : fmt_in file ≡ Some fmt
   pub fmt-right : fmt_right file (length file) fmt ≡ true
   pub data' : Chunk
-  pub data_is : data_in file ≡ some data'
+  pub data_is : data_in file ≡ Some data'
   pub order : ltb data'.at fmt.at ≡ false
 
 pub mendable : (file : List ℕ) → unmended file ≡ 0 → Mendable file
@@ -144,9 +145,9 @@ mendable file e =
     found (fmt_in file) (data_in file) refl refl (not-false (is_wave file) a.0) b.0 w.0 w.1 d.0
   where
     found : (o d : Option Chunk) → fmt_in file ≡ o → data_in file ≡ d → is_wave file ≡ true → leb 2147483648 (length file) ≡ false → no_fmt o d ≡ false → wrong_fmt file (length file) o ≡ false → no_data d ≡ false → Mendable file
-    found none d x y v s b w n = absurd (yes_and_no refl b)
-    found (some f) none x y v s b w n = absurd (yes_and_no refl n)
-    found (some f) (some d) x y v s b w n = record { wave = v; short = s; fmt = f; fmt-is = x; fmt-right = not-false (fmt_right file (length file) f) w; data' = d; data_is = y; order = b }
+    found None d x y v s b w n = absurd (yes_and_no refl b)
+    found (Some f) None x y v s b w n = absurd (yes_and_no refl n)
+    found (Some f) (Some d) x y v s b w n = record { wave = v; short = s; fmt = f; fmt-is = x; fmt-right = not-false (fmt_right file (length file) f) w; data' = d; data_is = y; order = b }
 
 module _ (file : List ℕ) (m : Mendable file) where
   pub of_mendable : unmended file ≡ 0
@@ -209,16 +210,16 @@ module _ (file : List ℕ) (m : Mendable file) where
   from_12 p k l h = number_same p k (inr (omega arith)) (inl h)
 
   -- its chunks
-  pub data_new : data_in outer ≡ some (record { at = at; name = m.data'.name; size = size })
+  pub data_new : data_in outer ≡ Some (record { at = at; name = m.data'.name; size = size })
   unfolding data'
   data_new =
       ap (λ (n : ℕ). first_of data_name (chunks outer n)) length-same
       ∙ data_same file outer (length file) m.data' size from_12 size-stored (length file) 12 (omega arith) m.data_is
 
-  pub fmt-both : (first_of fmt_name (chunks outer (length file)) ≡ some m.fmt) × (next m.fmt ≤ at)
+  pub fmt-both : (first_of fmt_name (chunks outer (length file)) ≡ Some m.fmt) × (next m.fmt ≤ at)
   fmt-both = fmt-same file outer (length file) m.data' size from_12 size-stored m.fmt (ltb-false at m.fmt.at m.order) (length file) 12 (omega arith) m.data_is m.fmt-is
 
-  pub fmt-kept : fmt_in outer ≡ some m.fmt
+  pub fmt-kept : fmt_in outer ≡ Some m.fmt
   fmt-kept = ap (λ (n : ℕ). first_of fmt_name (chunks outer n)) length-same ∙ fmt-both.0
 
   -- its fmt is taken, before any end that does not come before the data

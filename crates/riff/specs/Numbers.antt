@@ -1,13 +1,14 @@
 -- Laws of numbers in bytes: how two and four bytes are read and stored, and that what is stored is read back.
-use Rattle.std.specs.Prelude.{◌≡◌, refl, List, [], ◌∷◌, ◌++◌, length, take, drop, set}
+use Rattle.std.specs.Prelude.{set, ◌≡◌, refl, List, [], ◌∷◌, ◌++◌, length, take, drop}
 use Rattle.std.proofs.Common.{sym, ◌∙◌, inl, inr, ⊎_elim, append_assoc, pow-suc, length-take-le, get_or-append-add, get_or-take, get_or-drop}
 use Rattle.std.proofs.Math.Path.{ap}
 use Prim.Native.Nat.{ℕ, zero, suc, ◌+◌, ◌*◌, ◌/◌, ◌%◌, ◌^◌, ◌≤◌, ◌<◌}
 use native.Mathlib.Omega.{arith}
+use Rattle.std.specs.Int.{w32, to_le_bytes}
 use Rattle.std.proofs.Math.ListN.{get_or}
 use Rattle.std.proofs.lemmas.List.Edits.{sets, sets-eq}
 use Rattle.riff.specs.Riff.{number_at, bytes_of}
-use Rattle.riff.specs.Stores.{sets_more, Outside, outside_stays}
+use Rattle.riff.specs.Stores.{Outside, outside_stays}
 
 -- ---- read
 module _ (b : List ℕ) (at : ℕ) where
@@ -17,27 +18,31 @@ module _ (b : List ℕ) (at : ℕ) where
       let e : suc at ≡ at + 1 = omega arith in
       ap (λ (n : ℕ). get_or b at 0 + 256 * (get_or b n 0 + 256 * 0)) e ∙ omega arith
 
-  pub four_is : number_at b at 4 ≡ number_at b at 2 + 65536 * number_at b (at + 2) 2
+  pub four_is : number_at b at 4 ≡ get_or b at 0 + 256 * get_or b (at + 1) 0 + 65536 * get_or b (at + 2) 0 + 16777216 * get_or b (at + 3) 0
   unfolding number_at
   four_is =
-      let e : suc (suc at) ≡ at + 2 = omega arith in
-      ap (λ (n : ℕ). get_or b at 0 + 256 * (get_or b (suc at) 0 + 256 * (get_or b n 0 + 256 * (get_or b (suc n) 0 + 256 * 0)))) e ∙ omega arith
+      let e : suc at ≡ at + 1 = omega arith in
+      let f : suc (suc at) ≡ at + 2 = omega arith in
+      let g : suc (suc (suc at)) ≡ at + 3 = omega arith in
+      (λ i. get_or b at 0 + 256 * (get_or b (e i) 0 + 256 * (get_or b (f i) 0 + 256 * (get_or b (g i) 0 + 256 * 0)))) ∙ omega arith
 
 -- ---- stored
-pub two-stored : (l : List ℕ) (at n : ℕ) → set (set l at (n % 256)) (at + 1) (n / 256 % 256) ≡ sets l at (bytes_of 2 n)
-unfolding bytes_of
-two-stored l at n = let e : at + 1 ≡ suc at = omega arith in ap (λ (k : ℕ). set (set l at (n % 256)) k (n / 256 % 256)) e
-
-pub four-stored : (l : List ℕ) (at n : ℕ) → sets (sets l at (bytes_of 2 n)) (at + 2) (bytes_of 2 (n / 65536)) ≡ sets l at (bytes_of 4 n)
-unfolding bytes_of
-four-stored l at n =
-    let e : n / 65536 ≡ n / 256 / 256 = omega arith in
-    ap (λ (k : ℕ). sets (sets l at (bytes_of 2 n)) (at + 2) (bytes_of 2 k)) e ∙ sets_more l at (bytes_of 2 n) (bytes_of 2 (n / 256 / 256))
-
 pub length-bytes_of : (k n : ℕ) → length (bytes_of k n) ≡ k
 unfolding bytes_of
 length-bytes_of zero n = refl
 length-bytes_of (suc k) n = ap suc (length-bytes_of k (n / 256))
+
+-- the four bytes that std has of a number, and two of them that are stored
+pub four-bytes : (n : ℕ) → to_le_bytes w32 n ≡ bytes_of 4 n
+unfolding bytes_of
+four-bytes n =
+    let e : n / 65536 ≡ n / 256 / 256 = omega arith in
+    let f : n / 16777216 ≡ n / 256 / 256 / 256 = omega arith in
+    λ i. (n % 256) ∷ (n / 256 % 256) ∷ (e i % 256) ∷ (f i % 256) ∷ []
+
+pub two_stored : (l : List ℕ) (at n : ℕ) → set (set l at (n % 256)) (at + 1) (n / 256 % 256) ≡ sets l at (bytes_of 2 n)
+unfolding bytes_of
+two_stored l at n = let e : at + 1 ≡ suc at = omega arith in ap (λ (k : ℕ). set (set l at (n % 256)) k (n / 256 % 256)) e
 
 -- ---- behind other bytes, and back
 pub number_behind : (p q : List ℕ) (at k : ℕ) → number_at (p ++ q) (length p + at) k ≡ number_at q at k

@@ -1,7 +1,7 @@
 -- RIFF files, in the words of Microsoft's and IBM's Multimedia Programming Interface and Data Specifications: numbers, chunks, and the walk over them. Definitions only.
 -- A file is the list of its bytes, each 0 to 255, and a place counts from 0; past the file's end a byte counts as 0.
-use Rattle.std.specs.Prelude.{◌≡◌, ◌⊎◌, Bool, true, false, cond, ◌||◌, List, [], ◌∷◌, ◌++◌, ℕ, zero, suc, ◌+◌, ◌*◌, ◌/◌, ◌%◌, ◌≤◌, leb, ltb, eqb, get_or}
-use Rattle.std.proofs.Math.Option.{Option, none, some}
+use Rattle.std.specs.Prelude.{◌≡◌, ◌⊎◌, Bool, true, false, cond, ◌||◌, List, [], ◌∷◌, ◌++◌, ℕ, zero, suc, ◌+◌, ◌*◌, ◌/◌, ◌%◌, ◌≤◌, leb, ltb, eqb, get_or, Option, Some, None}
+use Rattle.riff.specs.declared.Chunk.{Chunk}
 
 -- ---- numbers
 
@@ -16,12 +16,6 @@ bytes_of zero n = []
 bytes_of (suc k) n = (n % 256) ∷ bytes_of k (n / 256)
 
 -- ---- chunks
-
--- a chunk: its place, its name as the number of its four bytes, and the size of its body
-pub record Chunk : Type 0 where
-  pub at : ℕ
-  pub name : ℕ
-  pub size : ℕ
 
 -- the chunk at a place: four bytes of name, four of size, then the body
 abbrev pub chunk_at : List ℕ → ℕ → Chunk
@@ -55,8 +49,8 @@ chunks file end = chunks_from end file end 12
 
 -- the first chunk with a name
 unfoldable pub first_of : ℕ → List Chunk → Option Chunk
-first_of name [] = none
-first_of name (c ∷ cs) = cond (eqb c.name name) (some c) (first_of name cs)
+first_of name [] = None
+first_of name (c ∷ cs) = cond (eqb c.name name) (Some c) (first_of name cs)
 
 -- a chunk runs past the end
 unfoldable pub any_past : (end : ℕ) → List Chunk → Bool

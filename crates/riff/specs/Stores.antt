@@ -1,9 +1,11 @@
 -- Laws of a run of stores: another behind it, its length, what stands inside and outside it, and one that stores what stands there.
-use Rattle.std.specs.Prelude.{◌≡◌, refl, ◌⊎◌, List, [], ◌∷◌, ◌++◌, ℕ, zero, suc, ◌+◌, ◌≤◌, ◌<◌, length, get_or, drop, set}
-use Rattle.std.proofs.Common.{sym, ap, ◌∙◌, inl, inr, ⊎_elim, arith, length-set, get_or-set_same, get_or-set_other}
+use Rattle.std.specs.Prelude.{◌≡◌, refl, ◌⊎◌, List, [], ◌∷◌, ◌++◌, ℕ, zero, suc, ◌+◌, ◌≤◌, ◌<◌, length, get_or, take, drop, set}
+use Rattle.std.proofs.Common.{sym, ap, ◌∙◌, inl, inr, ⊎_elim, arith, length-set, get_or-set_same, get_or-set_other, take_all}
 use Rattle.std.proofs.lemmas.List.{set-get_or}
 use Rattle.std.proofs.lemmas.List.Edits.{sets, sets-eq}
+use Rattle.std.proofs.lemmas.Slice.{put_mid-paste}
 use Rattle.std.proofs.Math.Seq.{length-sets}
+use borrow.Rule.Slice.PartMut.{put_mid}
 
 -- k elements from j on lie before n elements from i on, or behind them
 abbrev pub Outside : (i n j k : ℕ) → Type 0
@@ -20,6 +22,14 @@ module _ {A : Type 0} where
 
   pub stored-length : (l : List A) {l' : List A} (at : ℕ) (vs : List A) → l' ≡ sets l at vs → length l' ≡ length l
   stored-length l at vs p = ap length p ∙ length-sets l at vs
+
+  -- a part that was overwritten, as std has it
+  pub stored-part : (l : List A) {ys : List A} (at k : ℕ) (vs : List A) → ys ≡ vs → length vs ≡ k → at + k ≤ length l → put_mid at k l ys ≡ sets l at vs
+  stored-part l {ys} at k vs e n h =
+      put_mid-paste at k l ys vs k e refl (sym n)
+      ∙ ap (λ (m : List A). take at l ++ m ++ drop (at + k) l) (take_all k vs (omega arith))
+      ∙ ap (λ (m : ℕ). take at l ++ vs ++ drop (at + m) l) (sym n)
+      ∙ sym (sets-eq vs l at (omega arith))
 
   -- at the front
   pub sets-front : (l vs : List A) → length vs ≤ length l → sets l 0 vs ≡ vs ++ drop (length vs) l

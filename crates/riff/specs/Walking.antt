@@ -1,44 +1,35 @@
 -- What a walk has seen so far, step by step, and that in the end it has seen all chunks.
-use Rattle.std.specs.Prelude.{◌≡◌, Bool, not, ◌||◌, ltb, eqb}
+use Rattle.std.specs.Prelude.{◌≡◌, Bool, ◌||◌, ltb, eqb, Option, Some}
 use Rattle.std.proofs.Math.Path.{refl}
 use Rattle.std.proofs.Common.{sym, ap, ◌∙◌, subst, arith, le-leb}
 use Rattle.std.proofs.Math.Bool.{true, false, cond, or_assoc, or-false}
 use mathlib.Core.List.{List, [], ◌∷◌, ◌++◌, append-nil}
-use Rattle.std.proofs.Math.Option.{Option, none, some}
 use Prim.Native.Nat.{ℕ, zero, suc, ◌+◌, ◌*◌, ◌≤◌, ◌<◌}
 use Rattle.std.proofs.lemmas.Bool.{lt-leb}
 use Rattle.std.proofs.Math.Seq.{append_snoc}
 use Rattle.riff.specs.Chunks.{first-before}
-use Rattle.riff.specs.declared.Found.{Found}
 use Rattle.riff.specs.declared.Walk.{Walk}
-use Rattle.riff.specs.Riff.{Chunk, chunk_at, behind, next, chunks_from, chunks, first_of, any_past, fmt_name, data_name}
-use Rattle.riff.specs.Walks.{found_at, found_of, found_first, set_out, stepped}
+use Rattle.riff.specs.declared.Chunk.{Chunk}
+use Rattle.riff.specs.Riff.{chunk_at, behind, next, chunks_from, chunks, first_of, any_past, fmt_name, data_name}
+use Rattle.riff.specs.Walks.{found_first, set_out, stepped}
 
 -- a walk to an end has seen these chunks
 pub record Seen (end : ℕ) (cs : List Chunk) (w : Walk) : Type 0 where
-  pub fmt : w.fmt ≡ found_of (first_of fmt_name cs)
-  pub data' : w.data ≡ found_of (first_of data_name cs)
+  pub fmt : w.fmt ≡ first_of fmt_name cs
+  pub data' : w.data ≡ first_of data_name cs
   pub past : w.past ≡ any_past end cs
-
--- after a step the walk has seen the chunk at its place as well, and stands at the next
-pub record Stepped (end : ℕ) (w : Walk) (c : Chunk) (r : Walk) : Type 0 where
-  pub at : r.at ≡ next c
-  pub seen : (cs : List Chunk) → Seen end cs w → Seen end (cs ++ (c ∷ [])) r
 
 -- ---- one chunk more
 module _ (name : ℕ) (c : Chunk) where
-  pub found-more : (cs : List Chunk) → found_of (first_of name (cs ++ (c ∷ []))) ≡ found_first (found_of (first_of name cs)) name c
+  pub found-more : (cs : List Chunk) → first_of name (cs ++ (c ∷ [])) ≡ found_first (first_of name cs) name c
   unfolding first_of
-  found-more [] = by_name (eqb c.name name)
+  found-more [] = refl
+  found-more (d ∷ cs) = by_name (eqb d.name name) (found-more cs)
     where
-      by_name : (t : Bool) → found_of (cond t (some c) none) ≡ cond (not t) (found_of none) (found_at c)
-      by_name true = refl
-      by_name false = refl
-  found-more (d ∷ cs) = by_name (first_of name (cs ++ (c ∷ []))) (first_of name cs) (eqb d.name name) (found-more cs)
-    where
-      by_name : (o p : Option Chunk) (t : Bool) → found_of o ≡ found_first (found_of p) name c → found_of (cond t (some d) o) ≡ found_first (found_of (cond t (some d) p)) name c
-      by_name o p true e = refl
-      by_name o p false e = e
+      by_name : (t : Bool) → first_of name (cs ++ (c ∷ [])) ≡ found_first (first_of name cs) name c →
+          cond t (Some d) (first_of name (cs ++ (c ∷ []))) ≡ found_first (cond t (Some d) (first_of name cs)) name c
+      by_name true e = refl
+      by_name false e = e
 
 pub past_more : (end : ℕ) (c : Chunk) (cs : List Chunk) → any_past end (cs ++ (c ∷ [])) ≡ any_past end cs || ltb end (behind c)
 unfolding any_past
@@ -53,13 +44,10 @@ seen_none end = record { fmt = refl; data' = refl; past = refl }
 pub seen_more : {end : ℕ} {w : Walk} (c : Chunk) (cs : List Chunk) → Seen end cs w → Seen end (cs ++ (c ∷ [])) (stepped end w c)
 seen_more {end} c cs s =
     record {
-      fmt = ap (λ (k : Found). found_first k fmt_name c) s.fmt ∙ sym (found-more fmt_name c cs);
-      data' = ap (λ (k : Found). found_first k data_name c) s.data' ∙ sym (found-more data_name c cs);
+      fmt = ap (λ (k : Option Chunk). found_first k fmt_name c) s.fmt ∙ sym (found-more fmt_name c cs);
+      data' = ap (λ (k : Option Chunk). found_first k data_name c) s.data' ∙ sym (found-more data_name c cs);
       past = ap (λ (t : Bool). t || ltb end (behind c)) s.past ∙ sym (past_more end c cs);
     }
-
-pub steps : {end : ℕ} {w r : Walk} (c : Chunk) → r ≡ stepped end w c → Stepped end w c r
-steps {end} {w} c e = subst (Stepped end w c) (sym e) (record { at = refl; seen = seen_more c })
 
 -- ---- the walk over bytes in memory
 module _ (file : List ℕ) (end : ℕ) where
@@ -84,21 +72,19 @@ module _ {file : List ℕ} {end : ℕ} where
   pub walk_begins : {w : Walk} → w ≡ set_out → Walking file end w
   walk_begins e = subst (Walking file end) (sym e) (record { cs = []; n = end; seen = seen_none end; rest = refl; enough = omega arith })
 
-  pub walk_goes_on : {w r : Walk} → Walking file end w → w.at + 8 ≤ end → Stepped end w (chunk_at file w.at) r → Walking file end r
-  walk_goes_on {w} {r} p h s = by_count p.n p.rest p.enough
+  pub walk_goes_on : {w : Walk} → Walking file end w → w.at + 8 ≤ end → Walking file end (stepped end w (chunk_at file w.at))
+  walk_goes_on {w} p h = by_count p.n p.rest p.enough
     where
-      by_count : (n : ℕ) → chunks file end ≡ p.cs ++ chunks_from n file end w.at → end < w.at + 8 + 8 * n → Walking file end r
+      by_count : (n : ℕ) → chunks file end ≡ p.cs ++ chunks_from n file end w.at → end < w.at + 8 + 8 * n → Walking file end (stepped end w (chunk_at file w.at))
       by_count zero e l = absurd (omega arith)
       by_count (suc n) e l =
+          let c = chunk_at file w.at in
           record {
-            cs = p.cs ++ (chunk_at file w.at ∷ []);
+            cs = p.cs ++ (c ∷ []);
             n = n;
-            seen = s.seen p.cs p.seen;
-            rest =
-                e
-                ∙ ap (λ (l : List Chunk). p.cs ++ l) (chunks-more file end n w.at h ∙ ap (λ (at : ℕ). chunk_at file w.at ∷ chunks_from n file end at) (sym s.at))
-                ∙ sym (append_snoc p.cs (chunk_at file w.at) (chunks_from n file end r.at));
-            enough = omega (arith, s.at);
+            seen = seen_more c p.cs p.seen;
+            rest = e ∙ ap (λ (l : List Chunk). p.cs ++ l) (chunks-more file end n w.at h) ∙ sym (append_snoc p.cs c (chunks_from n file end (next c)));
+            enough = omega arith;
           }
 
   pub walk_ends : {w : Walk} → Walking file end w → end < w.at + 8 → Seen end (chunks file end) w
@@ -108,13 +94,5 @@ module _ {file : List ℕ} {end : ℕ} where
       p.seen
 
 -- what was found stands before the end
-pub found-near : (file : List ℕ) (end name : ℕ) → (found_of (first_of name (chunks file end))).at ≤ end
-found-near file end name = by-found (first_of name (chunks file end)) refl
-  where
-    by-found : (o : Option Chunk) → first_of name (chunks file end) ≡ o → (found_of o).at ≤ end
-    by-found none e = omega arith
-    by-found (some c) e = omega (arith, (first-before file end name end 12 c e).to)
-
-pub seen-near : (file : List ℕ) {end : ℕ} {w : Walk} → Seen end (chunks file end) w → (w.fmt.at ≤ end) × (w.data.at ≤ end)
-seen-near file {end} s =
-    (subst (λ (f : Found). f.at ≤ end) (sym s.fmt) (found-near file end fmt_name), subst (λ (f : Found). f.at ≤ end) (sym s.data') (found-near file end data_name))
+pub seen-near : (file : List ℕ) (name : ℕ) {end : ℕ} {found : Option Chunk} {c : Chunk} → found ≡ first_of name (chunks file end) → found ≡ Some c → c.at + 8 ≤ end
+seen-near file name {end} {found} {c} s e = (first-before file end name end 12 c (sym s ∙ e)).to

@@ -2,22 +2,22 @@
 
 #![tactic(auto)]
 
-ghost use Rattle.std.specs.Prelude.{◌≡◌, false, ◌+◌, ◌*◌, ◌^◌, ◌≤◌, ◌<◌, leb, length};
+ghost use Rattle.std.specs.Prelude.{◌≡◌, ◌+◌, ◌^◌, ◌≤◌, ◌<◌, leb, length};
 ghost use Rattle.std.proofs.lemmas.List.Edits.{sets};
 ghost use Rattle.riff.specs.Riff.{number_at, bytes_of, chunk_at, head_bytes, chunks};
 ghost use Rattle.riff.specs.Walks.{found_first, set_out, stepped};
-ghost use Rattle.riff.specs.Walking.{Seen, Stepped};
+ghost use Rattle.riff.specs.Walking.{Seen};
 
-// The names "fmt " and "data".
-pub const FMT: u32 = 544501094;
+// The names "fmt " and "data", as the numbers of their four bytes.
+pub const FMT: u32 = 0x2074_6D66;
 
-pub const DATA: u32 = 1635017060;
+pub const DATA: u32 = 0x6174_6164;
 
-// A chunk, where ok: the place of its name, and the size of its body.
+// A chunk: its place, its name as the number of its four bytes, and the size of its body.
 #[derive(Clone, Copy)]
-pub struct Found {
-    pub ok: bool,
+pub struct Chunk {
     pub at: usize,
+    pub name: u32,
     pub size: u32,
 }
 
@@ -25,33 +25,27 @@ pub struct Found {
 #[derive(Clone, Copy)]
 pub struct Walk {
     pub at: usize,
-    pub fmt: Found,
-    pub data: Found,
+    pub fmt: Option<Chunk>,
+    pub data: Option<Chunk>,
     pub past: bool,
 }
 
-fn wide(b: u8) -> u32
-    ensures { (result ≡ b) × (result < 256) }
-{
-    b as u32
-}
-
 // The number of two bytes at a place, the least first.
-pub fn two(bytes: &[u8], at: usize) -> u32
+#[tactic(auto, using(crate::specs::Numbers::two_is))]
+pub fn two(bytes: &[u8], at: usize) -> u16
     requires { at + 2 ≤ length bytes.now }
-    ensures { (result ≡ number_at bytes.now at 2) × (result < 65536) }
+    ensures { result ≡ number_at bytes.now at 2 }
 {
-    wide(bytes[at]) + 256 * wide(bytes[at + 1])
+    u16::from_le_bytes([bytes[at], bytes[at + 1]])
 }
 
 // The number of four bytes at a place, the least first.
+#[tactic(auto, using(crate::specs::Numbers::four_is))]
 pub fn four(bytes: &[u8], at: usize) -> u32
     requires { at + 4 ≤ length bytes.now }
     ensures { result ≡ number_at bytes.now at 4 }
 {
-    let low = two(bytes, at);
-    let high = two(bytes, at + 2);
-    low + 65536 * high
+    u32::from_le_bytes([bytes[at], bytes[at + 1], bytes[at + 2], bytes[at + 3]])
 }
 
 // Two bytes of a number, the least first, at a place.
@@ -59,8 +53,9 @@ pub fn put_two(out: &mut [u8], at: usize, n: u32)
     requires { at + 2 ≤ length out.old }
     ensures { out.new ≡ sets out.old at (bytes_of 2 n) }
 {
-    out[at] = (n % 256) as u8;
-    out[at + 1] = (n / 256 % 256) as u8;
+    let [low, high, ..] = n.to_le_bytes();
+    out[at] = low;
+    out[at + 1] = high;
 }
 
 // Four bytes of a number, the least first, at a place.
@@ -68,8 +63,7 @@ pub fn put_four(out: &mut [u8], at: usize, n: u32)
     requires { at + 4 ≤ length out.old }
     ensures { out.new ≡ sets out.old at (bytes_of 4 n) }
 {
-    put_two(out, at, n);
-    put_two(out, at + 2, n / 65536);
+    out[at..at + 4].copy_from_slice(&n.to_le_bytes());
 }
 
 // A chunk's name and size, at a place.
@@ -81,76 +75,64 @@ pub fn put_head(out: &mut [u8], at: usize, name: u32, size: u32)
     put_four(out, at + 4, size);
 }
 
-fn not_found() -> Found
-    ensures { result ≡ record { ok = false; at = 0; size = 0 } }
-{
-    Found {
-        ok: false,
-        at: 0,
-        size: 0,
+impl Chunk {
+    // The chunk at a place.
+    fn read(bytes: &[u8], at: usize) -> Chunk
+        requires { at + 8 ≤ length bytes.now }
+        ensures { result ≡ chunk_at bytes.now at }
+    {
+        Chunk {
+            at,
+            name: four(bytes, at),
+            size: four(bytes, at + 4),
+        }
     }
 }
 
-// Nothing was found yet, and the first chunk stands behind "RIFF", a size and "WAVE".
-pub fn begin() -> Walk
-    ensures { result ≡ set_out }
+// The first chunk of a name, after one chunk more.
+fn first(found: Option<Chunk>, name: u32, chunk: Chunk) -> Option<Chunk>
+    ensures { result ≡ found_first found name chunk }
 {
-    Walk {
-        at: 12,
-        fmt: not_found(),
-        data: not_found(),
-        past: false,
+    match found {
+        None if chunk.name == name => Some(chunk),
+        found => found,
     }
 }
 
-// The first chunk of a name, after the chunk at a place.
-fn first(found: Found, wanted: u32, at: usize, name: u32, size: u32) -> Found
-    ensures { result ≡ found_first found wanted (record { at = at; name = name; size = size }) }
-{
-    if found.ok | (name != wanted) {
-        return found;
+impl Walk {
+    // Nothing was found yet, and the first chunk stands behind "RIFF", a size and "WAVE".
+    pub fn begin() -> Walk
+        ensures { result ≡ set_out }
+    {
+        Walk {
+            at: 12,
+            fmt: None,
+            data: None,
+            past: false,
+        }
     }
-    Found {
-        ok: true,
-        at: at,
-        size: size,
-    }
-}
 
-// The walk goes on: at least eight bytes are left before the end.
-pub fn goes_on(w: Walk, end: usize) -> bool
-    ensures { result ≡ leb (w.at + 8) end }
-{
-    if end < 8 {
-        return false;
+    // The walk goes on: at least eight bytes are left before the end.
+    pub fn goes_on(self, end: usize) -> bool
+        ensures { result ≡ leb (self.at + 8) end }
+    {
+        8 <= end && self.at <= end - 8
     }
-    w.at <= end - 8
-}
 
-// A step of the walk to an end: `name` and `size` are the eight bytes at its place.
-pub fn step(w: Walk, end: usize, name: u32, size: u32) -> Walk
-    requires { (w.at + 8 ≤ end) × (end < 2 ^ 63) }
-    ensures { result ≡ stepped end w (record { at = w.at; name = name; size = size }) }
-{
-    let at = w.at;
-    let fmt = w.fmt;
-    let data = w.data;
-    let behind = at + 8 + size as usize;
-    Walk {
-        at: behind + (size % 2) as usize,
-        fmt: first(fmt, FMT, at, name, size),
-        data: first(data, DATA, at, name, size),
-        past: w.past | (end < behind),
+    // A step of the walk to an end, by the chunk at its place.
+    #[tactic(auto, unfolding(crate::specs::Riff::number_at))]
+    pub fn step(self, end: usize, chunk: Chunk) -> Walk
+        requires { (chunk.at + 8 ≤ end) × (end < 2 ^ 63) }
+        ensures { result ≡ stepped end self chunk }
+    {
+        let behind = chunk.at + 8 + chunk.size as usize;
+        Walk {
+            at: behind + (chunk.size % 2) as usize,
+            fmt: first(self.fmt, FMT, chunk),
+            data: first(self.data, DATA, chunk),
+            past: self.past || end < behind,
+        }
     }
-}
-
-// A step over bytes in memory.
-fn step_in(bytes: &[u8], w: Walk, end: usize) -> Walk
-    requires { (w.at + 8 ≤ end) × (end ≤ length bytes.now) }
-    ensures { Stepped end w (chunk_at bytes.now w.at) result }
-{
-    let at = w.at;
-    step(w, end, four(bytes, at), four(bytes, at + 4))
 }
 
 // The walk to an end over bytes in memory.
@@ -158,9 +140,9 @@ pub fn walked(bytes: &[u8], end: usize) -> Walk
     requires { end ≤ length bytes.now }
     ensures { Seen end (chunks bytes.now end) result }
 {
-    let mut w = begin();
-    while goes_on(w, end) {
-        w = step_in(bytes, w, end);
+    let mut w = Walk::begin();
+    while w.goes_on(end) {
+        w = w.step(end, Chunk::read(bytes, w.at));
     }
     w
 }

@@ -1,17 +1,18 @@
 -- Laws of a seek: what is wanted by each test, and what a piece adds by how many bytes it has.
-use Rattle.std.specs.Prelude.{◌≡◌, true, false, not, cond, ◌||◌, List, ℕ, ◌+◌, ◌/◌, ◌^◌, ◌≤◌, ◌<◌, min, leb, ltb, eqb, length}
-use Rattle.std.proofs.Common.{◌∙◌, eq-eqb, ne_eqb, le-leb}
+use Rattle.std.specs.Prelude.{◌≡◌, true, false, not, cond, ◌||◌, List, ℕ, ◌+◌, ◌/◌, ◌^◌, ◌<◌, min, leb, ltb, eqb, length, Some}
+use Rattle.std.proofs.Common.{◌∙◌, ap, eq-eqb, ne_eqb}
 use Rattle.std.proofs.lemmas.Bool.{lt-leb}
 use Rattle.whole.specs.Tests.{cond_yes, cond_no}
+use Rattle.riff.specs.declared.Chunk.{Chunk}
 use Rattle.riff.specs.declared.Walk.{Walk}
-use Rattle.riff.specs.Riff.{number_at}
+use Rattle.riff.specs.Riff.{number_at, body, data_name}
 use Rattle.riff.specs.Walks.{set_out, stepped}
 use Rattle.wave.specs.Waves.{is_wave}
-use Rattle.wave.specs.Judged.{whole_fmt, judged}
+use Rattle.wave.specs.Judged.{judged}
 use Rattle.mending.specs.Mendings.{no_mending}
 use Rattle.mending.specs.Decided.{reached, decided}
 use Rattle.seeking.specs.declared.Seek.{Seek}
-use Rattle.seeking.specs.Seeks.{found_by, walk_of, seek_of, no_piece, end_of, asks, walked_on, begun, headed, stepped_on, rated, given_to, number_of, no_take, found_in, mended_in}
+use Rattle.seeking.specs.Seeks.{chunk_in, rate_in, walk_of, fresh, no_piece, end_of, asks_fmt, asks, walked_on, begun, headed, stepped_on, rated, given_to, judged_rate, number_of, no_take, take_in, found_in, mended_in}
 
 -- ---- what a walk asks for
 module _ (w : Walk) (end : ℕ) where
@@ -19,13 +20,9 @@ module _ (w : Walk) (end : ℕ) where
   unfolding asks
   asks_chunk e = rw e
 
-  pub asks-fmt : leb (w.at + 8) end ≡ false → whole_fmt w.fmt end ≡ true → asks w end ≡ record { at = w.fmt.at + 8; count = 16 }
+  pub asks_last : leb (w.at + 8) end ≡ false → asks w end ≡ asks_fmt w.fmt end
   unfolding asks
-  asks-fmt e f = rw (e, f)
-
-  pub asks_none : leb (w.at + 8) end ≡ false → whole_fmt w.fmt end ≡ false → asks w end ≡ no_piece
-  unfolding asks
-  asks_none e f = rw (e, f)
+  asks_last e = rw e
 
 -- ---- the walk's end
 module _ (n mends riff : ℕ) where
@@ -34,46 +31,34 @@ module _ (n mends riff : ℕ) where
   end_take e = cond_yes _ _ (eq-eqb mends 0 e)
 
   module _ (m : mends ≡ 0 → ⊥) where
-    pub end_too_long : 2147483648 ≤ n → end_of n mends riff ≡ 0
-    unfolding end_of
-    end_too_long h = cond_no _ _ (ne_eqb mends 0 m) ∙ cond_yes _ _ (le-leb 2147483648 n h)
-
     pub end_mending : n < 2147483648 → end_of n mends riff ≡ n
     unfolding end_of
     end_mending h = cond_no _ _ (ne_eqb mends 0 m) ∙ cond_no _ _ (lt-leb 2147483648 n h)
 
 -- ---- the first piece
 module _ (n mends : ℕ) where
-  pub begun-none : ltb n 12 || leb (2 ^ 63) n ≡ true → begun n mends ≡ seek_of n mends 20 0 0 set_out no_piece
+  pub begun-none : ltb n 12 || leb (2 ^ 63) n ≡ true → begun n mends ≡ fresh n mends no_piece
   unfolding begun
   begun-none e = rw e
 
-  pub begun-some : ltb n 12 || leb (2 ^ 63) n ≡ false → begun n mends ≡ seek_of n mends 20 0 0 set_out (record { at = 0; count = 12 })
+  pub begun-some : ltb n 12 || leb (2 ^ 63) n ≡ false → begun n mends ≡ fresh n mends (record { at = 0; count = 12 })
   unfolding begun
   begun-some e = rw e
 
 -- ---- what a piece adds
 module _ (s : Seek) (bytes : List ℕ) where
-  pub headed-none : is_wave bytes ≡ false → headed s bytes ≡ seek_of s.length s.mends 20 0 0 set_out no_piece
+  pub headed-none : is_wave bytes ≡ false → headed s bytes ≡ fresh s.length s.mends no_piece
   unfolding headed
-  headed-none e = rw e
+  headed-none e = cond_no _ _ e
 
-  pub headed-wave : is_wave bytes ≡ true → headed s bytes ≡ walked_on s.length s.mends (number_at bytes 4 4) set_out
+  pub headed-wave : is_wave bytes ≡ true → headed s bytes ≡ walked_on (record (fresh s.length s.mends no_piece) { riff = number_at bytes 4 4 }) set_out
   unfolding headed
-  headed-wave e = rw e
-
-  pub stepped_not : leb (2 ^ 63) s.length || not (leb (s.wanted.at + 8) (end_of s.length s.mends s.riff)) ≡ true → stepped_on s bytes ≡ s
-  unfolding stepped_on
-  stepped_not e = cond_yes _ _ e
+  headed-wave e = cond_yes _ _ e
 
   pub stepped-on : leb (2 ^ 63) s.length || not (leb (s.wanted.at + 8) (end_of s.length s.mends s.riff)) ≡ false →
-      stepped_on s bytes ≡ walked_on s.length s.mends s.riff (stepped (end_of s.length s.mends s.riff) (walk_of s) (record { at = s.wanted.at; name = number_at bytes 0 4; size = number_at bytes 4 4 }))
+      stepped_on s bytes ≡ walked_on s (stepped (end_of s.length s.mends s.riff) (walk_of s) (record { at = s.wanted.at; name = number_at bytes 0 4; size = number_at bytes 4 4 }))
   unfolding stepped_on
   stepped-on e = cond_no _ _ e
-
-  pub given-other : (length bytes ≡ s.wanted.count → ⊥) → given_to s bytes ≡ s
-  unfolding given_to
-  given-other n = cond_no _ _ (ne_eqb (length bytes) s.wanted.count n)
 
   module _ (e : length bytes ≡ s.wanted.count) where
     pub given-head : length bytes ≡ 12 → given_to s bytes ≡ headed s bytes
@@ -101,7 +86,7 @@ module _ (s : Seek) where
   unfolding number_of
   number-kept n = cond_no _ _ (ne_eqb s.number 0 n)
 
-  pub number-judged : s.number ≡ 0 → number_of s ≡ judged (walk_of s) s.hertz (8 + s.riff) s.length
+  pub number-judged : s.number ≡ 0 → number_of s ≡ judged (walk_of s) (judged_rate s) (8 + s.riff) s.length
   unfolding number_of
   number-judged e = cond_yes _ _ (eq-eqb s.number 0 e)
 
@@ -109,18 +94,14 @@ module _ (s : Seek) where
   unfolding found_in
   found-refused n = cond_no _ _ (ne_eqb (number_of s) 0 n)
 
-  pub found_outside : number_of s ≡ 0 → reached (found_by s.data) s.length ≡ false → found_in s ≡ no_take 23
+  pub found_take : {c : Chunk} → number_of s ≡ 0 → chunk_in data_name s.data ≡ Some c → reached c s.length ≡ true → found_in s ≡ record { number = 0; hertz = s.hertz; at = body c; count = c.size / 2 }
   unfolding found_in
-  found_outside e r = cond_yes _ _ (eq-eqb (number_of s) 0 e) ∙ cond_no _ _ r
-
-  pub found_take : number_of s ≡ 0 → reached (found_by s.data) s.length ≡ true → found_in s ≡ record { number = 0; hertz = s.hertz; at = s.data.at + 8; count = s.data.size / 2 }
-  unfolding found_in
-  found_take e r = cond_yes _ _ (eq-eqb (number_of s) 0 e) ∙ cond_yes _ _ r
+  found_take {c} e d r = cond_yes _ _ (eq-eqb (number_of s) 0 e) ∙ ap (take_in s) d ∙ cond_yes _ _ r
 
   pub mended-refused : (s.number ≡ 0 → ⊥) → mended_in s ≡ no_mending s.number
   unfolding mended_in
   mended-refused n = cond_no _ _ (ne_eqb s.number 0 n)
 
-  pub mended-decided : s.number ≡ 0 → mended_in s ≡ decided (walk_of s) s.hertz s.riff s.length
+  pub mended-decided : s.number ≡ 0 → mended_in s ≡ decided (walk_of s) (rate_in s.hertz) s.riff s.length
   unfolding mended_in
   mended-decided e = cond_yes _ _ (eq-eqb s.number 0 e)

@@ -33,11 +33,14 @@ fields_piece file at =
     fields-same (take 16 (drop at file)) file 0 at
     (λ i k h. let e : 0 + i ≡ i = omega arith in ap (λ (n : ℕ). number_at (take 16 (drop at file)) n k) e ∙ number-part file at 16 i k h)
 
-pub samples_piece : (file : List ℕ) (at count : ℕ) → samples_at (take (2 * count) (drop at file)) 0 count ≡ samples_at file at count
-samples_piece file at count =
-    let piece = take (2 * count) (drop at file) in
-    let f : ℕ → ℤ = λ (k : ℕ). sample_of (number_at piece (0 + 2 * k) 2) in
+pub samples_part : (file : List ℕ) (at m count : ℕ) → 2 * count ≤ m → samples_at (take m (drop at file)) 0 count ≡ samples_at file at count
+samples_part file at m count h =
+    let part = take m (drop at file) in
+    let f : ℕ → ℤ = λ (k : ℕ). sample_of (number_at part (0 + 2 * k) 2) in
     is-list_of (λ (k : ℕ). sample_of (number_at file (at + 2 * k) 2)) count (pos 0) (list_of f count) (length-list_of f count)
-    (λ k h.
+    (λ k l.
     let e : 0 + 2 * k ≡ 2 * k = omega arith in
-    get_or-list_of f count k (pos 0) h ∙ ap sample_of (ap (λ (n : ℕ). number_at piece n 2) e ∙ number-part file at (2 * count) (2 * k) 2 (omega arith)))
+    get_or-list_of f count k (pos 0) l ∙ ap sample_of (ap (λ (n : ℕ). number_at part n 2) e ∙ number-part file at m (2 * k) 2 (omega arith)))
+
+pub samples_piece : (file : List ℕ) (at count : ℕ) → samples_at (take (2 * count) (drop at file)) 0 count ≡ samples_at file at count
+samples_piece file at count = samples_part file at (2 * count) count (omega arith)

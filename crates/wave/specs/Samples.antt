@@ -1,20 +1,13 @@
--- Laws of sixteen bits as a sample, and of samples that are stored one after the other.
-use Rattle.std.specs.Prelude.{◌≡◌, List, [], ◌∷◌, ℕ, suc, ◌+◌, ◌-◌, ◌*◌, ◌^◌, ◌≤◌, ◌<◌, ltb, ℤ, pos, negsuc, ◌-ℤ◌, length, set}
-use Rattle.std.proofs.Common.{sym, ap, ◌∙◌, add-one, arith}
+-- Laws of sixteen bits as a sample.
+use Rattle.std.specs.Prelude.{◌≡◌, ℕ, suc, ◌-◌, ◌≤◌, ◌<◌, ltb, ℤ, pos, negsuc}
+use Rattle.std.proofs.Common.{ap, arith}
 use borrow.Author.Tests.{ltb-true, ltb-false, lt-ltb, le-ltb}
-use Rattle.std.proofs.lemmas.List.Edits.{sets}
-use mir.Syntax.{w16, w32}
+use mir.Syntax.{w16}
 use mir.Val.{SFits}
-use Rattle.whole.specs.Numbers.{list_of}
-use Rattle.whole.specs.Lists.{length-list_of, list_of-more}
-use Rattle.whole.specs.Bounds.{subℕ-lt, pos_minus_pos}
-use Rattle.whole.specs.Tests.{cond_case}
-use Rattle.whole.specs.Words.{Bits}
-use Rattle.riff.specs.Riff.{number_at}
-use Rattle.riff.specs.Stores.{stored_then, sets-front}
-use Rattle.wave.specs.Waves.{sample_of, samples_at, over}
+use Rattle.std.specs.Int.{cast_signed}
+use Rattle.whole.specs.Tests.{by, cond_case}
+use Rattle.wave.specs.Waves.{sample_of}
 
--- ---- bits as a sample
 module _ (n : ℕ) where
   pub sample-low : n < 32768 → sample_of n ≡ pos n
   unfolding sample_of
@@ -31,23 +24,10 @@ module _ (n : ℕ) where
       (λ e. record { sfits = ltb-true n 32768 e })
       (λ e. record { sfits = omega (arith, ltb-false n 32768 e) })
 
-  -- lowered by 65536
-  pub lowered : 32768 ≤ n → n < 65536 → pos n -ℤ pos 65536 ≡ sample_of n
-  lowered l h = let e : 65536 - suc n ≡ 65535 - n = omega arith in pos_minus_pos n 65536 ∙ subℕ-lt n 65536 h ∙ ap negsuc e ∙ sym (sample-high l)
-
-  -- the bits of a signed local that is not below 0
-  pub unsigned : n < 65536 → Bits w32 65535 n (pos n)
-  unsigned h = let l : n < 2 ^ 31 = omega arith in record { reads = rw (lt-ltb n (2 ^ 31) l); size = record { within = omega arith } }
-
--- ---- stored one after the other
-pub samples-more : (file : List ℕ) (at i : ℕ) (l : List ℤ) {out : List ℤ} → out ≡ sets l 0 (samples_at file at i) → set out i (sample_of (number_at file (at + 2 * i) 2)) ≡ sets l 0 (samples_at file at (i + 1))
-samples-more file at i l {out} p =
-    let f : ℕ → ℤ = λ (k : ℕ). sample_of (number_at file (at + 2 * k) 2) in
-    let e : i ≡ 0 + i = omega arith in
-    stored_then l 0 i (samples_at file at i) (f i ∷ []) (length-list_of f i) p (ap (λ (n : ℕ). set out n (f i)) e) ∙ ap (sets l 0) (sym (ap (list_of f) (add-one i) ∙ list_of-more f i))
-
--- all of them, at the front of an output
-pub samples-front : (file : List ℕ) (at count : ℕ) (l : List ℤ) {out : List ℤ} → count ≤ length l → out ≡ sets l 0 (samples_at file at count) → out ≡ over (samples_at file at count) l
-samples-front file at count l h p =
-    let f : ℕ → ℤ = λ (k : ℕ). sample_of (number_at file (at + 2 * k) 2) in
-    p ∙ sets-front l (samples_at file at count) (omega (arith, length-list_of f count))
+  -- as std has it
+  pub sample_cast : n < 65536 → cast_signed w16 n ≡ sample_of n
+  unfolding sample_of
+  sample_cast h =
+      by (ltb n 32768)
+      (λ y. rw y)
+      (λ y. rw y (let e : 65536 - suc n ≡ 65535 - n = omega arith in ap negsuc e))

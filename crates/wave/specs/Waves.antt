@@ -1,8 +1,8 @@
 -- RIFF WAVE files, in the words of change request K4: PCM, one channel, 16 bits, 44,100 or 48,000 samples a second. When a file is refused, what its take is, and what reading promises. Definitions only.
-use Rattle.std.specs.Prelude.{◌≡◌, Bool, true, false, not, cond, ◌&&◌, ◌||◌, List, [], ◌∷◌, ◌++◌, ℕ, ◌+◌, ◌-◌, ◌*◌, ◌/◌, ◌%◌, ◌≤◌, ◌<◌, min, leb, ltb, eqb, ℤ, pos, negsuc, length, drop}
-use Rattle.std.proofs.Math.Option.{Option, none, some}
+use Rattle.std.specs.Prelude.{◌≡◌, Bool, true, false, not, cond, ◌&&◌, ◌||◌, List, [], ◌∷◌, ◌++◌, ℕ, ◌+◌, ◌-◌, ◌*◌, ◌/◌, ◌%◌, ◌≤◌, ◌<◌, min, leb, ltb, eqb, ℤ, pos, negsuc, length, drop, Option, Some, None}
 use Rattle.whole.specs.Numbers.{list_of}
-use Rattle.riff.specs.Riff.{number_at, Chunk, body, chunks, first_of, any_past, fmt_name, data_name, refused_by}
+use Rattle.riff.specs.declared.Chunk.{Chunk}
+use Rattle.riff.specs.Riff.{number_at, body, chunks, first_of, any_past, fmt_name, data_name, refused_by}
 use Rattle.wave.specs.declared.WaveRead.{WaveRead}
 
 -- ---- a file
@@ -62,23 +62,23 @@ fmt_right file end f = leb 16 f.size && leb (body f + 16) end && fields_right fi
 
 -- 21: no fmt before the data or the end
 unfoldable pub no_fmt : (fmt data' : Option Chunk) → Bool
-no_fmt none d = true
-no_fmt (some f) none = false
-no_fmt (some f) (some d) = ltb d.at f.at
+no_fmt None d = true
+no_fmt (Some f) None = false
+no_fmt (Some f) (Some d) = ltb d.at f.at
 
 -- 22: a fmt that is not taken, or an odd data size
 unfoldable pub wrong_fmt : List ℕ → (end : ℕ) → Option Chunk → Bool
-wrong_fmt file end none = false
-wrong_fmt file end (some f) = not (fmt_right file end f)
+wrong_fmt file end None = false
+wrong_fmt file end (Some f) = not (fmt_right file end f)
 
 unfoldable pub odd_data : Option Chunk → Bool
-odd_data none = false
-odd_data (some d) = eqb (d.size % 2) 1
+odd_data None = false
+odd_data (Some d) = eqb (d.size % 2) 1
 
 -- 23: no data chunk
 unfoldable pub no_data : Option Chunk → Bool
-no_data none = true
-no_data (some d) = false
+no_data None = true
+no_data (Some d) = false
 
 -- 24: a chunk runs past the RIFF chunk, or that past the file
 abbrev pub runs_past : List ℕ → Bool
@@ -102,23 +102,23 @@ refusal file = refused_by (tests file)
 
 -- its sample rate, in the fmt
 unfoldable pub rate_in : List ℕ → Option Chunk → ℕ
-rate_in file none = 0
-rate_in file (some f) = rate_at file (body f)
+rate_in file None = 0
+rate_in file (Some f) = rate_at file (body f)
 
 abbrev pub rate_of : List ℕ → ℕ
 rate_of file = rate_in file (fmt_of file)
 
 -- the place of its samples and their count: the data's body, two bytes a sample
 unfoldable pub place_in : Option Chunk → ℕ
-place_in none = 0
-place_in (some d) = body d
+place_in None = 0
+place_in (Some d) = body d
 
 abbrev pub place_of : List ℕ → ℕ
 place_of file = place_in (data_of file)
 
 unfoldable pub count_in : Option Chunk → ℕ
-count_in none = 0
-count_in (some d) = d.size / 2
+count_in None = 0
+count_in (Some d) = d.size / 2
 
 abbrev pub count_of : List ℕ → ℕ
 count_of file = count_in (data_of file)

@@ -1,7 +1,10 @@
 -- The canonical form of a take as a RIFF WAVE file, a header of 44 bytes and the samples, what writing promises, and that reading and writing give each other back. Definitions only.
-use Rattle.std.specs.Prelude.{◌≡◌, not, List, [], ◌∷◌, ◌++◌, ℕ, ◌+◌, ◌-◌, ◌*◌, ◌≤◌, ◌<◌, ltb, ℤ, pos, negsuc, length, get_or, take}
+use Rattle.std.specs.Prelude.{◌≡◌, not, List, [], ◌∷◌, ◌++◌, ℕ, ◌+◌, ◌-◌, ◌*◌, ◌≤◌, ◌<◌, ltb, ℤ, pos, negsuc, length, get_or, take, Result, Ok, Err, MatchResult}
 use Rattle.std.specs.Int.{w16}
 use Rattle.std.proofs.Common.{SFits}
+use Rattle.std.proofs.lemmas.List.Edits.{sets}
+use Rattle.refusals.specs.declared.Refusal.{Refusal}
+use Rattle.refusals.specs.Refusals.{refusal_number}
 use Rattle.riff.specs.Riff.{bytes_of, head_bytes, fmt_name, data_name, refused_by}
 use Rattle.wave.specs.declared.WaveRead.{WaveRead}
 use Rattle.wave.specs.Waves.{riff_name, wave_name, known, refusal, rate_of, count_of, samples_of, over, WasRead}
@@ -40,6 +43,17 @@ unwritten_by hertz count bytes room = refused_by ((16, not (known hertz)) ∷ (7
 
 abbrev pub unwritten : (hertz : ℕ) → List ℤ → (room : ℕ) → ℕ
 unwritten hertz xs room = unwritten_by hertz (length xs) (44 + 2 * length xs) room
+
+-- the header before so many samples, where there is room for so many bytes; or a refusal, and nothing is written
+abbrev pub Begun : (hertz count bytes : ℕ) → List ℕ → Result ℕ Refusal → List ℕ → Type 0
+Begun hertz count bytes out r out' =
+    MatchResult r (λ written. (unwritten_by hertz count bytes (length out) ≡ 0) × (written ≡ bytes) × (bytes ≤ length out) × (out' ≡ sets out 0 (header hertz (2 * count))))
+    (λ refused. (unwritten_by hertz count bytes (length out) ≡ refusal_number refused) × (out' ≡ out))
+
+-- the bytes written, or a refusal, as it is answered
+abbrev pub written_answered : Result ℕ Refusal → WaveWritten
+written_answered (Ok bytes) = record { number = 0; length = bytes }
+written_answered (Err refused) = record { number = refusal_number refused; length = 0 }
 
 -- the promise of writing: it is refused, and nothing is written; or the canonical form is
 pub data WasWritten (hertz : ℕ) (xs : List ℤ) (out : List ℕ) (r : WaveWritten) (out' : List ℕ) : Type 0 where

@@ -1,16 +1,16 @@
 -- What is written is read back: the canonical form's chunks are fmt and data, its fields are right, and its samples are those written;
 -- and so it stays where other bytes stand behind it.
-use Rattle.std.specs.Prelude.{◌≡◌, true, ℤ, pos, get_or}
+use Rattle.std.specs.Prelude.{◌≡◌, true, ℤ, pos, get_or, Some}
 use Rattle.std.proofs.Math.Path.{refl, sym, ap, subst}
 use Rattle.std.proofs.Common.{◌∙◌}
 use mathlib.Core.List.{List, [], ◌∷◌, ◌++◌, append_assoc}
-use Rattle.std.proofs.Math.Option.{some}
 use Prim.Native.Nat.{ℕ, zero, suc, ◌+◌, ◌-◌, ◌*◌, ◌/◌, ◌%◌, ◌^◌, ◌≤◌, ◌<◌}
 use native.Mathlib.Omega.{arith}
 use borrow.Author.Tests.{eq-eqb, ne_eqb, le-leb, le-ltb}
 use Rattle.std.proofs.Math.ListN.{length, length-append}
 use Rattle.whole.specs.Lists.{is-list_of}
-use Rattle.riff.specs.Riff.{number_at, bytes_of, Chunk, chunk_at, next, chunks_from, first_of, any_past, fmt_name, data_name}
+use Rattle.riff.specs.declared.Chunk.{Chunk}
+use Rattle.riff.specs.Riff.{number_at, bytes_of, chunk_at, next, chunks_from, first_of, any_past, fmt_name, data_name}
 use Rattle.riff.specs.Numbers.{length-bytes_of, number_behind, number-back}
 use Rattle.riff.specs.Walking.{chunks-end, chunks-more}
 use Rattle.wave.specs.Waves.{is_wave, riff_end_of, walk_end, chunks_of, fmt_of, data_of, known, plain, fields_right, fmt_right, rate_in, rate_of, place_in, place_of, count_in, count_of, sample_of, samples_at}
@@ -78,11 +78,11 @@ module _ (hertz size : ℕ) (k : known hertz ≡ true) (small : size < 2 ^ 32 - 
       ∙ ap (λ (c : Chunk). c ∷ chunks_from (suc m) file end (next c)) fmt-at
       ∙ ap (λ (cs : List Chunk). fmt_chunk ∷ cs) (chunks-more file end m 36 (omega arith) ∙ ap (λ (c : Chunk). c ∷ chunks_from m file end (next c)) data_at ∙ ap (λ (cs : List Chunk). data_chunk ∷ cs) (chunks-end file end m (next data_chunk) (omega arith)))
 
-  fmt-first : fmt_of file ≡ some fmt_chunk
+  fmt-first : fmt_of file ≡ Some fmt_chunk
   unfolding first_of fmt_chunk data_chunk number_at
   fmt-first = ap (first_of fmt_name) chunks_are
 
-  data_first : data_of file ≡ some data_chunk
+  data_first : data_of file ≡ Some data_chunk
   unfolding first_of fmt_chunk data_chunk number_at
   data_first = ap (first_of data_name) chunks_are
 

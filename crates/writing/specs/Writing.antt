@@ -1,36 +1,23 @@
--- Laws of writing: by which test it is refused, and the room that the canonical form takes.
-use Rattle.std.specs.Prelude.{◌≡◌, refl, true, false, List, ℕ, suc, ◌+◌, ◌*◌, ◌≤◌, ◌<◌, ℤ, length}
-use Rattle.std.proofs.Common.{sym, ◌∙◌, arith, length-append}
-use borrow.Author.Tests.{lt-ltb, le-ltb}
-use Rattle.riff.specs.Riff.{bytes_of, refused_by}
+-- Laws of writing: the room that the canonical form takes, and what is answered.
+use Rattle.std.specs.Prelude.{◌≡◌, refl, not, List, ℕ, ◌+◌, ◌*◌, ◌≤◌, ltb, ℤ, length, Result, Ok, Err}
+use Rattle.std.proofs.Common.{sym, ◌∙◌, arith, length-append, ltb-false}
+use Rattle.std.proofs.lemmas.List.Edits.{sets}
+use Rattle.refusals.specs.declared.Refusal.{Refusal}
+use Rattle.riff.specs.Riff.{bytes_of}
+use Rattle.riff.specs.Refusals.{passed}
+use Rattle.riff.specs.Stores.{stored_then, sets-front}
 use Rattle.wave.specs.Waves.{known}
-use Rattle.writing.specs.declared.WaveWritten.{WaveWritten}
-use Rattle.writing.specs.Canonical.{sample_bytes, format, header, canonical, limit, unwritten_by, unwritten, WasWritten, not_written, HeaderWritten, no_header}
+use Rattle.wave.specs.Judging.{refusal_some}
+use Rattle.writing.specs.Canonical.{sample_bytes, format, header, canonical, limit, unwritten_by, unwritten, Begun, written_answered, WasWritten, written, HeaderWritten, no_header, a-header}
 use Rattle.writing.specs.Bits.{length-sample_bytes}
 
-module _ (hertz count bytes room : ℕ) where
-  pub rate-unknown : known hertz ≡ false → unwritten_by hertz count bytes room ≡ 16
-  unfolding unwritten_by refused_by
-  rate-unknown k = rw k
-
-  module _ (k : known hertz ≡ true) where
-    pub too_long : limit < count → unwritten_by hertz count bytes room ≡ 7
-    unfolding unwritten_by refused_by
-    too_long l = rw (k, lt-ltb limit count l)
-
-    pub too_small : count ≤ limit → room < bytes → unwritten_by hertz count bytes room ≡ 25
-    unfolding unwritten_by refused_by
-    too_small l r = rw (k, le-ltb limit count l, lt-ltb room bytes r)
-
-    pub writable : count ≤ limit → bytes ≤ room → unwritten_by hertz count bytes room ≡ 0
-    unfolding unwritten_by refused_by
-    writable l r = rw (k, le-ltb limit count l, le-ltb room bytes r)
-
-pub write_refused : {hertz n : ℕ} {xs : List ℤ} {out out' : List ℕ} {r : WaveWritten} → unwritten hertz xs (length out) ≡ suc n → r ≡ record { number = suc n; length = 0 } → out' ≡ out → WasWritten hertz xs out r out'
-write_refused e p o = not_written (λ z. omega (arith, e, z)) (p ∙ (λ i. record { number = sym e i; length = 0 })) o
-
-pub header_refused : {hertz count n : ℕ} {out out' : List ℕ} {r : WaveWritten} → unwritten_by hertz count 44 (length out) ≡ suc n → r ≡ record { number = suc n; length = 0 } → out' ≡ out → HeaderWritten hertz count out r out'
-header_refused e p o = no_header (λ z. omega (arith, e, z)) (p ∙ (λ i. record { number = sym e i; length = 0 })) o
+-- nothing refused: there is room
+pub begun_long : (hertz count bytes room : ℕ) → unwritten_by hertz count bytes room ≡ 0 → bytes ≤ room
+unfolding unwritten_by
+begun_long hertz count bytes room u =
+    let a = passed 15 (not (known hertz)) _ u in
+    let b = passed 6 (ltb limit count) _ a.1 in
+    ltb-false room bytes (passed 24 (ltb room bytes) _ b.1).0
 
 -- 44 bytes, and two for each sample
 pub length-header : (hertz size : ℕ) → length (header hertz size) ≡ 44
@@ -39,3 +26,17 @@ length-header hertz size = refl
 
 pub length-canonical : (hertz : ℕ) (xs : List ℤ) → length (canonical hertz xs) ≡ 44 + 2 * length xs
 length-canonical hertz xs = omega (arith, length-append (header hertz (2 * length xs)) (sample_bytes xs), length-header hertz (2 * length xs), length-sample_bytes xs)
+
+-- the header that was written, or a refusal, as it is answered
+pub header_answered : {hertz count : ℕ} {out out' : List ℕ} (r : Result ℕ Refusal) → Begun hertz count 44 out r out' → HeaderWritten hertz count out (written_answered r) out'
+header_answered (Err refused) (u, o) = no_header (λ z. omega (arith, u, z, refusal_some refused)) (λ i. record { number = sym u i; length = 0 }) o
+header_answered {hertz} {count} {out} (Ok bytes) (u, e, h, o) =
+    a-header u (λ i. record { number = 0; length = e i }) (o ∙ sets-front out (header hertz (2 * count)) (omega (arith, length-header hertz (2 * count))))
+
+-- the header, and the samples behind it
+pub take_written : {hertz n : ℕ} {xs : List ℤ} {out front out' : List ℕ} → unwritten hertz xs (length out) ≡ 0 → n ≡ 44 + 2 * length xs → front ≡ sets out 0 (header hertz (2 * length xs)) → out' ≡ sets front 44 (sample_bytes xs) →
+    WasWritten hertz xs out (record { number = 0; length = n }) out'
+take_written {hertz} {n} {xs} {out} u e p q =
+    written u (λ i. record { number = 0; length = e i })
+    (stored_then out 0 44 (header hertz (2 * length xs)) (sample_bytes xs) (length-header hertz (2 * length xs)) p q
+    ∙ sets-front out (canonical hertz xs) (omega (arith, length-canonical hertz xs, begun_long hertz (length xs) (44 + 2 * length xs) (length out) u)))

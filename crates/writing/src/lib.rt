@@ -4,7 +4,10 @@
 
 ghost use Rattle.std.specs.Prelude.{◌≡◌, ◌+◌, ◌*◌, ◌^◌, ◌≤◌, ◌<◌, length};
 ghost use Rattle.std.proofs.lemmas.List.Edits.{sets};
-ghost use Rattle.writing.specs.Canonical.{bits_of, sample_bytes, format, header, WasWritten, HeaderWritten};
+ghost use Rattle.wave.specs.Waves.{over};
+ghost use Rattle.writing.specs.Canonical.{sample_bytes, format, header, Begun, written_answered, WasWritten, HeaderWritten};
+
+use refusals::Refusal;
 
 // The bytes before the samples in the canonical form.
 pub const HEADER: usize = 44;
@@ -20,15 +23,18 @@ pub struct WaveWritten {
     pub length: usize,
 }
 
-// A sample as sixteen bits.
-fn bits(x: i16) -> u32
-    ensures { result ≡ bits_of x }
-{
-    let v = x as i32;
-    if v < 0 {
-        return (v + 65536) as u32;
+impl From<Result<usize, Refusal>> for WaveWritten {
+    ghost from_gives = { λ length answered. answered ≡ written_answered length };
+
+    fn from(length: Result<usize, Refusal>) -> WaveWritten {
+        match length {
+            Ok(length) => WaveWritten { number: 0, length },
+            Err(refusal) => WaveWritten {
+                number: refusal.number(),
+                length: 0,
+            },
+        }
     }
-    v as u32
 }
 
 // The sixteen bytes of the canonical fmt.
@@ -56,65 +62,54 @@ pub fn put_header(out: &mut [u8], hertz: u32, size: u32)
     riff::put_head(out, 36, riff::DATA, size);
 }
 
-// The bytes of samples, from a place on.
-pub fn put_samples(out: &mut [u8], at: usize, xs: &[i16])
-    requires { at + 2 * length xs.now ≤ length out.old }
-    ensures { out.new ≡ sets out.old at (sample_bytes xs.now) }
+// The bytes of samples, to the front of an output.
+pub fn put_samples(out: &mut [u8], xs: &[i16])
+    requires { 2 * length xs.now ≤ length out.old }
+    ensures { out.new ≡ over (sample_bytes xs.now) out.old }
 {
-    let mut i: usize = 0;
-    while i < xs.len() {
-        riff::put_two(out, at + 2 * i, bits(xs[i]));
-        i += 1;
+    for (i, x) in xs.iter().enumerate() {
+        riff::put_two(out, 2 * i, u32::from(x.cast_unsigned()));
     }
 }
 
-fn not_written(number: u32) -> WaveWritten
-    ensures { result ≡ record { number = number; length = 0 } }
+// The canonical header before so many samples to the front of an output, where the output has room for so many bytes.
+#[tactic(auto, unfolding(crate::specs::Canonical::unwritten_by, riff::specs::Riff::refused_by))]
+fn begin(hertz: u32, count: usize, length: usize, out: &mut [u8]) -> Result<usize, Refusal>
+    requires { 44 ≤ length }
+    ensures { Begun hertz count length out.old result out.new }
 {
-    WaveWritten {
-        number: number,
-        length: 0,
+    if !wave::known(hertz) {
+        return Err(Refusal::RateUnknown);
     }
+    if LIMIT < count {
+        return Err(Refusal::TakeFull);
+    }
+    if out.len() < length {
+        return Err(Refusal::NoRoom);
+    }
+    put_header(out, hertz, (2 * count) as u32);
+    Ok(length)
+}
+
+// A take in the canonical form, to the front of the output.
+fn write_take(hertz: u32, xs: &[i16], out: &mut [u8]) -> Result<usize, Refusal>
+    ensures { WasWritten hertz xs.now out.old (written_answered result) out.new }
+{
+    let length = begin(hertz, xs.len(), HEADER + 2 * xs.len(), out)?;
+    put_samples(&mut out[HEADER..length], xs);
+    Ok(length)
 }
 
 // Writes a take in the canonical form to the front of the output.
 pub fn write(hertz: u32, xs: &[i16], out: &mut [u8]) -> WaveWritten
     ensures { WasWritten hertz xs.now out.old result out.new }
 {
-    if !wave::known(hertz) {
-        return not_written(16);
-    }
-    if LIMIT < xs.len() {
-        return not_written(7);
-    }
-    let length = HEADER + 2 * xs.len();
-    if out.len() < length {
-        return not_written(25);
-    }
-    put_header(out, hertz, (2 * xs.len()) as u32);
-    put_samples(out, HEADER, xs);
-    WaveWritten {
-        number: 0,
-        length: length,
-    }
+    WaveWritten::from(write_take(hertz, xs, out))
 }
 
 // Writes the canonical header before so many samples to the front of the output.
 pub fn write_header(hertz: u32, count: usize, out: &mut [u8]) -> WaveWritten
     ensures { HeaderWritten hertz count out.old result out.new }
 {
-    if !wave::known(hertz) {
-        return not_written(16);
-    }
-    if LIMIT < count {
-        return not_written(7);
-    }
-    if out.len() < HEADER {
-        return not_written(25);
-    }
-    put_header(out, hertz, (2 * count) as u32);
-    WaveWritten {
-        number: 0,
-        length: HEADER,
-    }
+    WaveWritten::from(begin(hertz, count, HEADER, out))
 }

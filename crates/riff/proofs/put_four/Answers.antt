@@ -1,14 +1,11 @@
--- `riff::put_four` meets its contract: a run of two bytes, and another behind it.
-use mathlib.Core.Path.{ap, ◌∙◌}
-use mathlib.Core.List.{List}
-use Prim.Native.Nat.{ℕ, ◌+◌, ◌/◌}
-use lib.Seq.{sets}
+-- `riff::put_four` meets its contract: the four bytes are those that std has.
+use Rattle.std.proofs.Common.{◌+◌, ◌-◌, ◌∙◌, arith}
 use Rattle.riff.specs.Riff.{bytes_of}
-use Rattle.riff.specs.Numbers.{four-stored}
+use Rattle.riff.specs.Stores.{stored-part}
+use Rattle.riff.specs.Numbers.{four-bytes, length-bytes_of}
 use Rattle.riff.proofs.put_four.Goals as goal
 
 pub returns : goal.returns
 returns c =
-    let q = c in
-    let a = q.args in
-    q.put_two-2.ensures ∙ ap (λ (l : List ℕ). sets l (a.at + 2) (bytes_of 2 (a.n / 65536))) q.put_two.ensures ∙ four-stored a.out.now a.at a.n
+    let n = c.args.n in
+    stored-part c.args.out.now c.args.at (c.args.at + 4 - c.args.at) (bytes_of 4 n) (c.copy_from_slice.ensures.after ∙ c.to_le_bytes.ensures ∙ four-bytes n) (length-bytes_of 4 n ∙ omega arith) (omega arith)

