@@ -1,6 +1,6 @@
--- A store of samples, oldest first: which sample is how far back.
-use Rattle.std.specs.Prelude.{◌≡◌, List, [], ◌∷◌, ℕ, zero, suc, ◌+◌, ◌-◌, ◌≤◌, ◌<◌, ℤ, pos, length, take, set}
-use Rattle.std.proofs.Common.{sym, ◌∙◌, subst, le_refl, arith, add-one, take-suc, take-suc-set, get_or-set_same, get_or-set_other, SFits}
+-- Samples, oldest first: which of them is how far back.
+use Rattle.std.specs.Prelude.{◌≡◌, refl, List, [], ◌∷◌, ℕ, zero, suc, ◌+◌, ◌-◌, ◌≤◌, ◌<◌, ℤ, pos, length, take, set}
+use Rattle.std.proofs.Common.{sym, ◌∙◌, subst, le_refl, arith, add-one, take-suc, take-suc-set, take_all, get_or-set_same, get_or-set_other, SFits}
 use Rattle.std.proofs.Math.Path.{ap}
 use Rattle.std.proofs.Math.Decide.{ℕ_discrete}
 use Rattle.std.proofs.lemmas.List.{take-set-le}
@@ -10,6 +10,10 @@ use Rattle.rules.proofs.Hearing.{heard_all-more, all-heard}
 use Rattle.rules.proofs.Energies.{older-heard}
 use Rattle.rules.specs.Facts.{value_at}
 
+-- the sound of some samples, the newest last
+unfoldable pub past : List ℤ → Sound
+past s = heard_all silence s
+
 -- the sound of the first m samples of a store
 unfoldable pub ago : List ℤ → ℕ → Sound
 ago s m = heard_all silence (take m s)
@@ -17,6 +21,15 @@ ago s m = heard_all silence (take m s)
 -- every sample fits 16 bits
 pub record Samples (s : List ℤ) : Type 0 where
   pub each : (i : ℕ) → SFits w16 (value_at s i)
+
+-- the same, of these samples alone
+pub past-take : (s : List ℤ) (m : ℕ) → past (take m s) ≡ ago s m
+unfolding past ago
+past-take s m = refl
+
+pub past-all : (s : List ℤ) → past s ≡ ago s (length s)
+unfolding past ago
+past-all s = ap (heard_all silence) (sym (take_all (length s) s (le_refl (length s))))
 
 -- ---- one sample more
 module _ (s : List ℤ) (m : ℕ) (h : m < length s) where
@@ -62,6 +75,9 @@ ago-at s (suc m) (suc k) h l =
     let e : m - 1 - k ≡ suc m - 1 - suc k = omega arith in
     ap (λ (n : ℕ). ago s n (suc k)) (sym (add-one m)) ∙ ap (λ (x : Sound). x (suc k)) (ago-next s m h) ∙ ago-at s m k (omega arith) (omega arith) ∙ ap (value_at s) e
 
+pub past_at : (s : List ℤ) (k : ℕ) → k < length s → past s k ≡ value_at s (length s - 1 - k)
+past_at s k l = ap (λ (x : Sound). x k) (past-all s) ∙ ago-at s (length s) k (le_refl (length s)) l
+
 -- ---- 16 bits
 zero-fits : SFits w16 (pos 0)
 zero-fits = record { sfits = omega arith }
@@ -79,3 +95,6 @@ all_fit (suc m) (a ∷ s) x f p = all_fit m s (heard a x) (all-heard (SFits w16)
 pub ago-fits : {s : List ℤ} → Samples s → (m k : ℕ) → SFits w16 (ago s m k)
 unfolding ago
 ago-fits {s} p m k = all_fit m s silence silence-fits p k
+
+pub past-fits : {s : List ℤ} → Samples s → (k : ℕ) → SFits w16 (past s k)
+past-fits {s} p k = rw (past-all s) (ago-fits p (length s) k)
