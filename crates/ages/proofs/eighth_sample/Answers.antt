@@ -1,12 +1,11 @@
 use Rattle.std.proofs.Common.{◌≡◌, ap, ◌∙◌, ℕ, ◌^◌, arith, to_z-of_z, SFits, to_z, of_z}
-use Rattle.std.specs.Prelude.{nat_abs}
 use Rattle.std.specs.Int.{w16, w32}
-use Rattle.whole.specs.Words.{Bits, held, arg≤, shr, loop, fit, is, ok_of}
+use Rattle.whole.specs.Words.{Bits, arg, shr, loop, fit, is, ok_of}
 use Rattle.whole.specs.Adding.{summed-start, summed}
 use Rattle.whole.specs.Numbers.{floor_div, sum}
 use Rattle.rules.specs.Rules.{eighth_sample}
 use Rattle.rules.proofs.Hearing.{eighth-fits}
-use Rattle.ages.specs.Ages.{past, past-fits}
+use Rattle.ages.specs.Ages.{past, past-fits, from_bits}
 use Rattle.ages.proofs.eighth_sample.Goals.{After-loop-k}
 use Rattle.ages.proofs.eighth_sample.Goals as goal
 
@@ -15,10 +14,8 @@ loop-k-init c = summed-start _ _
 
 pub loop-k-preserved : goal.loop-k-preserved
 loop-k-preserved c =
-    let e : c.from-sum.result ≡ past c.args.s.now c.loop-k.k = c.from-sum.ensures ∙ to_z-of_z {w = w16} {z = c.back.result} (record { sfits = c.back.type_inv }) ∙ c.back.ensures in
-    let x : Bits w32 (2 ^ 15) (of_z w32 c.from-sum.result) (past c.args.s.now c.loop-k.k) =
-    is e (arg≤ (omega (arith, ap nat_abs e, (held (past-fits c.requires.1 c.loop-k.k)).within)) (record { sfits = c.from-sum.type_inv })) in
-    summed 8 c.loop-k.invariant x (omega arith) tt
+    let x : Bits w16 (2 ^ 15) (of_z w16 c.back.result) (past c.args.s.now c.loop-k.k) = is c.back.ensures (arg (record { sfits = c.back.type_inv })) in
+    summed 8 c.loop-k.invariant (from_bits {w' = w32} x c.from-sum.ensures (record { sfits = c.from-sum.type_inv })) (omega arith) tt
 
 -- the sum of eight, by 8: an eighth-rate sample, which has 16 bits
 shifted : (c : After-loop-k) → to_z w32 (of_z w32 (floor_div (to_z w32 c.loop-k.sum-bits) 8)) ≡ eighth_sample (past c.args.s.now)
