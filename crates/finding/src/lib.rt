@@ -42,19 +42,17 @@ fn greatest(e: &[u64; EIGHTH_LAGS], g: Settings) -> u64
     u64::from(g.eps) * e[LAST_EIGHTH_LAG] / 1024
 }
 
-// The next lag, from l down, whose D is not too great, and 2 where there is none. (Apart from the scan below, since it takes 3 instructions a lag so.)
+// The next lag, from l down, whose D is not too great, and 2 where there is none.
 fn next_down(d: &[u64; EIGHTH_LAGS], most: u64, l: usize) -> usize
     requires { (2 ≤ l) × (l ≤ 109) }
     ensures { Passed d.now most result l }
 {
-    let mut k = l;
-    while 2 < k {
+    for k in (3..l + 1).rev() {
         if d[k - 2] <= most {
             return k;
         }
-        k -= 1;
     }
-    k
+    2
 }
 
 // The lag l is looked at, after those above it.
@@ -83,6 +81,7 @@ fn two_least(d: &[u64; EIGHTH_LAGS], e: &[u64; EIGHTH_LAGS], g: Settings) -> Low
         second: None,
     };
     let mut l = next_down(d, most, LONGEST_LOW);
+    // Stays: a loop over `next_down`, whose own loop takes 3 instructions a lag; in one loop over all lags each took more.
     while 2 < l {
         t = with_lag(d, e, g, l, t);
         l = next_down(d, most, l - 1);
