@@ -206,7 +206,7 @@ fn heard_right(
     if !silent(eighths, before(count / 8, KEPT_EIGHTHS)) {
         return false;
     }
-    sums::eighths_right(energies, correlations, eighths, KEPT_EIGHTHS)
+    sums::eighths_right(energies, correlations, eighths)
 }
 
 // Either a period, a wanted note or none, and a rate in their ranges, or no period and the rate 65536; and what is kept, 0 to 255.
@@ -241,7 +241,7 @@ fn tracker_right(t: Tracker, store: &[i16]) -> bool
     }
     let e = t.e;
     let h = t.h;
-    sums::all_right(&e, &h, t.low as usize, store, KEPT_SAMPLES)
+    sums::all_right(&e, &h, t.low as usize, store)
 }
 
 // The pitch: searching without a period, or tracking the eight lags.

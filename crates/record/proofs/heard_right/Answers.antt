@@ -22,7 +22,7 @@ returns-then-not-silent-2 c = refused (λ p. (silent_of c.args.eighths.now 224 _
 pub eighths_right-requires : goal.eighths_right-requires
 eighths_right-requires c =
     let k = c.requires in
-    (record { samples = k.eighths_fit; long = omega (arith, k.eighths); from = omega arith; upto = omega (arith, k.energies); reach = omega (arith, k.energies) }, omega (arith, k.energies, k.correlations))
+    (record { samples = k.eighths_fit; from = omega arith; upto = omega (arith, k.energies); reach = omega (arith, k.energies, k.eighths) }, omega (arith, k.energies, k.correlations))
 
 pub returns : goal.returns
 returns c =

@@ -24,7 +24,7 @@ pub all_right-requires : goal.all_right-requires
 all_right-requires c =
     let low = c.within.ensures.yes c.if-not-within.false in
     let n = lengths (goal.at.all_right-requires c).Start in
-    (record { samples = c.requires.1; long = omega arith; from = omega arith; upto = omega arith; reach = omega arith }, omega arith)
+    (record { samples = c.requires.1; from = omega arith; upto = omega arith; reach = omega (arith, c.requires.0) }, omega arith)
 
 pub returns : goal.returns
 returns c =
