@@ -1,6 +1,6 @@
 // A MIDI keyboard: which key is held after some bytes, on one chosen channel.
 
-#![tactic(auto)]
+#![tactic(auto, using(std::proofs::lemmas::Bool::Decides::nat_tests), unfolding(crate::specs::Keys::data_bytes, crate::specs::Keys::released, crate::specs::Keys::key_after, crate::specs::Keys::after_data, crate::specs::Keys::after_byte, crate::specs::Keys::on_channel))]
 
 ghost use Rattle.std.specs.Prelude.{◌≡◌};
 ghost use Rattle.whole.specs.Tests.{Decides};
@@ -62,7 +62,6 @@ pub fn fresh() -> Keyboard
 }
 
 // How many data bytes a status has.
-#[tactic(auto, using(std::proofs::lemmas::Bool::Decides::nat_tests), unfolding(crate::specs::Keys::data_bytes))]
 fn data_bytes(status: u16) -> u32
     ensures { result ≡ data_bytes status }
 {
@@ -74,7 +73,6 @@ fn data_bytes(status: u16) -> u32
 }
 
 // The key after the release of a note.
-#[tactic(auto, using(std::proofs::lemmas::Bool::Decides::nat_tests), unfolding(crate::specs::Keys::released))]
 fn released(key: u32, note: u32) -> u32
     ensures { result ≡ released key note }
 {
@@ -82,7 +80,6 @@ fn released(key: u32, note: u32) -> u32
 }
 
 // The key after a whole message of two data bytes.
-#[tactic(auto, using(std::proofs::lemmas::Bool::Decides::nat_tests), unfolding(crate::specs::Keys::key_after))]
 fn key_after(channel: u32, key: u32, status: u16, note: u16, velocity: u8) -> u32
     ensures { result ≡ key_after channel key status note velocity }
 {
@@ -103,7 +100,6 @@ fn key_after(channel: u32, key: u32, status: u16, note: u16, velocity: u8) -> u3
 }
 
 // The keyboard after a data byte.
-#[tactic(auto, using(std::proofs::lemmas::Bool::Decides::nat_tests), unfolding(crate::specs::Keys::after_data))]
 fn after_data(channel: u32, k: Keyboard, b: u8) -> Keyboard
     ensures { result ≡ after_data channel k b }
 {
@@ -120,7 +116,6 @@ fn after_data(channel: u32, k: Keyboard, b: u8) -> Keyboard
 }
 
 // The keyboard after a byte.
-#[tactic(auto, using(std::proofs::lemmas::Bool::Decides::nat_tests), unfolding(crate::specs::Keys::after_byte))]
 pub fn byte(channel: u32, k: Keyboard, b: u8) -> Keyboard
     ensures { result ≡ after_byte channel k b }
 {
@@ -166,7 +161,6 @@ pub fn right(k: Keyboard) -> bool
 }
 
 // The keyboard when a channel is chosen: another than that in force begins anew.
-#[tactic(auto, using(std::proofs::lemmas::Bool::Decides::nat_tests), unfolding(crate::specs::Keys::on_channel))]
 pub fn on_channel(in_force: u32, chosen: u32, k: Keyboard) -> Keyboard
     ensures { result ≡ on_channel in_force chosen k }
 {
