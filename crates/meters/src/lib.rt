@@ -27,6 +27,7 @@ pub enum Meter {
 }
 
 // n / 256.
+// Stays: one function of n and d for this and the next two would have to ask that d is a power of two.
 fn figure(n: u32) -> f32
     requires { n < 2 ^ 24 }
     ensures { Exactly n 256 result }
@@ -42,6 +43,7 @@ fn fine_figure(n: u32) -> f32
     n as f32 / 65536.0
 }
 
+// n / 1.
 fn lag_figure(lag: u32) -> f32
     requires { lag < 2 ^ 24 }
     ensures { Exactly lag 1 result }
@@ -55,15 +57,14 @@ pub fn shown(hertz: u32, v: Pitch) -> Meter
     ensures { (result ≡ shown_of hertz v) × Exact hertz v result }
 {
     if v.tracking != 1 {
-        return Meter::Searching;
+        Meter::Searching
+    } else if v.tone.period == 0 {
+        Meter::Locking(lag_figure(v.tracker.last))
+    } else {
+        Meter::Pitched(Figures {
+            period: figure(v.tone.period),
+            wanted: figure(notes::wanted_period(hertz, v.tone.note)),
+            rate: fine_figure(v.tone.rate),
+        })
     }
-    if v.tone.period == 0 {
-        return Meter::Locking(lag_figure(v.tracker.last));
-    }
-    let wanted = notes::wanted_period(hertz, v.tone.note);
-    Meter::Pitched(Figures {
-        period: figure(v.tone.period),
-        wanted: figure(wanted),
-        rate: fine_figure(v.tone.rate),
-    })
 }

@@ -33,18 +33,14 @@ returns-then-v-eq0 c =
     let on = c.if-v-ne1.false in
     (ap Meter.Locking f.is ∙ when-locking _ _ on c.if-v-eq0.true, locking f.exact)
 
-pub figure-requires-2 : goal.figure-requires-2
-figure-requires-2 c =
-    let s = c in
-    rw c.wanted_period-wanted.ensures (omega (arith, wanted_period_upto s.requires.0 s.args.v.tone.note))
+pub figure-requires-else-v-eq0 : goal.figure-requires-else-v-eq0
+figure-requires-else-v-eq0 c = rw c.wanted_period.ensures (omega (arith, wanted_period_upto c.requires.0 c.args.v.tone.note))
 
-pub returns : goal.returns
-returns c =
-    let at = c in
-    let a = at.args in
+pub returns-else-v-eq0 : goal.returns-else-v-eq0
+returns-else-v-eq0 c =
+    let a = c.args in
     let v = a.v in
     let p = c.figure.ensures in
-    let w : Exactly (wanted_period a.hertz v.tone.note) 256 c.figure-2.result = rw c.wanted_period-wanted.ensures at c.figure-2.ensures in
+    let w : Exactly (wanted_period a.hertz v.tone.note) 256 c.figure-else-v-eq0.result = rw c.wanted_period.ensures at c.figure-else-v-eq0.ensures in
     let r = c.fine_figure.ensures in
-    let on = at.if-v-ne1.false in
-    ((cc (p.is, w.is, r.is)) ∙ when-pitched a.hertz v on at.if-v-eq0.false, pitched p.exact w.exact r.exact)
+    ((cc (p.is, w.is, r.is)) ∙ when-pitched a.hertz v c.if-v-ne1.false c.if-v-eq0.false, pitched p.exact w.exact r.exact)
