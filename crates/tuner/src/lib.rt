@@ -343,7 +343,7 @@ fn hush_if(notes: &mut [u32; LONGEST_BLOCK], periods: &[u32; LONGEST_BLOCK], b: 
     if b as u32 <= pitched {
         return;
     }
-    lists::hush(notes, periods, b);
+    lists::hush(&mut notes[..b], &periods[..b]);
 }
 
 // The list of a tuner that keeps one goes on with the notes sung of b samples, so many of them with a period.
@@ -365,7 +365,7 @@ fn listed(
         return list;
     }
     hush_if(notes, periods, b, pitched);
-    lists::more(list, lists::sung(tone), notes, b, count, store)
+    lists::more(list, lists::sung(tone), &notes[..b], count, store)
 }
 
 // The lead reads at the rates of b samples; its output goes to its part of what is kept.
@@ -447,7 +447,7 @@ fn follow(
         length: b as u16,
         repeated: g.repeated as u16,
         dropped: g.dropped as u16,
-        pitched: b as u32 - lists::count_of(periods, b, 0),
+        pitched: b as u32 - lists::count_of(&periods[..b], 0),
         strayed: strayed(rates, b),
     };
     let vs = n.voices;

@@ -5,7 +5,7 @@ use native.Mathlib.Omega.{arith}
 use lib.ListN.{take, drop, length-append, length-drop}
 use lib.Seq.{length-take-le}
 use Rattle.rules.proofs.Table.{rate-upto}
-use Rattle.lists.proofs.Counting.{counted-within}
+use Rattle.lists.proofs.Counting.{counted-within, counted-front}
 use Rattle.reports.specs.Counting.{pitched_in}
 use Rattle.tuner.proofs.Outputs.{glided-long}
 use Rattle.tuner.specs.Taking.{numbers_with}
@@ -19,7 +19,10 @@ pub led-g-requires : goal.led-g-requires
 led-g-requires c = let p = c.requires in (p.near, p.paced, p.stored, p.few, length-take-le 512 c.args.outs.now (omega (arith, p.places)))
 
 pub overflow_sub-last : goal.overflow_sub-last
-overflow_sub-last c = let a = c.args in omega (arith, c.count_of.ensures, counted-within 0 a.periods.now a.b)
+overflow_sub-last c =
+    let a = c.args in
+    let p = c.requires in
+    omega (arith, c.count_of.ensures ∙ counted-front 0 a.periods.now a.b (omega (arith, p.few, p.long.periods)), counted-within 0 a.periods.now a.b)
 
 pub overflow_cast-n-2 : goal.overflow_cast-n-2
 overflow_cast-n-2 c = omega (arith, rate-upto c.requires.hertz)
@@ -35,7 +38,7 @@ pub listed-goes_on-requires : goal.listed-goes_on-requires
 listed-goes_on-requires c =
     let a = c.args in
     let p = c.requires in
-    (p.few, p.long.notes, p.long.periods, p.count, p.list, omega (arith, c.count_of.ensures, counted-within 0 a.periods.now a.b))
+    (p.few, p.long.notes, p.long.periods, p.count, p.list, omega (arith, c.count_of.ensures ∙ counted-front 0 a.periods.now a.b (omega (arith, p.few, p.long.periods)), counted-within 0 a.periods.now a.b))
 
 pub shape_of-outs : goal.shape_of-outs
 shape_of-outs c = c.all_sung-beside.ensures.long ∙ sym c.requires.places
@@ -49,7 +52,7 @@ returns c =
     let on = c.listed-goes_on in
     let w = c.settled-r in
     let many = c.count_of in
-    let pitched : a.b - many.result ≡ pitched_in (take a.b a.periods.now) = omega (arith, many.ensures, pitched-counted a.periods.now a.b (omega (arith, p.few, p.long.periods))) in
+    let pitched : a.b - many.result ≡ pitched_in (take a.b a.periods.now) = omega (arith, many.ensures ∙ counted-front 0 a.periods.now a.b (omega (arith, p.few, p.long.periods)), pitched-counted a.periods.now a.b (omega (arith, p.few, p.long.periods))) in
     record {
       followed = record {
         lead = d.result;
