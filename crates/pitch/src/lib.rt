@@ -24,6 +24,7 @@ pub struct Pitch {
 }
 
 // No period, no wanted note, the rate 65536 and nothing kept.
+#[tactic(auto, unfolding(rules::specs::Rules::no_tone))]
 pub fn no_tone() -> Tone
     ensures { result ≡ no_tone }
 {

@@ -24,12 +24,6 @@ returns-else-n-eq0 c =
       pitch = λ y r. b.pitch ∙ sym (listened-on a.f a.n (past a.s.now) y a.v k.if-v-eq1.true c.if-n-eq0.false);
     }
 
-pub search-requires : goal.search-requires
-search-requires c =
-    let k = c in
-    let p = k.requires in
-    (still-searching p.0 k.if-v-eq1.false, p.1, p.2, p.3)
-
 pub returns-then-n-eq0-2 : goal.returns-then-n-eq0-2
 returns-then-n-eq0-2 c =
     let k = c in

@@ -9,12 +9,6 @@ step-requires c =
     let l = lags_of p.1 p.0 in
     (l.from, omega (arith, l.upto), omega (arith, l.last_upto, l.upto), modest p.2, p.3, p.1.sums p.0)
 
-pub tune-requires : goal.tune-requires
-tune-requires c =
-    let p = c.requires in
-    let m = c.in-Some.ensures.moved in
-    (p.2, p.1.pitch.tone, m.from, m.upto)
-
 pub returns-in-Some : goal.returns-in-Some
 returns-in-Some c = became_tuned c.args.f c.args.v c.requires.2 c.requires.1.pitch.tone c.in-Some.ensures c.tune.ensures
 
