@@ -181,7 +181,7 @@ fn heard_right(
     count <= rules::TAKE_LIMIT
         && silent(store, before(count, KEPT_SAMPLES))
         && silent(eighths, before(count / 8, KEPT_EIGHTHS))
-        && sums::eighths_right(energies, correlations, eighths, KEPT_EIGHTHS)
+        && sums::eighths_right(energies, correlations, eighths)
 }
 
 // Either a period, a wanted note or none, and a rate in their ranges, or no period and the rate 65536; and what is kept, 0 to 255.
@@ -211,7 +211,7 @@ fn tracker_right(t: Tracker, store: &[i16; KEPT_SAMPLES]) -> bool
     requires { Samples store.now }
     ensures { Decides result (TrackerRight (sound_of store.now) t) }
 {
-    lags_right(t.low, t.last) && sums::all_right(&t.e, &t.h, t.low as usize, store, KEPT_SAMPLES)
+    lags_right(t.low, t.last) && sums::all_right(&t.e, &t.h, t.low as usize, store)
 }
 
 // The pitch: searching without a period, or tracking the eight lags.
