@@ -95,14 +95,6 @@ module _ {t t' : Tuner} {k : ℕ} {xs : List ℤ} {os os' : List (List ℤ)} {st
 pub nothing-small : (v : ℕ) (m : Numbers) {n : NightAnswer} → n ≡ no_night v m → Small n × (n.taken ≡ 0)
 nothing-small v m e = subst (λ (n : NightAnswer). Small n × (n.taken ≡ 0)) (sym e) (record { written = omega arith; repeated = omega arith; dropped = omega arith; pitched = omega arith; strayed = omega arith }, refl)
 
--- a refusal gives its own number
-pub added-refused : (v : ℕ) (n : NightAnswer) (k : ℕ) (a : Answer) → 1 < v
-    → record { number = v; refused = k; taken = n.taken; written = n.written; repeated = n.repeated; dropped = n.dropped; pitched = n.pitched; strayed = n.strayed; again = n.again; rows = a.rows; left = a.left } ≡ added_by v n k a
-unfolding added_by
-added-refused zero n k a h = absurd (omega arith)
-added-refused (suc zero) n k a h = absurd (omega arith)
-added-refused (suc (suc v)) n k a h = refl
-
 -- ---- stretches
 
 enough : (n m size : ℕ) (l : List ℤ) → 0 < size → length l ≤ n → length l ≤ m → first_stretches n size l ≡ first_stretches m size l

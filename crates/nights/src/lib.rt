@@ -64,6 +64,7 @@ impl NightAnswer {
     }
 
     // One single call more, of the block with this number.
+    #[tactic(auto, unfolding(crate::specs::Night::added_by))]
     fn add(&mut self, number: u16, a: Answer)
         requires { Small self.old × (self.old.taken ≤ take_limit) }
         ensures { (self.new ≡ added self.old number a) × Small self.new }

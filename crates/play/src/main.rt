@@ -10,6 +10,7 @@ ghost use Rattle.tuner.specs.Tuners.{Took};
 
 use meters::Meter;
 use nights::NightAnswer;
+use refusals::Refusal;
 use rules::{CD_RATE, Settings};
 use std::array;
 use std::io::{self, ErrorKind, Read};
@@ -73,4 +74,148 @@ fn say(rt: &impl Print, a: Answer) -> io::Result<()> {
 fn tell(rt: &impl Print, a: NightAnswer) -> io::Result<()> {
     print!(rt; "{} {} {} {} {} {} ", a.number, a.refused, a.taken, a.written, a.repeated, a.dropped)?;
     say(rt, a.again)
+}
+
+// What a start, a change, keyboard bytes and a reset answer: a number, and counts 0.
+fn told(rt: &impl Print, answer: Result<(), Refusal>) -> io::Result<()> {
+    print!(rt; "{} 0 0 0 ", refusals::number(answer))
+}
+
+// ---- the calls
+
+// A start without a list and without voices.
+fn start(rt: &impl Print, t: &mut Tuner, hertz: u32, s: Settings) -> io::Result<()> {
+    told(rt, t.start(hertz, s, 0, &[], &[]))
+}
+
+fn midi(rt: &impl Print, t: &mut Tuner, b: &[u8; 1054]) -> io::Result<()> {
+    let n = most(word(b, 4));
+    told(rt, t.midi(&b[28..28 + n]))
+}
+
+// A block that lends nothing but its samples and the lead's output, by the call that the script names: 4 is the tuner's own, 11 the one in place.
+fn given(
+    op: u8,
+    t: &mut Tuner,
+    number: u16,
+    samples: &[i16],
+    out: &mut [i16],
+    first: &mut [i16],
+    second: &mut [i16],
+    third: &mut [i16],
+    store: &mut [u32],
+) -> Answer
+    ensures { Took t.old number samples.now (four out.old first.old second.old third.old) store.old
+        t.new result (four out.new first.new second.new third.new) store.new }
+{
+    if op == 4 {
+        t.block(number, samples, out, first, second, third, store)
+    } else {
+        host::block_in_place(t, number, samples, out, first, second, third, store)
+    }
+}
+
+// A block, with an output of so much room; all of the output is shown, what is not written too.
+fn block(rt: &impl Print, op: u8, t: &mut Tuner, b: &[u8; 1054]) -> io::Result<()> {
+    let n = most(word(b, 4));
+    let room = most(word(b, 6));
+    let xs = samples(b);
+    let mut out = [7i16; 513];
+    let a = given(
+        op,
+        t,
+        word(b, 2),
+        &xs[..n],
+        &mut out[..room],
+        &mut [],
+        &mut [],
+        &mut [],
+        &mut [],
+    );
+    say(rt, a)?;
+    show_all(rt, &out[..room])
+}
+
+// A night, shown like a block.
+fn night(rt: &impl Print, t: &mut Tuner, b: &[u8; 1054]) -> io::Result<()> {
+    let n = most(word(b, 4));
+    let room = most(word(b, 6));
+    let size = long(b, 8) as usize;
+    let xs = samples(b);
+    let mut out = [7i16; 513];
+    let a = nights::night(
+        t,
+        word(b, 2),
+        size,
+        &xs[..n],
+        &mut out[..room],
+        &mut [],
+        &mut [],
+        &mut [],
+        &mut [],
+    );
+    tell(rt, a)?;
+    show_all(rt, &out[..room])
+}
+
+fn meter(rt: &impl Print, t: &Tuner) -> io::Result<()> {
+    let state = match t.meter() {
+        Meter::Searching => 0,
+        Meter::Locking(_) => 1,
+        Meter::Pitched(_) => 2,
+        Meter::Refused => 3,
+    };
+    print!(rt; "{state} ")
+}
+
+// A stretch of the samples of the record, by its number.
+fn stretch(rt: &impl Print, b: &[u8; 1054]) -> io::Result<()> {
+    let xs = samples(b);
+    let s = cutting::cut(&xs, usize::from(word(b, 2)));
+    print!(rt; "{} ", s.len())?;
+    match s.first() {
+        Some(x) => show(rt, *x),
+        None => Ok(()),
+    }
+}
+
+// The record with its count near the take's limit, its phases kept.
+fn age(t: &mut Tuner) {
+    let n = &mut t.numbers;
+    if n.count < 999999990 {
+        n.count += 40 * ((999999990 - n.count) / 40);
+    }
+}
+
+// The call that byte 0 names; 7, 8 and 9 make the record another by hand.
+fn play(rt: &impl Print, t: &mut Tuner, b: &[u8; 1054]) -> io::Result<()> {
+    match b[0] {
+        0 => start(rt, t, long(b, 8), settings(b))?,
+        1 => start(rt, t, CD_RATE, record::default_settings())?,
+        2 => told(rt, t.change(settings(b)))?,
+        3 => told(rt, t.reset(&[]))?,
+        4 | 11 => block(rt, b[0], t, b)?,
+        5 => meter(rt, t)?,
+        6 => stretch(rt, b)?,
+        7 => t.numbers.behind = 65536001,
+        8 => age(t),
+        9 => t.numbers.behind = 0,
+        10 => midi(rt, t, b)?,
+        _ => night(rt, t, b)?,
+    }
+    println!(rt)
+}
+
+fn main(rt: HostRuntime) -> io::Result<()> {
+    let mut input = rt.stdin();
+    let mut t = Tuner::default();
+    for _ in 0..u64::MAX {
+        let mut b = [0u8; 1054];
+        match input.read_exact(&mut b) {
+            Ok(()) => play(&rt, &mut t, &b)?,
+            Err(error) if error.kind() == ErrorKind::UnexpectedEof => return Ok(()),
+            Err(error) => return Err(error),
+        }
+    }
+    Ok(())
 }
