@@ -166,7 +166,9 @@ pub fn daxfolin_night(
     ensures { Nighted lent.old number size samples.now (four out.old first.old second.old third.old) store.old
         lent.new result (four out.new first.new second.new third.new) store.new }
 {
-    nights::night(lent, number, size, samples, out, first, second, third, store)
+    nights::night(
+        lent, number, size, samples, out, first, second, third, store,
+    )
 }
 
 // What the meter shows.

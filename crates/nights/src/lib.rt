@@ -163,9 +163,7 @@ fn go(
     let mut next = number;
     let mut at = 0;
     for stretch in samples.chunks(size) {
-        let a = block_at(
-            t, next, stretch, at, out, first, second, third, store,
-        );
+        let a = block_at(t, next, stretch, at, out, first, second, third, store);
         sum.add(next, a);
         if a.number > 1 {
             return sum;

@@ -72,7 +72,10 @@ fn say(rt: &impl Print, a: Answer) -> io::Result<()> {
 }
 
 fn tell(rt: &impl Print, a: NightAnswer) -> io::Result<()> {
-    print!(rt; "{} {} {} {} {} {} ", a.number, a.refused, a.taken, a.written, a.repeated, a.dropped)?;
+    print!(rt;
+        "{} {} {} {} {} {} ",
+        a.number, a.refused, a.taken, a.written, a.repeated, a.dropped
+    )?;
     say(rt, a.again)
 }
 

@@ -29,8 +29,8 @@ answer-requires c h =
     let t = a.t.now in
     let stays = c.requires.0 in
     let left =
-        left_by t a.number a.samples.now a.store.now c.judge-verdict.result c.eq.ensures
-        (elim c.if-eq.branch [ then-eq w ↦ inl (w.if-eq.true, w.t-is ∙ w.take.ensures.tuner, w.store-is ∙ w.take.ensures.rows) | else-eq w ↦ inr (w.if-eq.false, w.t-is, w.store-is) ]) in
+    left_by t a.number a.samples.now a.store.now c.judge-verdict.result c.eq.ensures
+    (elim c.if-eq.branch [ then-eq w ↦ inl (w.if-eq.true, w.t-is ∙ w.take.ensures.tuner, w.store-is ∙ w.take.ensures.rows) | else-eq w ↦ inr (w.if-eq.false, w.t-is, w.store-is) ]) in
     let many = ap (λ (u : Tuner). u.numbers.chosen) left.0 ∙ chosen_by (judged_number c.judge-verdict.result) t a.number a.samples.now a.store.now in
     let long = ap (λ (u : Tuner). u.numbers.last.length) left.0 ∙ last-by a.store.now p stays.1.heard h in
     (omega (arith, many, stays.0.voices.few), omega (arith, long, (verdict-fits p h).most), room_after t _ _ _ _ _ long many c.requires.1)
@@ -41,6 +41,6 @@ returns c =
     let a = c.args in
     let t = a.t.now in
     let left =
-        left_by t a.number a.samples.now a.store.now c.judge-verdict.result c.eq.ensures
-        (elim c.if-eq.branch [ then-eq w ↦ inl (w.if-eq.true, w.t-is ∙ w.take.ensures.tuner, w.store-is ∙ w.take.ensures.rows) | else-eq w ↦ inr (w.if-eq.false, w.t-is, w.store-is) ]) in
+    left_by t a.number a.samples.now a.store.now c.judge-verdict.result c.eq.ensures
+    (elim c.if-eq.branch [ then-eq w ↦ inl (w.if-eq.true, w.t-is ∙ w.take.ensures.tuner, w.store-is ∙ w.take.ensures.rows) | else-eq w ↦ inr (w.if-eq.false, w.t-is, w.store-is) ]) in
     took_by p left.0 refl (λ h. ap (λ (u : Tuner). u.numbers.last.length) left.0 ∙ last-by a.store.now p c.requires.0.1.heard h) c.answer.ensures.answer c.answer.ensures.outs left.1

@@ -14,11 +14,13 @@ loop-stretch-init c =
     let os = four a.out.now a.first.now a.second.now a.third.now in
     let gives = c.into_iter-stretch-iterator.ensures.into_iter_gives in
     let e = ap chunks_rest gives ∙ c.chunks-stretch-items.ensures.rest in
-    let b = c.begin-sum.ensures in
-    (ap chunks_size gives ∙ c.chunks-stretch-items.ensures.size, omega (arith, ap length e),
-    subst (λ (l : List ℤ). Going a.t.now a.number a.size (no_night 0 a.t.now.numbers) a.samples.now os a.store.now a.t.now a.number 0 l c.begin-sum.result os a.store.now) (sym e)
-    (subst (λ (n : NightAnswer). Going a.t.now a.number a.size (no_night 0 a.t.now.numbers) a.samples.now os a.store.now a.t.now a.number 0 a.samples.now n os a.store.now) (sym b)
-    (go-begins a.t.now a.number a.size a.samples.now os a.store.now r.1 r.2)))
+    let b = c.begin-sum.ensures in (
+      ap chunks_size gives ∙ c.chunks-stretch-items.ensures.size,
+      omega (arith, ap length e),
+      subst (λ (l : List ℤ). Going a.t.now a.number a.size (no_night 0 a.t.now.numbers) a.samples.now os a.store.now a.t.now a.number 0 l c.begin-sum.result os a.store.now) (sym e)
+          (subst (λ (n : NightAnswer). Going a.t.now a.number a.size (no_night 0 a.t.now.numbers) a.samples.now os a.store.now a.t.now a.number 0 a.samples.now n os a.store.now) (sym b)
+          (go-begins a.t.now a.number a.size a.samples.now os a.store.now r.1 r.2)),
+    )
 
 pub block_at-a-requires-clause-good : goal.block_at-a-requires-clause-good
 block_at-a-requires-clause-good c = c.loop-stretch.invariant.2.stays
@@ -49,9 +51,11 @@ returns-then-a-gt1 c =
 pub loop-stretch-preserved : goal.loop-stretch-preserved
 loop-stretch-preserved c =
     let s = c.in-Some.ensures.steps in
-    let i = c.loop-stretch.invariant in
-    (s.0 ∙ i.0, omega (arith, i.1, ap length s.1.0, length-append c.in-Some.stretch.now (chunks_rest c.next.new.self)),
-    go-more (chunks_rest c.next.new.self) c.requires.0 s.1.0 (omega (arith, s.1.1, i.0)) s.1.2 c.block_at-a.ensures c.add.ensures.0 i.2 (omega (arith, c.if-a-gt1.false)) c.add.ensures.1)
+    let i = c.loop-stretch.invariant in (
+      s.0 ∙ i.0,
+      omega (arith, i.1, ap length s.1.0, length-append c.in-Some.stretch.now (chunks_rest c.next.new.self)),
+      go-more (chunks_rest c.next.new.self) c.requires.0 s.1.0 (omega (arith, s.1.1, i.0)) s.1.2 c.block_at-a.ensures c.add.ensures.0 i.2 (omega (arith, c.if-a-gt1.false)) c.add.ensures.1,
+    )
 
 pub returns : goal.returns
 returns c = let s = c.in-None.ensures.steps in go-ends s.1.0 c.loop-stretch.invariant.2
