@@ -1,6 +1,6 @@
 -- Samples laid into a store, and the kept samples with what comes after them in one store.
-use Rattle.std.specs.Prelude.{◌≡◌, refl, List, [], ◌∷◌, ◌++◌, ℕ, zero, suc, ◌+◌, ◌-◌, ◌≤◌, ℤ, pos, take, drop, replicate}
-use Rattle.std.proofs.Common.{sym, ◌∙◌, append-nil, zero-add, add-zero, suc-add, arith, length-append, length-drop, drop_of_length-le, length-take-le, take-take, drop_at, SFits}
+use Rattle.std.specs.Prelude.{◌≡◌, refl, List, [], ◌∷◌, ◌++◌, ℕ, zero, suc, ◌+◌, ◌≤◌, ℤ, pos, take, drop, replicate}
+use Rattle.std.proofs.Common.{sym, ◌∙◌, append-nil, zero-add, add-zero, suc-add, arith, length-append, length-drop, length-take-le, take-take, drop_at, SFits}
 use Rattle.std.proofs.Math.Path.{ap}
 use Rattle.std.proofs.Math.ListN.{length}
 use Rattle.std.proofs.Math.Seq.{take-nil, take_at}
@@ -52,18 +52,6 @@ zeros_fit n = record { each = λ i. zero-at n i }
     zero-at zero i = record { sfits = omega arith }
     zero-at (suc n) zero = record { sfits = omega arith }
     zero-at (suc n) (suc i) = zero-at n i
-
--- as long as the store: nothing of it is left
-pub laid-all : (z xs : List ℤ) → length xs ≡ length z → laid z 0 xs ≡ xs
-laid-all z xs e =
-    let h : length z ≤ 0 + length xs = omega arith in
-    ap (λ (l : List ℤ). xs ++ l) (drop_of_length-le z h) ∙ append-nil xs
-
--- a part of k samples laid into a store of as many
-pub laid-part : (z all : List ℤ) (n k to : ℕ) → length z ≡ k → to ≡ n + k → to ≤ length all → laid z 0 (take (to - n) (drop n all)) ≡ take k (drop n all)
-laid-part z all n k to e t h =
-    let w : to - n ≡ k = omega arith in
-    laid-all z (take (to - n) (drop n all)) (length-take-le (to - n) (drop n all) (omega (arith, length-drop n all)) ∙ w ∙ sym e) ∙ ap (λ (m : ℕ). take m (drop n all)) w
 
 laid-starts : (z xs : List ℤ) (from : ℕ) → from ≤ length z → take (from + length xs) (laid z from xs) ≡ take from z ++ xs
 laid-starts z xs from h =

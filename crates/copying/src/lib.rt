@@ -12,11 +12,9 @@ pub fn lay(into: &mut [i16], from: usize, xs: &[i16])
     ensures laid { into.new ≡ laid into.old from xs.now }
     ensures samples { Samples into.old → Samples into.new }
 {
-    let mut i: usize = 0;
-    while i < xs.len() {
-        let x = xs[i];
-        into[from + i] = x;
-        i += 1;
+    // Stays: a loop, since after `copy_from_slice` a proof does not know that the copied samples have 16 bits.
+    for (i, x) in xs.iter().enumerate() {
+        into[from + i] = *x;
     }
 }
 
@@ -42,8 +40,7 @@ pub fn keep(into: &mut [i16], all: &[i16], n: usize)
     requires { n + length into.old ≤ length all.now }
     ensures { into.new ≡ take (length into.old) (drop n all.now) }
 {
-    let to = n + into.len();
-    lay(into, 0, &all[n..to]);
+    into.copy_from_slice(&all[n..n + into.len()]);
 }
 
 // Writes the first n of the kept samples.
@@ -51,16 +48,12 @@ pub fn give(kept: &[i16], out: &mut [i16], n: usize)
     requires { (n ≤ length kept.now) × (n ≤ length out.old) }
     ensures { out.new ≡ take n kept.now ++ drop n out.old }
 {
-    lay(out, 0, &kept[..n]);
+    out[..n].copy_from_slice(&kept[..n]);
 }
 
 // All of a store is 0.
 pub fn clear(all: &mut [i16])
     ensures { all.new ≡ replicate (length all.old) (pos 0) }
 {
-    let mut i: usize = 0;
-    while i < all.len() {
-        all[i] = 0;
-        i += 1;
-    }
+    all.fill(0);
 }

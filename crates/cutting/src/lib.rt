@@ -20,28 +20,17 @@ pub struct Stretch {
 pub fn place(length: usize, k: usize) -> Stretch
     ensures { Cut length k result }
 {
-    let from = if k <= length / LONGEST_BLOCK {
-        LONGEST_BLOCK * k
-    } else {
-        length
-    };
-    let rest = length - from;
+    let from = LONGEST_BLOCK.saturating_mul(k).min(length);
     Stretch {
-        from: from,
-        count: if rest < LONGEST_BLOCK {
-            rest
-        } else {
-            LONGEST_BLOCK
-        },
+        from,
+        count: (length - from).min(LONGEST_BLOCK),
     }
 }
 
 // That stretch of the caller's own samples.
-pub fn cut<'a>(recording: &'a [i16], k: usize) -> &'a [i16]
+pub fn cut(recording: &[i16], k: usize) -> &[i16]
     ensures { result.now ≡ take longest_block (drop (longest_block * k) recording.now) }
 {
     let s = place(recording.len(), k);
-    let from = s.from;
-    let to = from + s.count;
-    &recording[from..to]
+    &recording[s.from..s.from + s.count]
 }

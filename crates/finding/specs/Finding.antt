@@ -1,16 +1,14 @@
 -- Finding a period: what the search is given, and what it answers.
-use Rattle.std.specs.Prelude.{◌≡◌, List, ℕ, ◌+◌, ◌<◌, get_or}
+use Rattle.std.specs.Prelude.{◌≡◌, List, ℕ, ◌+◌, ◌<◌, get_or, Option, Some, None}
 use Rattle.std.proofs.Common.{ap, ◌∙◌}
-use Rattle.std.proofs.Math.Option.{Option, none, some}
+use Rattle.std.proofs.Math.Option.{Option as Perhaps, none, some}
 use Rattle.rules.specs.Rules.{Sound, E, D, eighth_lags}
 use Rattle.passing.specs.Distances.{Distances}
-use Rattle.finding.specs.declared.Found.{Found}
-use Rattle.finding.specs.declared.Found.TheVariants.{At, Nothing}
 
--- the lag that an answer names
-abbrev pub lag_of : Found → Option ℕ
-lag_of (At L) = some L
-lag_of Nothing = none
+-- an answer, as the rules write it
+abbrev pub lag_of : Option ℕ → Perhaps ℕ
+lag_of (Some L) = some L
+lag_of None = none
 
 -- d and e are the D and E of the eighth-rate sound y at the lags 2 to 110
 pub record Measured (y : Sound) (d e : List ℕ) : Type 0 where

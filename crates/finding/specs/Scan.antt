@@ -1,8 +1,9 @@
 -- The scan for the two least lows, from the highest lag down. A lag is passed over where its D is too great to pass even with the greatest E.
-use Rattle.std.specs.Prelude.{◌≡◌, refl, true, false, ◌&&◌, List, ltb, leb, get_or}
-use Rattle.std.proofs.Common.{sym, ◌∙◌, add-zero, add-suc, add-sub_of_le, div-lt_iff_lt-mul, mul-le-mul_left, ltb-true, ltb-false, le-leb}
+use Rattle.std.specs.Prelude.{◌≡◌, refl, true, false, ◌&&◌, List, ltb, leb, get_or, Option, Some, None, IfSome}
+use Rattle.std.proofs.Common.{sym, subst, ◌∙◌, add-zero, add-suc, add-sub_of_le, div-lt_iff_lt-mul, mul-le-mul_left, ltb-true, ltb-false, le-leb}
 use Rattle.std.proofs.Math.Path.{ap}
-use Rattle.std.proofs.Math.Option.{Option, none, some}
+use Rattle.std.proofs.Math.Option.{none, some}
+use Rattle.std.proofs.lemmas.Option.{IfSome_then}
 use Prim.Native.Nat.{ℕ, zero, suc, ◌+◌, ◌-◌, ◌*◌, ◌/◌, ◌≤◌, ◌<◌}
 use native.Mathlib.Omega.{arith}
 use Rattle.std.proofs.lemmas.Bool.{lt-leb}
@@ -11,24 +12,19 @@ use Rattle.rules.specs.declared.Settings.{Settings}
 use Rattle.rules.specs.Rules.{Sound, E, D, passes, meets_eps, is_low, least_from, low_above, choice, found_by, found}
 use Rattle.rules.proofs.Energies.{E-grows}
 use Rattle.finding.specs.declared.Lows.{Lows}
-use Rattle.finding.specs.Finding.{Measured, distance-at}
+use Rattle.finding.specs.Finding.{lag_of, Measured, distance-at}
 
 -- ---- definitions
 
--- a lag, and 0 for none
-abbrev pub lag_or : ℕ → Option ℕ
-lag_or zero = none
-lag_or (suc n) = some (suc n)
-
 -- t holds the least low above a lag, and the least above that one
 pub record Leasts (g : Settings) (y : Sound) (above : ℕ) (t : Lows) : Type 0 where
-  pub first : lag_or t.first ≡ low_above g y above
-  pub second : 0 < t.first → lag_or t.second ≡ low_above g y t.first
+  pub first : lag_of t.first ≡ low_above g y above
+  pub second : IfSome t.first (λ L. lag_of t.second ≡ low_above g y L)
 
 -- they lie above that lag in this order, and at most at 109
 pub record InOrder (above : ℕ) (t : Lows) : Type 0 where
-  pub first : 0 < t.first → (above < t.first) × (t.first ≤ 109)
-  pub second : 0 < t.second → (t.first < t.second) × (t.second ≤ 109)
+  pub first : IfSome t.first (λ L. (above < L) × (L ≤ 109))
+  pub second : IfSome t.second (λ M. (M ≤ 109) × IfSome t.first (λ L. L < M))
 
 -- the lags above low up to high were passed over: their D, of which d are those from lag 2 on, is more than most
 pub record Passed (d : List ℕ) (most low high : ℕ) : Type 0 where
@@ -82,29 +78,25 @@ too_far g y L h far =
     (rw (lt-leb (1024 * D y L) (g.eps * E y L) (omega (arith, mul-le-mul_left g.eps (E-grows y h), (div-lt_iff_lt-mul some-parts).0 far))))
 
 -- ---- the scan: at first, a lag that is a low, one that is none, and lags passed over
-lag-is : (n : ℕ) → 0 < n → lag_or n ≡ some n
-lag-is zero h = absurd (omega arith)
-lag-is (suc n) h = refl
-
-pub none_in_order : (above : ℕ) → InOrder above (record { first = 0; second = 0 })
-none_in_order above = record { first = λ h. absurd (omega arith); second = λ h. absurd (omega arith) }
+pub none_in_order : (above : ℕ) → InOrder above (record { first = None; second = None })
+none_in_order above = record { first = tt; second = tt }
 
 pub lower_in_order : {a b : ℕ} {t : Lows} → b ≤ a → InOrder a t → InOrder b t
-lower_in_order l r = record { first = λ h. omega (arith, r.first h); second = r.second }
+lower_in_order {t = t} l r = record { first = IfSome_then t.first r.first (λ L p. (omega arith, p.1)); second = r.second }
 
-pub low_in_order : {l : ℕ} {t : Lows} → 3 ≤ l → l ≤ 109 → InOrder l t → InOrder (l - 1) (record { first = l; second = t.first })
-low_in_order lo hi r = record { first = λ h. omega arith; second = r.first }
+pub low_in_order : {l : ℕ} {t : Lows} → 3 ≤ l → l ≤ 109 → InOrder l t → InOrder (l - 1) (record { first = Some l; second = t.first })
+low_in_order {t = t} lo hi r = record { first = (omega arith, hi); second = IfSome_then t.first r.first (λ M p. (p.1, p.0)) }
 
 module _ {g : Settings} {y : Sound} where
-  pub leasts_none : Leasts g y 109 (record { first = 0; second = 0 })
+  pub leasts_none : Leasts g y 109 (record { first = None; second = None })
   unfolding low_above least_from
-  leasts_none = record { first = refl; second = λ h. absurd (omega arith) }
+  leasts_none = record { first = refl; second = tt }
 
   module _ {l : ℕ} {t : Lows} (lo : 3 ≤ l) (hi : l ≤ 109) (r : Leasts g y l t) where
-    pub leasts_low : is_low g y l ≡ true → Leasts g y (l - 1) (record { first = l; second = t.first })
+    pub leasts_low : is_low g y l ≡ true → Leasts g y (l - 1) (record { first = Some l; second = t.first })
     leasts_low t =
         let e : suc (l - 1) ≡ l = omega arith in
-        record { first = lag-is l (omega arith) ∙ sym (low-here g y (l - 1) (omega arith) (rw e t) ∙ ap some e); second = λ h. r.first }
+        record { first = sym (low-here g y (l - 1) (omega arith) (rw e t) ∙ ap some e); second = r.first }
 
     pub leasts_no_low : is_low g y l ≡ false → Leasts g y (l - 1) t
     leasts_no_low t =
@@ -128,26 +120,30 @@ module _ {g : Settings} {y : Sound} where
 
 -- ---- the lag found, by the two least lows
 module _ {g : Settings} (x : Sound) {y : Sound} {t : Lows} (r : Leasts g y 2 t) where
-  pub found_none : t.first ≡ 0 → found g x y ≡ none
+  pub found_none : t.first ≡ None → found g x y ≡ none
   unfolding found found_by
-  found_none e = ap (found_by g x y) (sym r.first ∙ ap lag_or e)
+  found_none e = ap (found_by g x y) (sym r.first ∙ ap lag_of e)
 
-  found_first_lem : 0 < t.first → found g x y ≡ found_by g x y (some t.first)
-  unfolding found
-  found_first_lem h = ap (found_by g x y) (sym r.first ∙ lag-is t.first h)
+  module _ {L : ℕ} (e : t.first ≡ Some L) where
+    found_first_lem : found g x y ≡ found_by g x y (some L)
+    unfolding found
+    found_first_lem = ap (found_by g x y) (sym r.first ∙ ap lag_of e)
 
-  pub found-long : 55 ≤ t.first → found g x y ≡ some (8 * t.first)
-  unfolding found_by
-  found-long h = found_first_lem (omega arith) ∙ rw (le-leb 55 t.first h)
-
-  module _ (h : 0 < t.first) (l : t.first < 55) where
-    by_the_second : found g x y ≡ choice x t.first (lag_or t.second)
+    pub found-long : 55 ≤ L → found g x y ≡ some (8 * L)
     unfolding found_by
-    by_the_second = found_first_lem h ∙ rw (lt-leb 55 t.first l) (ap (choice x t.first) (sym (r.second h)))
+    found-long h = found_first_lem ∙ rw (le-leb 55 L h)
 
-    pub found_no_second : t.second ≡ 0 → found g x y ≡ none
-    unfolding choice
-    found_no_second e = by_the_second ∙ ap (λ (n : ℕ). choice x t.first (lag_or n)) e
+    module _ (l : L < 55) where
+      second-is : lag_of t.second ≡ low_above g y L
+      second-is = subst (λ (o : Option ℕ). IfSome o (λ M. lag_of t.second ≡ low_above g y M)) e r.second
 
-    pub found-choice : 0 < t.second → found g x y ≡ choice x t.first (some t.second)
-    found-choice k = by_the_second ∙ ap (choice x t.first) (lag-is t.second k)
+      by_the_second : found g x y ≡ choice x L (lag_of t.second)
+      unfolding found_by
+      by_the_second = found_first_lem ∙ rw (lt-leb 55 L l) (ap (choice x L) (sym second-is))
+
+      pub found_no_second : t.second ≡ None → found g x y ≡ none
+      unfolding choice
+      found_no_second n = by_the_second ∙ ap (λ (o : Option ℕ). choice x L (lag_of o)) n
+
+      pub found-choice : {M : ℕ} → t.second ≡ Some M → found g x y ≡ choice x L (some M)
+      found-choice n = by_the_second ∙ ap (λ (o : Option ℕ). choice x L (lag_of o)) n

@@ -14,9 +14,9 @@ played-append channel k [] ys = refl
 played-append channel k (b ∷ xs) ys = played-append channel (after_byte channel k b) xs ys
 
 -- one byte more
-pub played-next : (channel : ℕ) (k : Keyboard) (bs : List ℕ) (i : ℕ) → i < length bs → after_byte channel (played channel k (take i bs)) (get_or bs i 0) ≡ played channel k (take (i + 1) bs)
+pub played_next : (channel : ℕ) (k : Keyboard) (bs : List ℕ) (i : ℕ) → i < length bs → after_byte channel (played channel k (take i bs)) (get_or bs i 0) ≡ played channel k (take (i + 1) bs)
 unfolding played
-played-next channel k bs i l =
+played_next channel k bs i l =
     sym (ap (λ (n : ℕ). played channel k (take n bs)) (add-one i) ∙ ap (played channel k) (take-suc bs i 0 l) ∙ played-append channel k (take i bs) (get_or bs i 0 ∷ []))
 
 -- ---- what is kept

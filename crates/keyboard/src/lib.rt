@@ -1,6 +1,6 @@
 // A MIDI keyboard: which key is held after some bytes, on one chosen channel.
 
-#![tactic(auto)]
+#![tactic(auto, using(std::proofs::lemmas::Bool::Decides::nat_tests), unfolding(crate::specs::Keys::data_bytes, crate::specs::Keys::released, crate::specs::Keys::key_after, crate::specs::Keys::after_data, crate::specs::Keys::after_byte, crate::specs::Keys::on_channel))]
 
 ghost use Rattle.std.specs.Prelude.{◌≡◌};
 ghost use Rattle.whole.specs.Tests.{Decides};
@@ -48,8 +48,8 @@ fn waiting(key: u32, status: u16) -> Keyboard
     ensures { result ≡ waiting key status }
 {
     Keyboard {
-        key: key,
-        status: status,
+        key,
+        status,
         half: NO_DATA,
     }
 }
@@ -65,42 +65,38 @@ pub fn fresh() -> Keyboard
 fn data_bytes(status: u16) -> u32
     ensures { result ≡ data_bytes status }
 {
-    if status == NO_STATUS {
-        return 0;
+    match status {
+        NO_STATUS => 0,
+        PROGRAM_CHANGE..PITCH_BEND => 1,
+        _ => 2,
     }
-    if status < PROGRAM_CHANGE {
-        return 2;
-    }
-    if status < PITCH_BEND {
-        return 1;
-    }
-    2
 }
 
 // The key after the release of a note.
 fn released(key: u32, note: u32) -> u32
     ensures { result ≡ released key note }
 {
-    if note == key {
-        return NO_KEY;
-    }
-    key
+    if note == key { NO_KEY } else { key }
 }
 
 // The key after a whole message of two data bytes.
 fn key_after(channel: u32, key: u32, status: u16, note: u16, velocity: u8) -> u32
     ensures { result ≡ key_after channel key status note velocity }
 {
-    if status as u64 == NOTE_ON + channel as u64 {
+    let status = u64::from(status);
+    let channel = u64::from(channel);
+    let note = u32::from(note);
+    if status == NOTE_ON + channel {
         if velocity > 0 {
-            return note as u32;
+            note
+        } else {
+            released(key, note)
         }
-        return released(key, note as u32);
+    } else if status == NOTE_OFF + channel {
+        released(key, note)
+    } else {
+        key
     }
-    if status as u64 == NOTE_OFF + channel as u64 {
-        return released(key, note as u32);
-    }
-    key
 }
 
 // The keyboard after a data byte.
@@ -108,43 +104,37 @@ fn after_data(channel: u32, k: Keyboard, b: u8) -> Keyboard
     ensures { result ≡ after_data channel k b }
 {
     if data_bytes(k.status) != 2 {
-        return k;
+        k
+    } else if k.half == NO_DATA {
+        Keyboard {
+            half: u16::from(b),
+            ..k
+        }
+    } else {
+        waiting(key_after(channel, k.key, k.status, k.half, b), k.status)
     }
-    if k.half == NO_DATA {
-        return Keyboard {
-            key: k.key,
-            status: k.status,
-            half: b as u16,
-        };
-    }
-    waiting(key_after(channel, k.key, k.status, k.half, b), k.status)
 }
 
 // The keyboard after a byte.
 pub fn byte(channel: u32, k: Keyboard, b: u8) -> Keyboard
     ensures { result ≡ after_byte channel k b }
 {
-    if b < STATUS {
-        return after_data(channel, k, b);
+    match b {
+        ..STATUS => after_data(channel, k, b),
+        STATUS..SYSTEM => waiting(k.key, u16::from(b)),
+        SYSTEM..REAL_TIME => waiting(k.key, NO_STATUS),
+        REAL_TIME.. => k,
     }
-    if b < SYSTEM {
-        return waiting(k.key, b as u16);
-    }
-    if b < REAL_TIME {
-        return waiting(k.key, NO_STATUS);
-    }
-    k
 }
 
 // The keyboard after some bytes.
+#[tactic(auto, using(crate::specs::Playing::played_next), unfolding(crate::specs::Keys::played))]
 pub fn played(channel: u32, k: Keyboard, bytes: &[u8]) -> Keyboard
     ensures { result ≡ played channel k bytes.now }
 {
     let mut after = k;
-    let mut i: usize = 0;
-    while i < bytes.len() {
-        after = byte(channel, after, bytes[i]);
-        i += 1;
+    for b in bytes {
+        after = byte(channel, after, *b);
     }
     after
 }
@@ -153,47 +143,26 @@ pub fn played(channel: u32, k: Keyboard, bytes: &[u8]) -> Keyboard
 fn status_right(status: u16) -> bool
     ensures { Decides result (StatusIn status) }
 {
-    if status == NO_STATUS {
-        return true;
-    }
-    if status < STATUS as u16 {
-        return false;
-    }
-    status < SYSTEM as u16
+    status == NO_STATUS || u16::from(STATUS) <= status && status < u16::from(SYSTEM)
 }
 
 // The half message: none, or a data byte under a status that has two.
 fn half_right(status: u16, half: u16) -> bool
     ensures { Decides result (HalfIn status half) }
 {
-    if half == NO_DATA {
-        return true;
-    }
-    if half > NO_DATA {
-        return false;
-    }
-    data_bytes(status) == 2
+    half == NO_DATA || half < NO_DATA && data_bytes(status) == 2
 }
 
 // A keyboard that may be kept.
 pub fn right(k: Keyboard) -> bool
     ensures { Decides result (KeyboardIn k) }
 {
-    if k.key > NO_KEY {
-        return false;
-    }
-    if !status_right(k.status) {
-        return false;
-    }
-    half_right(k.status, k.half)
+    k.key <= NO_KEY && status_right(k.status) && half_right(k.status, k.half)
 }
 
 // The keyboard when a channel is chosen: another than that in force begins anew.
 pub fn on_channel(in_force: u32, chosen: u32, k: Keyboard) -> Keyboard
     ensures { result ≡ on_channel in_force chosen k }
 {
-    if chosen == in_force {
-        return k;
-    }
-    fresh()
+    if chosen == in_force { k } else { fresh() }
 }

@@ -1,7 +1,9 @@
 -- How many of the first numbers are one number, and laws of it: all of them, or none.
-use Rattle.std.specs.Prelude.{◌≡◌, List, ℕ, zero, suc, ◌+◌, ◌≤◌, ◌<◌, eqb, length, get_or}
-use Rattle.std.proofs.Common.{sym, ap, subst, ◌∙◌, add-one, arith, eqb-true, eq-eqb}
+use Rattle.std.specs.Prelude.{◌≡◌, List, ℕ, zero, suc, ◌+◌, ◌≤◌, ◌<◌, eqb, length, get_or, take}
+use mir.Val.{bool_byte}
+use Rattle.std.proofs.Common.{refl, sym, ap, length-take-le, subst, ◌∙◌, add-one, arith, eqb-true, eq-eqb}
 use Rattle.std.proofs.lemmas.Bool.{eqb-false}
+use Rattle.std.proofs.lemmas.List.{get_or-take}
 use Rattle.whole.specs.Tests.{by, cond_case, cond_yes, cond_no}
 use Rattle.lists.specs.Folds.{Level}
 use Rattle.lists.proofs.Folds.{level-one, level-more}
@@ -49,3 +51,17 @@ all-counted xs m (suc (suc n)) h z l e =
     let b = one-within (get_or xs (suc n) 0) note in
     subst (Level xs m 0) (add-one (suc n))
     (level-more xs m 0 h (suc n) (all-counted xs m (suc n) h (omega arith) (omega arith) (omega (arith, a, b, e))) (omega arith) (one_equal (get_or xs (suc n) 0) note (omega (arith, a, b, e))))
+
+-- a test as a number
+pub one_if_is : (a b : ℕ) → bool_byte (eqb a b) ≡ one_if a b
+unfolding one_if
+one_if_is a b = by (eqb a b) (λ e. rw e refl) (λ e. rw e refl)
+
+-- only the first numbers count
+counted-of-front : (v : ℕ) (xs : List ℕ) (m n : ℕ) → n ≤ m → counted v (take m xs) n ≡ counted v xs n
+unfolding counted
+counted-of-front v xs m zero h = refl
+counted-of-front v xs m (suc n) h = λ i. counted-of-front v xs m n (omega arith) i + one_if (get_or-take m xs n 0 (omega arith) i) v
+
+pub counted-front : (v : ℕ) (xs : List ℕ) (n : ℕ) → n ≤ length xs → counted v (take n xs) (length (take n xs)) ≡ counted v xs n
+counted-front v xs n h = let e : length (take n xs) ≡ n = length-take-le n xs h in rw e (counted-of-front v xs n n (omega arith))

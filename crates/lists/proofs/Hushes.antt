@@ -1,5 +1,5 @@
 -- Notes of which those without a period are hushed: the notes sung.
-use Rattle.std.specs.Prelude.{◌≡◌, refl, cond, List, [], ◌∷◌, ◌++◌, map, ℕ, zero, suc, ◌≤◌, ◌<◌, eqb, length, take, get_or, set}
+use Rattle.std.specs.Prelude.{◌≡◌, refl, cond, List, [], ◌∷◌, ◌++◌, map, ℕ, zero, suc, ◌≤◌, ◌<◌, eqb, length, take, drop, get_or, set}
 use Rattle.std.proofs.Common.{sym, ap, ◌∙◌, arith, ne_eqb}
 use Rattle.std.proofs.lemmas.List.{set-get_or}
 use Rattle.whole.specs.Tests.{cond_no}
@@ -31,6 +31,14 @@ hushed-more n [] ns h k = absurd (omega arith)
 hushed-more n (p ∷ ps) [] h k = absurd (omega arith)
 hushed-more zero (p ∷ ps) (m ∷ ns) h k = refl
 hushed-more (suc n) (p ∷ ps) (m ∷ ns) h k = ap (λ (l : List ℕ). cond (eqb p 0) no_note m ∷ l) (hushed-more n ps ns (omega arith) (omega arith))
+
+-- only the first notes and their periods count
+pub hushed-front : (n : ℕ) (ps ns : List ℕ) → n ≤ length ps → n ≤ length ns → hushed (length (take n ps)) (take n ps) (take n ns) ++ drop n ns ≡ hushed n ps ns
+unfolding hushed
+hushed-front zero ps ns h k = refl
+hushed-front (suc n) [] ns h k = absurd (omega arith)
+hushed-front (suc n) (p ∷ ps) [] h k = absurd (omega arith)
+hushed-front (suc n) (p ∷ ps) (m ∷ ns) h k = ap (λ (l : List ℕ). cond (eqb p 0) no_note m ∷ l) (hushed-front n ps ns (omega arith) (omega arith))
 
 -- where each of them has a period they are as they were
 pub hushed-none : (n : ℕ) (ps ns : List ℕ) → n ≤ length ps → n ≤ length ns → counted 0 ps n ≡ 0 → hushed n ps ns ≡ ns

@@ -2,12 +2,12 @@
 
 #![tactic(auto)]
 
-ghost use Rattle.std.specs.Prelude.{◌≡◌, true, cond, ◌+◌, ◌-◌, ◌*◌, ◌≤◌, ◌<◌, eqb, length, take};
+ghost use Rattle.std.specs.Prelude.{◌≡◌, true, cond, ◌+◌, ◌-◌, ◌*◌, ◌≤◌, ◌<◌, eqb, length};
 ghost use Rattle.whole.specs.Tests.{Decides};
-ghost use Rattle.rules.specs.Rules.{no_note, longest_block, take_limit};
+ghost use Rattle.rules.specs.Rules.{no_note, take_limit};
 ghost use Rattle.lists.specs.Lists.{sung_note, row, room, put, empty_listing, sheet, begun, listing_after, store_after, after_notes, PlaceIn, ListingIn};
-ghost use Rattle.lists.specs.Folds.{after_stretch, Level, Four};
-ghost use Rattle.lists.specs.Counting.{one_if, counted};
+ghost use Rattle.lists.specs.Folds.{after_stretch, Level};
+ghost use Rattle.lists.specs.Counting.{counted};
 ghost use Rattle.lists.specs.Hushes.{hushed};
 
 // The most rows of a list.
@@ -45,11 +45,7 @@ pub fn begin() -> Listing
 pub fn room(numbers: usize) -> u32
     ensures { result ≡ room numbers }
 {
-    let rows = numbers / ROW;
-    if rows < MOST_ROWS as usize {
-        return rows as u32;
-    }
-    MOST_ROWS
+    (numbers / ROW).min(MOST_ROWS as usize) as u32
 }
 
 // Room for one row.
@@ -63,71 +59,69 @@ pub fn has_room(numbers: usize) -> bool
 fn place_right(rows: u32, place: u32) -> bool
     ensures { Decides result (PlaceIn rows place) }
 {
-    if place < rows {
-        return true;
-    }
-    place == NO_PLACE
+    place < rows || place == NO_PLACE
 }
 
 // A listing that may be kept after so many samples.
 pub fn right(l: Listing, count: u64) -> bool
     ensures { Decides result (ListingIn count l) }
 {
-    if l.rows > MOST_ROWS {
-        return false;
-    }
-    if l.rows as u64 + l.left as u64 > count {
-        return false;
-    }
-    if l.first as u64 > count {
-        return false;
-    }
-    place_right(l.rows, l.place)
+    l.rows <= MOST_ROWS
+        && u64::from(l.rows) + u64::from(l.left) <= count
+        && u64::from(l.first) <= count
+        && place_right(l.rows, l.place)
+}
+
+// The note of a sample, none without a period.
+#[tactic(auto, using(std::proofs::lemmas::Bool::Decides::nat_tests))]
+fn sung_at(period: u32, note: u32) -> u32
+    ensures { result ≡ cond (eqb period 0) no_note note }
+{
+    if period == 0 { rules::NO_NOTE } else { note }
 }
 
 // The note of a sample in the list, by its tone.
+#[tactic(auto, using(std::proofs::lemmas::Bool::Decides::nat_tests), unfolding(crate::specs::Lists::sung_note))]
 pub fn sung(t: rules::Tone) -> u32
     ensures { result ≡ sung_note t }
 {
-    if t.period == 0 {
-        return rules::NO_NOTE;
-    }
-    t.note
+    sung_at(t.period, t.note)
 }
 
 // A run begins.
+#[tactic(auto, using(std::proofs::lemmas::Bool::Decides::nat_tests), unfolding(crate::specs::Lists::begun))]
 fn begun(l: Listing, room: u32, at: u32) -> Listing
     requires { (l.rows < 4294967295) × (l.left < 4294967295) }
     ensures { result ≡ begun room at l }
 {
     if l.rows < room {
-        return Listing {
+        Listing {
             rows: l.rows + 1,
-            left: l.left,
             place: l.rows,
             first: at,
-        };
-    }
-    Listing {
-        rows: l.rows,
-        left: l.left + 1,
-        place: NO_PLACE,
-        first: at,
+            ..l
+        }
+    } else {
+        Listing {
+            left: l.left + 1,
+            place: NO_PLACE,
+            first: at,
+            ..l
+        }
     }
 }
 
 // The listing after a sample with this note, behind one with the last note.
+#[tactic(auto, using(std::proofs::lemmas::Bool::Decides::nat_tests), unfolding(crate::specs::Lists::listing_after, crate::specs::Lists::begins))]
 fn listed(l: Listing, room: u32, last: u32, at: u32, note: u32) -> Listing
     requires { (l.rows < 4294967295) × (l.left < 4294967295) }
     ensures { result ≡ listing_after room last at note l }
 {
-    if note == rules::NO_NOTE {
-        return l;
+    if note == rules::NO_NOTE || note == last {
+        l
+    } else {
+        begun(l, room, at)
     }
-    if note == last {
-        return l;
-    }
-    begun(l, room, at)
 }
 
 // Writes a row at a place.
@@ -136,23 +130,18 @@ fn put(store: &mut [u32], place: u32, note: u32, first: u32, count: u32)
     ensures { store.new ≡ put store.old place (row note first count) }
 {
     let at = ROW * place as usize;
-    store[at] = note;
-    store[at + 1] = first;
-    store[at + 2] = count;
+    store[at..at + ROW].copy_from_slice(&[note, first, count]);
 }
 
 // Writes the row of the run that goes on, as long as it is after so many samples, where the store has its place.
+#[tactic(auto, using(std::proofs::lemmas::Bool::Decides::nat_tests), unfolding(crate::specs::Lists::store_after))]
 fn write(l: Listing, count: u32, note: u32, store: &mut [u32])
     requires { l.first ≤ count }
     ensures { store.new ≡ store_after count note l store.old }
 {
-    if note == rules::NO_NOTE {
-        return;
+    if note != rules::NO_NOTE && l.place < room(store.len()) {
+        put(store, l.place, note, l.first, count - l.first);
     }
-    if room(store.len()) <= l.place {
-        return;
-    }
-    put(store, l.place, note, l.first, count - l.first);
 }
 
 // What a stretch of samples with one note makes of both, from one sample to before another.
@@ -165,138 +154,66 @@ fn stretch(l: Listing, last: u32, at: u32, to: u32, note: u32, store: &mut [u32]
     with
 }
 
-// 1 where two numbers are equal, else 0.
-fn one_if(a: u32, b: u32) -> u32
-    ensures { result ≡ one_if a b }
+// How many numbers are this one: no way out of the loop, so that it runs in vectors.
+pub fn count_of(values: &[u32], value: u32) -> u32
+    requires { length values.now ≤ take_limit }
+    ensures { result ≡ counted value values.now (length values.now) }
 {
-    if a == b {
-        return 1;
-    }
-    0
-}
-
-// How many of the first n numbers are this one: no way out of the loop, so that it runs in vectors.
-pub fn count_of(values: &[u32], n: usize, value: u32) -> u32
-    requires { (n ≤ length values.now) × (n ≤ take_limit) }
-    ensures { result ≡ counted value values.now n }
-{
-    let mut count: u32 = 0;
-    let mut i: usize = 0;
-    while i < n {
-        count += one_if(values[i], value);
-        i += 1;
+    let mut count = 0;
+    for v in values {
+        count += u32::from(*v == value);
     }
     count
 }
 
-// The first n samples have one note.
-fn one_note(notes: &[u32], n: usize) -> bool
-    requires { (n ≤ length notes.now) × (n ≤ take_limit) }
-    ensures { result ≡ true → Level notes.now n 0 n }
+// The samples have one note.
+fn one_note(notes: &[u32]) -> bool
+    requires { length notes.now ≤ take_limit }
+    ensures { result ≡ true → Level notes.now (length notes.now) 0 (length notes.now) }
 {
-    if n == 0 {
-        return false;
-    }
-    count_of(notes, n, notes[0]) == n as u32
+    !notes.is_empty() && count_of(notes, notes[0]) == notes.len() as u32
 }
 
-// Four samples have this note.
-fn four(notes: &[u32], at: usize, note: u32) -> bool
-    requires { at + 4 ≤ length notes.now }
-    ensures { result ≡ true → Four notes.now at note }
+// Where the stretch of samples with the note of this one ends.
+fn level(notes: &[u32], from: usize) -> usize
+    requires { from < length notes.now }
+    ensures { Level notes.now (length notes.now) from result }
 {
-    if notes[at] != note {
-        return false;
-    }
-    if notes[at + 1] != note {
-        return false;
-    }
-    if notes[at + 2] != note {
-        return false;
-    }
-    notes[at + 3] == note
-}
-
-// How far the stretch of samples with the note of one of the first n goes, by steps of four.
-fn fours(notes: &[u32], from: usize, n: usize) -> usize
-    requires { (from < n) × (n ≤ length notes.now) }
-    ensures { Level notes.now n from result }
-{
-    let note = notes[from];
-    let mut to = from + 1;
-    while 4 <= n - to {
-        if !four(notes, to, note) {
+    for to in from + 1..notes.len() {
+        if notes[to] != notes[from] {
             return to;
         }
-        to += 4;
     }
-    to
+    notes.len()
 }
 
-// Where it ends.
-fn level(notes: &[u32], from: usize, n: usize) -> usize
-    requires { (from < n) × (n ≤ length notes.now) }
-    ensures { Level notes.now n from result }
+// Samples without a period have no note.
+pub fn hush(notes: &mut [u32], periods: &[u32])
+    requires { length notes.old ≡ length periods.now }
+    ensures { notes.new ≡ hushed (length periods.now) periods.now notes.old }
 {
-    let note = notes[from];
-    let mut to = fours(notes, from, n);
-    while to < n {
-        if notes[to] != note {
-            return to;
-        }
-        to += 1;
-    }
-    to
-}
-
-// The note of a sample, none without a period.
-fn sung_at(period: u32, note: u32) -> u32
-    ensures { result ≡ cond (eqb period 0) no_note note }
-{
-    if period == 0 {
-        return rules::NO_NOTE;
-    }
-    note
-}
-
-// Of the first n samples, those without a period have no note.
-pub fn hush(
-    notes: &mut [u32; rules::LONGEST_BLOCK],
-    periods: &[u32; rules::LONGEST_BLOCK],
-    n: usize,
-)
-    requires { (n ≤ longest_block) × (length notes.old ≡ longest_block) × (length periods.now ≡ longest_block) }
-    ensures { notes.new ≡ hushed n periods.now notes.old }
-{
-    let mut i: usize = 0;
-    while i < n {
+    // Stays: by index, since a proof knows nothing of what a zip with iter_mut writes.
+    for i in 0..notes.len() {
         notes[i] = sung_at(periods[i], notes[i]);
-        i += 1;
     }
 }
 
-// The notes of n samples more, behind so many and the last note: the listing after them, and their rows in the store.
-pub fn more(
-    l: Listing,
-    last: u32,
-    notes: &[u32],
-    n: usize,
-    count: u64,
-    store: &mut [u32],
-) -> Listing
-    requires { (n ≤ length notes.now) × (count + n ≤ take_limit) × ListingIn count l }
-    ensures { sheet result store.new ≡ after_notes last count (sheet l store.old) (take n notes.now) }
+// The notes of samples more, behind so many and the last note: the listing after them, and their rows in the store.
+pub fn more(l: Listing, last: u32, notes: &[u32], count: u64, store: &mut [u32]) -> Listing
+    requires { (count + length notes.now ≤ take_limit) × ListingIn count l }
+    ensures { sheet result store.new ≡ after_notes last count (sheet l store.old) notes.now }
 {
     let from = count as u32;
-    if one_note(notes, n) {
-        return stretch(l, last, from, from + n as u32, notes[0], store);
+    if one_note(notes) {
+        return stretch(l, last, from, from + notes.len() as u32, notes[0], store);
     }
     let mut listing = l;
     let mut before = last;
-    let mut i: usize = 0;
-    while i < n {
+    let mut i = 0;
+    // Stays: each turn takes a whole stretch, so no `for` goes by it.
+    while i < notes.len() {
         let note = notes[i];
-        let to = level(notes, i, n);
+        let to = level(notes, i);
         listing = stretch(
             listing,
             before,

@@ -1,14 +1,28 @@
 -- The search of the wanted note. The table falls, so the notes with a longer period than the sung one are its first. Of those of the scale
 -- among them the last is the nearest, of the others the first; the wanted note is one of these two.
 use Rattle.std.specs.Prelude.{◌≡◌, true, false, List, ℕ, ◌+◌, ◌-◌, ◌≤◌, ◌<◌, ltb, length, get_or}
-use Rattle.std.proofs.Common.{sym, ap, ◌∙◌, le_of_lt, arith, ltb-true, ltb-false}
+use Rattle.std.proofs.Math.Path.{refl}
+use Rattle.std.proofs.Math.ListN.{get_or-eq_default}
+use Rattle.std.specs.List.Sorted.{IsPartitionedBy, IsPartitionPoint}
+use Rattle.std.proofs.Common.{sym, ap, subst, ◌∙◌, le_of_lt, arith, lt-ltb, ltb-true, ltb-false}
+use Rattle.std.proofs.lemmas.List.{get_or_default}
 use Rattle.std.proofs.Math.Option.{some}
 use Rattle.whole.specs.Tests.{by, yes_and_no}
-use Rattle.rules.specs.Rules.{table, first_note, notes, note_period, of_scale, away, wanted}
+use Rattle.rules.specs.Rules.{table, first_note, notes, note_period, of_scale, away, wanted, wanted_period}
 use Rattle.rules.specs.Facts.{SampleRate}
 use Rattle.rules.proofs.Table.{table-length}
 use Rattle.rules.specs.Notes.{end}
-use Rattle.rules.proofs.Notes.{wanted-some, is-wanted, table-falls}
+use Rattle.rules.proofs.Notes.{wanted-some, is-wanted, table-falls, period_of_table, period-above}
+use Rattle.notes.specs.declared.Table.{Table}
+
+-- the table of a sample rate
+pub record OfRate (t : Table) : Type 0 where
+  pub rate : SampleRate t.hertz
+  pub first : t.first ≡ first_note t.hertz
+  pub periods : t.periods.now ≡ table t.hertz
+
+pub of_rate : {hertz : ℕ} {t : Table} → SampleRate hertz → (t.hertz ≡ hertz) × (t.first ≡ first_note hertz) × (t.periods.now ≡ table hertz) → OfRate t
+of_rate rate (e, f, g) = record { rate = subst SampleRate (sym e) rate; first = f ∙ ap first_note (sym e); periods = g ∙ ap table (sym e) }
 
 -- what stands at the place of a note
 pub at_place : (hertz : ℕ) {t : List ℕ} → t ≡ table hertz → (k : ℕ) → get_or t k 0 ≡ note_period hertz (first_note hertz + k)
@@ -19,16 +33,11 @@ at_place hertz e k = let same : k ≡ first_note hertz + k - first_note hertz = 
 pub as_long : {hertz : ℕ} → SampleRate hertz → {t : List ℕ} → t ≡ table hertz → length t ≡ notes hertz
 as_long rate e = ap length e ∙ table-length rate
 
--- the notes below place low have a longer period than p, those from place high on have not
-pub record Halving (hertz p low high : ℕ) : Type 0 where
-  pub order : low ≤ high
-  pub upto : high ≤ notes hertz
-  pub longer : (m : ℕ) → first_note hertz ≤ m → m < first_note hertz + low → p < note_period hertz m
-  pub shorter : (m : ℕ) → first_note hertz + high ≤ m → m < end hertz → note_period hertz m ≤ p
-
 -- the first k notes are those with a longer period than p
-abbrev pub Longer : ℕ → ℕ → ℕ → Type 0
-Longer hertz p k = Halving hertz p k k
+pub record Longer (hertz p k : ℕ) : Type 0 where
+  pub upto : k ≤ notes hertz
+  pub longer : (m : ℕ) → first_note hertz ≤ m → m < first_note hertz + k → p < note_period hertz m
+  pub shorter : (m : ℕ) → first_note hertz + k ≤ m → m < end hertz → note_period hertz m ≤ p
 
 -- no note from number a to below b is of the scale
 pub record NoneOfScale (scale a b : ℕ) : Type 0 where
@@ -47,27 +56,32 @@ pub record FirstOfScale (hertz scale k j : ℕ) : Type 0 where
   pub first : j < notes hertz → of_scale scale (first_note hertz + j) ≡ true
   pub none_before : NoneOfScale scale (first_note hertz + k) (first_note hertz + j)
 
--- ---- halving
-pub whole-table : (hertz p : ℕ) → Halving hertz p 0 (notes hertz)
-whole-table hertz p = record { order = omega arith; upto = omega arith; longer = λ m lo hi. absurd (omega arith); shorter = λ m lo hi. absurd (omega arith) }
+-- ---- the table falls, so it is parted where the notes with a longer period end
+module _ {hertz : ℕ} {t : List ℕ} (rate : SampleRate hertz) (e : t ≡ table hertz) where
+  -- what stands at a place of the table, as the note's period
+  at_index : (k d : ℕ) → k < notes hertz → get_or t k d ≡ note_period hertz (first_note hertz + k)
+  at_index k d h = get_or_default t k d 0 (omega (arith, as_long rate e)) ∙ at_place hertz e k
 
-module _ {hertz p low high mid : ℕ} (rate : SampleRate hertz) (h : Halving hertz p low high) (from : low ≤ mid) (to : mid < high) where
-  pub lower-half : note_period hertz (first_note hertz + mid) ≤ p → Halving hertz p low mid
-  lower-half l =
-      record {
-        order = from;
-        upto = omega (arith, h.upto);
-        longer = h.longer;
-        shorter = λ m lo hi. omega (arith, table-falls rate (first_note hertz + mid) m (omega arith) lo hi);
-      }
+module _ {hertz : ℕ} (p : ℕ) {t : List ℕ} (rate : SampleRate hertz) (e : t ≡ table hertz) where
+  pub parted : IsPartitionedBy (λ q. ltb p q) t
+  parted i j d order upto long =
+      let n = as_long rate e in
+      let far = table-falls rate (first_note hertz + i) (first_note hertz + j) (omega arith) (omega arith) (omega arith) in
+      lt-ltb p (get_or t i d) (omega (arith, at_index rate e i d (omega arith), at_index rate e j d (omega arith), ltb-true p (get_or t j d) long, far))
 
-  pub upper_half : p < note_period hertz (first_note hertz + mid) → Halving hertz p (mid + 1) high
-  upper_half l =
+  pub longer_at : {k : ℕ} → k ≤ length t → IsPartitionPoint (λ q. ltb p q ≡ true) (λ q. ltb p q ≡ false) t k → Longer hertz p k
+  longer_at {k} within point =
+      let n = as_long rate e in
       record {
-        order = omega arith;
-        upto = h.upto;
-        longer = λ m lo hi. omega (arith, table-falls rate m (first_note hertz + mid) lo (omega arith) (omega (arith, h.upto)));
-        shorter = h.shorter;
+        upto = omega arith;
+        longer = λ m lo hi.
+            let at = m - first_note hertz in
+            let same : first_note hertz + at ≡ m = omega arith in
+            rw same at (rw (at_index rate e at 0 (omega arith)) at (ltb-true p (get_or t at 0) (point.0 at 0 (omega arith) (omega arith))));
+        shorter = λ m lo hi.
+            let at = m - first_note hertz in
+            let same : first_note hertz + at ≡ m = omega arith in
+            rw same at (rw (at_index rate e at 0 (omega arith)) at (ltb-false p (get_or t at 0) (point.1 at 0 (omega arith) (omega arith))));
       }
 
 -- ---- none so far, and one note more that is not of the scale: above, and below
@@ -199,3 +213,43 @@ module _ {hertz scale p k low high : ℕ} (rate : SampleRate hertz) (l : Longer 
         let (n, f) = wanted-some hertz scale p rate from to in
         let w = f.1 in
         each_of_scale n w.in_table.0 w.in_table.1 w.in_scale (λ v. absurd (omega arith)) (λ v. v.0)
+
+-- the period at a place of the table, and that the note there is wanted
+abbrev pub period_at : ℕ → ℕ → ℕ
+period_at hertz place = note_period hertz (first_note hertz + place)
+
+abbrev pub WantedAt : (hertz scale p place : ℕ) → Type 0
+WantedAt hertz scale p place = (place < notes hertz) × (wanted hertz scale p ≡ some (first_note hertz + place))
+
+same : (n : ℕ) → n + 1 - 1 ≡ n
+same n = omega arith
+
+-- by what the searches on the two sides found
+module _ {hertz scale p k : ℕ} (rate : SampleRate hertz) (l : Longer hertz p k) (from : 1 ≤ scale) (to : scale ≤ 4095) where
+  module _ (low : ℕ) (a : LastOfScale hertz scale k (low + 1)) where
+    pub last_is_longer : (low < notes hertz) × (p < period_at hertz low)
+    last_is_longer = (omega (arith, a.upto, l.upto), l.longer _ (omega arith) (omega (arith, a.upto)))
+
+    pub last_wanted : {high : ℕ} → FirstOfScale hertz scale k high → (high < notes hertz → period_at hertz low - p < p - period_at hertz high) → WantedAt hertz scale p low
+    last_wanted b near = (omega (arith, a.upto, l.upto), rw (same low) at (lower-wanted rate l a b from to (omega arith) (rw (same low) near)))
+
+    pub first_wanted : {high : ℕ} → FirstOfScale hertz scale k high → high < notes hertz → p - period_at hertz high ≤ period_at hertz low - p → WantedAt hertz scale p high
+    first_wanted b h near = (h, higher-wanted rate l a b from to h (λ m. rw (same low) near))
+
+  pub first_is_shorter : {high : ℕ} → high < notes hertz → FirstOfScale hertz scale k high → period_at hertz high ≤ p
+  first_is_shorter h b = l.shorter _ (omega (arith, b.from)) (omega arith)
+
+  pub only_first : {high : ℕ} → LastOfScale hertz scale k 0 → FirstOfScale hertz scale k high → WantedAt hertz scale p high
+  only_first a b = let h = some-higher rate l a b from to refl in (h, higher-wanted rate l a b from to h (λ m. absurd (omega arith)))
+
+  pub some_side : LastOfScale hertz scale k 0 → FirstOfScale hertz scale k (notes hertz) → ⊥
+  some_side a b = let h = some-higher rate l a b from to refl in omega arith
+
+-- the wanted period is read from the table, past whose end there is 0
+pub looked_up : {hertz n : ℕ} {t : List ℕ} → SampleRate hertz → t ≡ table hertz → first_note hertz ≤ n → wanted_period hertz n ≡ get_or t (n - first_note hertz) 0
+unfolding note_period
+looked_up {hertz} {n} {t} rate e h =
+    let long = as_long rate e in
+    by (ltb n (end hertz))
+    (λ f. period_of_table hertz (record { from = h; upto = ltb-true n (end hertz) f }) ∙ ap (λ (xs : List ℕ). get_or xs (n - first_note hertz) 0) (sym e))
+    (λ f. period-above hertz (ltb-false n (end hertz) f) ∙ sym (get_or-eq_default t 0 (omega (arith, ltb-false n (end hertz) f))))

@@ -1,12 +1,12 @@
 -- D at one lag and at several, and what keeps the products with them small.
-use Rattle.std.specs.Prelude.{◌≡◌, List, ℕ, ◌+◌, ◌^◌, ◌≤◌, ◌<◌, ℤ, length, get_or}
-use Rattle.std.proofs.Common.{arith, SFits}
+use Rattle.std.specs.Prelude.{◌≡◌, List, ℕ, ◌+◌, ◌^◌, ◌≤◌, ◌<◌, ℤ, length, take, get_or}
+use Rattle.std.proofs.Common.{arith, length-take-le, SFits}
 use Rattle.std.specs.Int.{w16}
 use Rattle.rules.specs.declared.Settings.{Settings}
 use Rattle.rules.specs.Rules.{Sound, D}
 use Rattle.rules.proofs.Distance.{D-within}
 use Rattle.rules.specs.Facts.{value_at}
-use Rattle.ages.specs.Ages.{Samples}
+use Rattle.ages.specs.Ages.{Samples, samples-take}
 use Rattle.sums.specs.Kept.{RightAt, Kept}
 use Rattle.sums.specs.Sweep.{right-each, energy-small}
 
@@ -19,6 +19,11 @@ pub record Modest (g : Settings) : Type 0 where
 pub record Long (s : List ℤ) (m : ℕ) : Type 0 where
   pub enough : 1764 ≤ m
   pub long : m ≤ length s
+  pub samples : Samples s
+
+-- the samples are enough for every lag up to 880
+pub record Ample (s : List ℤ) : Type 0 where
+  pub enough : 1764 ≤ length s
   pub samples : Samples s
 
 -- e and h are the direct sums of some sound of 16-bit samples at one lag up to 880
@@ -37,6 +42,10 @@ pub record Distances (x : Sound) (low n : ℕ) (d : List ℕ) : Type 0 where
 -- n numbers small enough to multiply with
 pub record Small (n : ℕ) (xs : List ℕ) : Type 0 where
   pub small : (j : ℕ) → j < n → get_or xs j 0 ≤ 2 ^ 42
+
+-- the first m of a store that is long enough
+pub ample : {s : List ℤ} {m : ℕ} → Long s m → Ample (take m s)
+ample {s} {m} l = record { enough = omega (arith, length-take-le m s l.long, l.enough); samples = samples-take m s l.samples }
 
 -- ---- what is kept is small
 module _ {n : ℕ} {e : List ℕ} {h : List ℤ} (k : Kept n e h) where

@@ -15,8 +15,7 @@ pub fn distance(e: u64, h: i64) -> u64
     requires { One e h }
     ensures { (x : Sound) (L : ℕ) → RightAt x L e h → result ≡ D x L }
 {
-    let a = e as i64;
-    (a - 2 * h) as u64
+    (e as i64 - 2 * h) as u64
 }
 
 // D at each lag.
@@ -24,13 +23,8 @@ pub fn distances(d: &mut [u64], e: &[u64], h: &[i64])
     requires { Kept (length d.old) e.now h.now }
     ensures { (x : Sound) (low : ℕ) → Right x low (length d.old) e.now h.now → Distances x low (length d.old) d.new }
 {
-    let n = d.len();
-    let mut i: usize = 0;
-    while i < n {
-        let a = e[i];
-        let b = h[i];
-        d[i] = distance(a, b);
-        i += 1;
+    for i in 0..d.len() {
+        d[i] = distance(e[i], h[i]);
     }
 }
 
@@ -39,12 +33,5 @@ pub fn passing(g: Settings, d: u64, e: u64, lag: usize) -> bool
     requires { Modest g × (d ≤ 2 ^ 42) × (e ≤ 2 ^ 42) × (lag ≤ highest_lag) }
     ensures { (x : Sound) → d ≡ D x lag → e ≡ E x lag → result ≡ passes g x lag }
 {
-    let p = g.eps as u64;
-    let f = g.floor as u64;
-    let l = lag as u64;
-    if 1024 * d <= p * e {
-        f * (2 * l) <= e
-    } else {
-        false
-    }
+    1024 * d <= u64::from(g.eps) * e && u64::from(g.floor) * (2 * lag as u64) <= e
 }

@@ -1,5 +1,5 @@
 -- What searching and tracking make of a kept pitch is what the rules make of its pitch.
-use Rattle.std.specs.Prelude.{◌≡◌, true, false, List, ℕ, ◌+◌, ◌-◌, ◌%◌, ◌≤◌, ℤ}
+use Rattle.std.specs.Prelude.{◌≡◌, true, false, List, ℕ, ◌+◌, ◌-◌, ◌%◌, ◌≤◌, ℤ, Option, Some, None}
 use Rattle.std.proofs.Math.Path.{refl, ap}
 use Rattle.std.proofs.Common.{sym, ◌∙◌, arith, SFits}
 use Rattle.std.proofs.Math.Option.{none, some}
@@ -17,10 +17,8 @@ use Rattle.rules.proofs.Ranges.{ranges}
 use Rattle.sums.specs.Kept.{Kept}
 use Rattle.finding.specs.Finding.{lag_of}
 use Rattle.passing.specs.Distances.{Modest}
-use Rattle.finding.specs.declared.Found.{Found}
 use Rattle.tracking.specs.declared.Tracker.{Tracker}
-use Rattle.tracking.specs.declared.Tracked.{Tracked}
-use Rattle.tracking.specs.Tracking.{Tracks, Stepped}
+use Rattle.tracking.specs.Tracking.{Tracks, Moved, Stepped}
 use Rattle.pitch.specs.declared.Pitch.{Pitch as KeptPitch}
 use Rattle.pitch.specs.Pitches.{mode_of, pitch_of, PitchRight}
 
@@ -123,30 +121,31 @@ module _ (f : InForce) (x : Sound) (t : Tone) (low last : ℕ) where
   unfolding tracked
   tracked-kept e = rw e
 
-module _ (f : InForce) {x : Sound} (v : KeptPitch) {r : Tracked} (s : Stepped f.settings x v.tracker r) where
-  pub became_lost : {o : Tone} → r.kept ≡ false → o ≡ no_tone
-      → Became x (tracked f x v.tone v.tracker.low v.tracker.last) (record { tracker = r.tracker; tone = o; tracking = 0 })
+module _ (f : InForce) {x : Sound} (v : KeptPitch) {t : Tracker} where
+  pub became_lost : {o : Tone} → Stepped f.settings x v.tracker None t → o ≡ no_tone
+      → Became x (tracked f x v.tone v.tracker.low v.tracker.last) (record { tracker = t; tone = o; tracking = 0 })
   unfolding no_tone
-  became_lost e q =
-      rw (q, tracked_lost f x v.tone v.tracker.low v.tracker.last (not-false _ (sym s.kept ∙ e)))
+  became_lost s q =
+      rw (q, tracked_lost f x v.tone v.tracker.low v.tracker.last (not-false _ (sym s.kept)))
       (record { pitch = refl; right = record { flag = omega arith; pitch = record { tone = unpitched refl refl (omega arith); lags = tt; while_searching = λ z. refl }; sums = λ z. absurd (omega arith) } })
 
-  pub became_tuned : ForceIn f → ToneIn v.tone → {o : Tone} → r.kept ≡ true → o ≡ tuned f v.tone r.period
-      → Became x (tracked f x v.tone v.tracker.low v.tracker.last) (record { tracker = r.tracker; tone = o; tracking = 1 })
-  became_tuned g h e q =
-      let lags : LagsIn r.tracker.low r.tracker.last = record { from = s.low-from e; upto = omega (arith, s.low-upto e); last_from = s.last-from e; last_upto = s.last-upto e } in
-      let tracks : Tracks x r.tracker.low r.tracker.last r.tracker = record { low = refl; last = refl; sums = s.sums e } in
-      let b = tracks_became tracks lags (tuned_in g h r.period (s.from e) (s.upto e)) in
+  pub became_tuned : ForceIn f → ToneIn v.tone → {p : ℕ} {o : Tone} → Stepped f.settings x v.tracker (Some p) t → o ≡ tuned f v.tone p
+      → Became x (tracked f x v.tone v.tracker.low v.tracker.last) (record { tracker = t; tone = o; tracking = 1 })
+  became_tuned g h {p} s q =
+      let m : Moved x v.tracker p t = s.moved in
+      let lags : LagsIn t.low t.last = record { from = m.low-from; upto = omega (arith, m.low-upto); last_from = m.last-from; last_upto = m.last-upto } in
+      let tracks : Tracks x t.low t.last t = record { low = refl; last = refl; sums = m.sums } in
+      let b = tracks_became tracks lags (tuned_in g h p m.from m.upto) in
       rw q
       (record {
         pitch =
-            (λ i. record { mode = tracking (s.low e i) (s.last e i); tone = tuned f v.tone (s.period e i) })
-            ∙ sym (tracked-kept f x v.tone v.tracker.low v.tracker.last (not-true _ (sym s.kept ∙ e)));
+            (λ i. record { mode = tracking (m.low i) (m.last i); tone = tuned f v.tone (m.period i) })
+            ∙ sym (tracked-kept f x v.tone v.tracker.low v.tracker.last (not-true _ (sym s.kept)));
         right = b.right;
       })
 
 -- ---- a search
-module _ (f : InForce) (x : Sound) (v : KeptPitch) (l : Found) {e : List ℕ} {h : List ℤ} (finds : (y : Sound) → Right y 2 eighth_lags e h → lag_of l ≡ found f.settings x y) where
+module _ (f : InForce) (x : Sound) (v : KeptPitch) (l : Option ℕ) {e : List ℕ} {h : List ℤ} (finds : (y : Sound) → Right y 2 eighth_lags e h → lag_of l ≡ found f.settings x y) where
   pub found-lag : Eighth e h → (lag : ℕ) → lag_of l ≡ some lag → (24 ≤ lag) × (lag ≤ 872)
   found-lag k lag q = found_range f.settings x k.sound lag (sym (finds k.sound k.right) ∙ q)
 

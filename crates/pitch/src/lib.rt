@@ -6,12 +6,11 @@ ghost use Rattle.std.specs.Prelude.{◌≡◌, ◌-◌, ◌%◌, ◌≤◌};
 ghost use Rattle.rules.specs.Rules.{Sound, older, no_tone, no_period, tracked};
 ghost use Rattle.rules.specs.Rules as rules;
 ghost use Rattle.rules.specs.Facts.{ForceIn};
-ghost use Rattle.ages.specs.Ages.{ago};
-ghost use Rattle.passing.specs.Distances.{Long};
+ghost use Rattle.ages.specs.Ages.{past};
+ghost use Rattle.passing.specs.Distances.{Ample};
 ghost use Rattle.pitch.specs.Pitches.{pitch_of, PitchRight, blank, kept_of};
 ghost use Rattle.pitch.specs.Listening.{Eighth, Became, Searched, Listened};
 
-use finding::Found;
 use rules::{EIGHTH_LAGS, InForce, Tone};
 use tracking::Tracker;
 
@@ -40,90 +39,69 @@ pub fn no_tone() -> Tone
 pub fn blank() -> Tracker
     ensures { result ≡ blank }
 {
-    let e = [0u64; 8];
-    let h = [0i64; 8];
     Tracker {
         low: 0,
         last: 0,
-        e: e,
-        h: h,
+        e: [0; 8],
+        h: [0; 8],
     }
 }
 
 // A lag was found.
-fn locked(lag: usize, s: &[i16], m: usize) -> Pitch
-    requires { (24 ≤ lag) × (lag ≤ 872) × Long s.now m }
-    ensures { Became (ago s.now m) (no_period (rules.tracking (lag - 3) lag)) result }
+fn locked(lag: usize, s: &[i16]) -> Pitch
+    requires { (24 ≤ lag) × (lag ≤ 872) × Ample s.now }
+    ensures { Became (past s.now) (no_period (rules.tracking (lag - 3) lag)) result }
 {
-    let l = lag as u32;
-    let t = Tracker::at(l - 3, l, s, m);
+    let lag = lag as u32;
     Pitch {
-        tracker: t,
+        tracker: Tracker::at(lag - 3, lag, s),
         tone: no_tone(),
         tracking: 1,
     }
 }
 
 // Searching, when an eighth-rate sample was just made.
-fn search(
-    v: Pitch,
-    f: InForce,
-    e: &[u64; EIGHTH_LAGS],
-    h: &[i64; EIGHTH_LAGS],
-    s: &[i16],
-    m: usize,
-) -> Pitch
-    requires { PitchRight (ago s.now m) v × ForceIn f × Eighth e.now h.now × Long s.now m }
-    ensures { Searched f (ago s.now m) e.now h.now v result }
+fn search(v: Pitch, f: InForce, e: &[u64; EIGHTH_LAGS], h: &[i64; EIGHTH_LAGS], s: &[i16]) -> Pitch
+    requires { PitchRight (past s.now) v × ForceIn f × Eighth e.now h.now × Ample s.now }
+    ensures { Searched f (past s.now) e.now h.now v result }
 {
-    let g = f.settings;
-    let lag = finding::find(e, h, g, s, m);
-    match lag {
-        Found::Nothing => v,
-        Found::At(l) => locked(l, s, m),
+    match finding::find(e, h, f.settings, s) {
+        Some(lag) => locked(lag, s),
+        None => v,
     }
 }
 
 // A tracking step.
-fn track(v: Pitch, f: InForce, s: &[i16], m: usize) -> Pitch
-    requires { (v.tracking ≡ 1) × PitchRight (ago s.now m) v × ForceIn f × Long s.now m }
-    ensures { Became (ago s.now m) (tracked f (ago s.now m) v.tone v.tracker.low v.tracker.last) result }
+fn track(v: Pitch, f: InForce, s: &[i16]) -> Pitch
+    requires { (v.tracking ≡ 1) × PitchRight (past s.now) v × ForceIn f × Ample s.now }
+    ensures { Became (past s.now) (tracked f (past s.now) v.tone v.tracker.low v.tracker.last) result }
 {
-    let g = f.settings;
-    let old = v.tracker;
-    let r = old.step(g, s, m);
-    let t = r.tracker;
-    if r.kept {
-        let tone = v.tone;
-        Pitch {
-            tracker: t,
-            tone: notes::tune(f, tone, r.period),
+    let mut tracker = v.tracker;
+    match tracker.step(f.settings, s) {
+        Some(period) => Pitch {
+            tracker,
+            tone: notes::tune(f, v.tone, period),
             tracking: 1,
-        }
-    } else {
-        Pitch {
-            tracker: t,
+        },
+        None => Pitch {
+            tracker,
             tone: no_tone(),
             tracking: 0,
-        }
+        },
     }
 }
 
 // One more sample for the eight lags.
-fn followed(v: Pitch, s: &[i16], m: usize) -> Pitch
-    requires { (v.tracking ≡ 1) × PitchRight (older (ago s.now m)) v × Long s.now m }
-    ensures { (result.tracking ≡ 1) × Became (ago s.now m) (pitch_of v) result }
+fn followed(v: Pitch, s: &[i16]) -> Pitch
+    requires { (v.tracking ≡ 1) × PitchRight (older (past s.now)) v × Ample s.now }
+    ensures { (result.tracking ≡ 1) × Became (past s.now) (pitch_of v) result }
 {
-    let old = v.tracker;
-    let tone = v.tone;
-    Pitch {
-        tracker: old.update(s, m),
-        tone: tone,
-        tracking: v.tracking,
-    }
+    let mut tracker = v.tracker;
+    tracker.update(s);
+    Pitch { tracker, ..v }
 }
 
-// Searching or tracking after sample number n, the newest of the first m.
+// Searching or tracking after sample number n, which stands last.
 pub fn listen(
     v: Pitch,
     f: InForce,
@@ -131,22 +109,18 @@ pub fn listen(
     e: &[u64; EIGHTH_LAGS],
     h: &[i64; EIGHTH_LAGS],
     s: &[i16],
-    m: usize,
 ) -> Pitch
-    requires { PitchRight (older (ago s.now m)) v × ForceIn f × Eighth e.now h.now × Long s.now m }
-    ensures { Listened f n (ago s.now m) e.now h.now v result }
+    requires { PitchRight (older (past s.now)) v × ForceIn f × Eighth e.now h.now × Ample s.now }
+    ensures { Listened f n (past s.now) e.now h.now v result }
 {
     if v.tracking == 1 {
-        let w = followed(v, s, m);
-        if n % 5 == 0 {
-            return track(w, f, s, m);
-        }
-        return w;
+        let w = followed(v, s);
+        if n % 5 == 0 { track(w, f, s) } else { w }
+    } else if n % 8 == 0 {
+        search(v, f, e, h, s)
+    } else {
+        v
     }
-    if n % 8 == 0 {
-        return search(v, f, e, h, s, m);
-    }
-    v
 }
 
 // A pitch as it is kept: the eight lags are blank while searching.
@@ -156,10 +130,9 @@ pub fn settled(v: Pitch) -> Pitch
     if v.tracking == 1 {
         return v;
     }
-    let tone = v.tone;
     Pitch {
         tracker: blank(),
-        tone: tone,
         tracking: 0,
+        ..v
     }
 }

@@ -7,7 +7,7 @@ ghost use Rattle.rules.specs.Rules as rules;
 ghost use Rattle.rules.specs.Rules.{longest_block};
 ghost use Rattle.rules.specs.Position.{Paced};
 ghost use Rattle.ages.specs.Ages.{ago};
-ghost use Rattle.reading.specs.Bends.{bend, lift};
+ghost use Rattle.reading.specs.Bends.{lift};
 ghost use Rattle.reading.specs.Gliding.{Grown, among_four, PacedAll, Glided};
 
 use rules::LONGEST_BLOCK;
@@ -30,63 +30,43 @@ fn grow(g: Growth, rate: u32, period: u32) -> Growth
         return Growth {
             behind: b + 256 * period - rate,
             repeated: g.repeated + 1,
-            dropped: g.dropped,
+            ..g
         };
     }
     let k = b - rate;
     if rules::FARTHEST < k {
-        return Growth {
+        Growth {
             behind: k - 256 * period,
-            repeated: g.repeated,
             dropped: g.dropped + 1,
-        };
-    }
-    Growth {
-        behind: k,
-        repeated: g.repeated,
-        dropped: g.dropped,
+            ..g
+        }
+    } else {
+        Growth { behind: k, ..g }
     }
 }
 
-// What square and cube add to the slope of the curve.
-fn bend(p: i16, a: i16, b: i16, q: i16, u: u32) -> i64
-    requires { u ≤ 4096 }
-    ensures { result ≡ bend p a b q u }
-{
-    let left = p as i64;
-    let here = a as i64;
-    let next = b as i64;
-    let right = q as i64;
-    let v = u as i64;
-    let rise = next - here;
-    let cube = right - left - 3 * rise;
-    let square = left - here + rise - cube;
-    (cube * v + 4096 * square) * v
-}
-
-// How far the curve through neighbours p, a, b and q lies above a with u of 4096, in 1/(2 x 4096^3).
+// How far the curve through neighbours p, a, b and q lies above a with u of 4096, in 1/(2 x 4096^3): the slope, and what square and cube add to it.
 fn lift(p: i16, a: i16, b: i16, q: i16, u: u32) -> i64
     requires { u ≤ 4096 }
     ensures { result ≡ lift p a b q u }
 {
-    let bent = bend(p, a, b, q, u);
-    let left = p as i64;
-    let next = b as i64;
-    let v = u as i64;
-    (bent + 16777216 * (next - left)) * v
+    let left = i64::from(p);
+    let here = i64::from(a);
+    let next = i64::from(b);
+    let right = i64::from(q);
+    let v = i64::from(u);
+    let rise = next - here;
+    let cube = right - left - 3 * rise;
+    let square = left - here + rise - cube;
+    let bend = (cube * v + 4096 * square) * v;
+    (bend + 16777216 * (next - left)) * v
 }
 
 // Held within 16 bits.
 fn held(z: i64) -> i16
     ensures { result ≡ rules.held z }
 {
-    if z < -32768 {
-        return -32768;
-    }
-    if 32767 < z {
-        return 32767;
-    }
-    z as i16
+    z.clamp(-32768, 32767) as i16
 }
 
 // Through neighbours p, a, b and q with u of 4096: rounded down once, then held. The sample a is a whole number, and waits until then.
@@ -94,8 +74,7 @@ pub fn through(p: i16, a: i16, b: i16, q: i16, u: u32) -> i16
     requires { u ≤ 4096 }
     ensures { result ≡ rules.through p a b q u }
 {
-    let here = a as i64;
-    held(here + (lift(p, a, b, q, u) >> 37))
+    held(i64::from(a) + (lift(p, a, b, q, u) >> 37))
 }
 
 // Through the four samples from a place on, with u of 4096; with 0 it is a copy of the second.
@@ -103,14 +82,11 @@ fn among(s: &[i16], at: usize, u: u32) -> i16
     requires { (at + 4 ≤ length s.now) × (u ≤ 4096) }
     ensures { result ≡ among_four s.now at u }
 {
-    let a = s[at + 1];
     if u == 0 {
-        return a;
+        s[at + 1]
+    } else {
+        through(s[at], s[at + 1], s[at + 2], s[at + 3], u)
     }
-    let p = s[at];
-    let b = s[at + 2];
-    let q = s[at + 3];
-    through(p, a, b, q, u)
 }
 
 // The output, read 5 samples before a position that lies so far behind the newest of the first m samples.
@@ -138,8 +114,7 @@ pub fn turn(
     ensures { Grown g rate period result × ((n : ℕ) → out.new ≡ set out.old i (rules.reading (ago s.now m) n (rules.input_at n -ℤ pos result.behind))) }
 {
     let r = grow(g, rate, period);
-    let o = read(s, m, r.behind);
-    out[i] = o;
+    out[i] = read(s, m, r.behind);
     r
 }
 
@@ -157,14 +132,12 @@ pub fn glide(
     ensures { Glided behind rates.now periods.now s.now m b out.old out.new result }
 {
     let mut g = Growth {
-        behind: behind,
+        behind,
         repeated: 0,
         dropped: 0,
     };
-    let mut i: usize = 0;
-    while i < b {
+    for i in 0..b {
         g = turn(g, rates[i], periods[i], s, m + i + 1, out, i);
-        i += 1;
     }
     g
 }

@@ -1,11 +1,11 @@
 -- Laws of the parts: each is decided by a function, and what the types alone say of them.
-use Rattle.std.specs.Prelude.{◌≡◌, Bool, List, ℕ, ◌+◌, ◌-◌, ◌<◌, ℤ, pos, length}
+use Rattle.std.specs.Prelude.{◌≡◌, refl, Bool, List, ℕ, ◌+◌, ◌-◌, ◌<◌, ℤ, pos, length}
 use Rattle.std.proofs.Common.{sym, ap, ◌∙◌, arith, take_all}
 use Rattle.whole.specs.Tests.{Decides, decides_as}
 use Rattle.rules.specs.Rules.{Sound, silence, heard_all, kept_samples, kept_eighths, eighth_lags}
 use Rattle.rules.specs.Facts.{ToneIn, LagsIn, value_at, Right}
 use Rattle.rules.proofs.Sane.{tracking_is_not_searching}
-use Rattle.ages.specs.Ages.{ago, Samples}
+use Rattle.ages.specs.Ages.{ago, past, past-all, Samples}
 use Rattle.tracking.specs.declared.Tracker.{Tracker}
 use Rattle.pitch.specs.declared.Pitch.{Pitch as KeptPitch}
 use Rattle.pitch.specs.Pitches.{PitchRight}
@@ -28,8 +28,8 @@ pub ago-all : (s : List ℤ) (m : ℕ) → length s ≡ m → ago s m ≡ sound_
 unfolding ago
 ago-all s m e = ap (heard_all silence) (take_all m s (omega arith))
 
-pub right_of : {b : Bool} {h : List ℤ} {e : List ℕ} {low : ℕ} (s : List ℤ) (m n : ℕ) → length s ≡ m → length e ≡ n → Decides b (Right (ago s m) low (length e) e h) → Decides b (Right (sound_of s) low n e h)
-right_of s m n p q d = rw (ago-all s m p, q) at d
+pub right_of : {b : Bool} {h : List ℤ} {e : List ℕ} {low : ℕ} (s : List ℤ) (m n : ℕ) → length s ≡ m → length e ≡ n → Decides b (Right (past s) low (length e) e h) → Decides b (Right (sound_of s) low n e h)
+right_of s m n p q d = rw (past-all s, ago-all s (length s) refl, q) at d
 
 -- what its types say
 pub record Stores (h : Heard) : Type 0 where

@@ -1,9 +1,9 @@
 -- An eighth-rate sample more: it is stored, and the sums at eighth rate are those with it.
-use Rattle.std.specs.Prelude.{◌≡◌, List, ℕ, ◌+◌, ◌/◌, ◌%◌, ◌≤◌, ◌<◌, ℤ, pos, length, get_or, set}
-use Rattle.std.proofs.Common.{sym, ap, ◌∙◌, subst, arith, ne_eqb, length-set, SFits}
+use Rattle.std.specs.Prelude.{◌≡◌, List, ℕ, ◌+◌, ◌/◌, ◌%◌, ◌≤◌, ◌<◌, ℤ, pos, length, take, get_or, set}
+use Rattle.std.proofs.Common.{sym, ap, ◌∙◌, subst, arith, ne_eqb, length-set, length-take-le, SFits}
 use Rattle.std.specs.Int.{w16}
 use Rattle.rules.specs.Rules.{Sound, heard, older, eighth_sample, eighth_due, eighths_after, kept_eighths, eighth_lags}
-use Rattle.ages.specs.Ages.{ago, Samples, ago-older, ago-put, ago-before, samples-put}
+use Rattle.ages.specs.Ages.{ago, past, past-take, Samples, samples-take, ago-older, ago-put, ago-before, samples-put}
 use Rattle.sums.specs.Kept.{Enough}
 use Rattle.rules.specs.Facts.{Right}
 use Rattle.steps.specs.Silent.{still-right}
@@ -50,17 +50,21 @@ module _ (y : List ℤ) (p : ℕ) (v : ℤ) where
     put-samples = samples-put y p v f (omega (arith, r.long)) r.samples
 
     -- what the update of the sums asks
-    pub put-room : Enough (set y p v) (p + 1) 2 eighth_lags
-    put-room = record { samples = put-samples; long = omega (arith, put-long); from = omega arith; upto = omega arith; reach = omega arith }
+    pub put-room : Enough (take (p + 1) (set y p v)) 2 eighth_lags
+    put-room =
+        record { samples = samples-take (p + 1) (set y p v) put-samples; from = omega arith; upto = omega arith; reach = omega (arith, length-take-le (p + 1) (set y p v) (omega (arith, put-long))) }
 
-    pub put-older : Right (older (ago (set y p v) (p + 1))) 2 eighth_lags e h
-    put-older = subst (λ (x : Sound). Right x 2 eighth_lags e h) (sym (ago-older (set y p v) p (omega (arith, put-long)) ∙ ago-before y p v)) r.sums
+    pub put-older : Right (older (past (take (p + 1) (set y p v)))) 2 eighth_lags e h
+    put-older = subst (λ (x : Sound). Right x 2 eighth_lags e h) (sym (ap older (past-take (set y p v) (p + 1)) ∙ ago-older (set y p v) p (omega (arith, put-long)) ∙ ago-before y p v)) r.sums
 
-    pub put-eighths : {e' : List ℕ} {h' : List ℤ} → Right (ago (set y p v) (p + 1)) 2 eighth_lags e' h' → Eighths (set y p v) (p + 1) e' h'
-    put-eighths q = record { long = put-long; samples = put-samples; sums = q }
+    pub put-eighths : {e' : List ℕ} {h' : List ℤ} → Right (past (take (p + 1) (set y p v))) 2 eighth_lags e' h' → Eighths (set y p v) (p + 1) e' h'
+    put-eighths {e'} {h'} q = record { long = put-long; samples = put-samples; sums = subst (λ (x : Sound). Right x 2 eighth_lags e' h') (past-take (set y p v) (p + 1)) q }
 
     -- silence that goes on leaves the sums as they are
     pub put-silence : v ≡ pos 0 → get_or e 108 0 ≡ 0 → Eighths (set y p v) (p + 1) e h
     put-silence z none =
-        put-eighths
-        (subst (λ (x : Sound). Right x 2 eighth_lags e h) (ap (λ (w : ℤ). heard w (ago y p)) (sym z) ∙ sym (ago-put y p (omega (arith, r.long)) v)) (still-right r.sums none))
+        record {
+          long = put-long;
+          samples = put-samples;
+          sums = subst (λ (x : Sound). Right x 2 eighth_lags e h) (ap (λ (w : ℤ). heard w (ago y p)) (sym z) ∙ sym (ago-put y p (omega (arith, r.long)) v)) (still-right r.sums none);
+        }

@@ -5,7 +5,7 @@
 ghost use Rattle.std.specs.Prelude.{◌≡◌, true, false, ◌+◌, ◌%◌, ◌≤◌, ◌<◌, pos, length, get_or, set, take, drop};
 ghost use Rattle.rules.specs.Rules.{eighth_sample, longest_block, kept_eighths};
 ghost use Rattle.rules.specs.Facts.{ForceIn, value_at};
-ghost use Rattle.ages.specs.Ages.{ago, Samples};
+ghost use Rattle.ages.specs.Ages.{past, Samples};
 ghost use Rattle.passing.specs.Distances.{Long};
 ghost use Rattle.steps.specs.Eighths.{Eighths, Heard};
 ghost use Rattle.steps.specs.Running.{take_so_far, tones, Long512, Ready, Room, Did, Ran, Begins, Ended};
@@ -30,11 +30,7 @@ pub struct Progress {
 fn still_silent(x: i16, e: &[u64; EIGHTH_LAGS]) -> bool
     ensures { result ≡ true → (x ≡ pos 0) × (get_or e.now 108 0 ≡ 0) }
 {
-    if x == 0 {
-        e[LAST_EIGHTH_LAG] == 0
-    } else {
-        false
-    }
+    x == 0 && e[LAST_EIGHTH_LAG] == 0
 }
 
 // The eighth-rate sample is made and stored, and the sums at eighth rate are brought up to it.
@@ -44,20 +40,19 @@ fn eighth(
     e: &mut [u64; EIGHTH_LAGS],
     h: &mut [i64; EIGHTH_LAGS],
     s: &[i16],
-    m: usize,
 )
-    requires { (8 ≤ m) × (m ≤ length s.now) × Samples s.now × (kept_eighths ≤ places) × (places < 288) × Eighths y.old places e.old h.old }
-    ensures { (y.new ≡ set y.old places (eighth_sample (ago s.now m))) × Eighths y.new (places + 1) e.new h.new }
+    requires { (8 ≤ length s.now) × Samples s.now × (kept_eighths ≤ places) × (places < 288) × Eighths y.old places e.old h.old }
+    ensures { (y.new ≡ set y.old places (eighth_sample (past s.now))) × Eighths y.new (places + 1) e.new h.new }
 {
-    let x = ages::eighth_sample(s, m);
+    let x = ages::eighth_sample(s);
     y[places] = x;
     if still_silent(x, e) {
         return;
     }
-    sums::next_all(e, h, 2, y, places + 1);
+    sums::next_all(e, h, 2, &y[..places + 1]);
 }
 
-// An eighth-rate sample is made after samples 8, 16, 24, ..: sample number n is the newest of the first m. How many are stored then.
+// An eighth-rate sample is made after samples 8, 16, 24, ..: sample number n stands last. How many are stored then.
 fn hear(
     y: &mut [i16; OPEN_EIGHTHS],
     places: usize,
@@ -65,16 +60,16 @@ fn hear(
     h: &mut [i64; EIGHTH_LAGS],
     n: u32,
     s: &[i16],
-    m: usize,
 ) -> usize
-    requires { (8 ≤ m) × (m ≤ length s.now) × Samples s.now × (kept_eighths ≤ places) × (n % 8 ≡ 0 → places < 288) × Eighths y.old places e.old h.old }
-    ensures { Heard n (ago s.now m) y.old places y.new result e.new h.new }
+    requires { (8 ≤ length s.now) × Samples s.now × (kept_eighths ≤ places) × (n % 8 ≡ 0 → places < 288) × Eighths y.old places e.old h.old }
+    ensures { Heard n (past s.now) y.old places y.new result e.new h.new }
 {
     if n % 8 == 0 {
-        eighth(y, places, e, h, s, m);
-        return places + 1;
+        eighth(y, places, e, h, s);
+        places + 1
+    } else {
+        places
     }
-    places
 }
 
 // One sample, which stands after the first m, is heard; the tone after it goes to place i.
@@ -96,21 +91,18 @@ fn step(
         × Did f s.now m y.old p y.new result
         (tones periods.old notes.old rates.old) i (tones periods.new notes.new rates.new) }
 {
-    let n = p.count + 1;
-    let heard = m + 1;
-    let places = hear(y, p.places, e, h, n, s, heard);
-    let old = p.pitch;
-    let v = pitch::listen(old, f, n, e, h, s, heard);
+    let count = p.count + 1;
+    let heard = &s[..m + 1];
+    let places = hear(y, p.places, e, h, count, heard);
+    let v = pitch::listen(p.pitch, f, count, e, h, heard);
     periods[i] = v.tone.period;
     notes[i] = v.tone.note;
     rates[i] = v.tone.rate;
     Progress {
-        count: n,
-        places: places,
-        behind: p.behind,
-        repeated: p.repeated,
-        dropped: p.dropped,
+        count,
+        places,
         pitch: v,
+        ..p
     }
 }
 
@@ -132,10 +124,8 @@ pub fn hear_all(
     ensures { Going f s.now m y.old (tones periods.old notes.old rates.old) p b y.new e.new h.new (tones periods.new notes.new rates.new) result }
 {
     let mut q = p;
-    let mut i: usize = 0;
-    while i < b {
+    for i in 0..b {
         q = step(q, f, y, e, h, s, m + i, periods, notes, rates, i);
-        i += 1;
     }
     q
 }
@@ -162,10 +152,12 @@ pub fn run(
         (tones periods.old notes.old rates.old) (tones periods.new notes.new rates.new) p result
         × Ended b p result }
 {
-    let mut q = hear_all(p, f, y, e, h, s, m, b, periods, notes, rates);
+    let q = hear_all(p, f, y, e, h, s, m, b, periods, notes, rates);
     let r = reading::glide(p.behind, rates, periods, s, m, b, out);
-    q.behind = r.behind;
-    q.repeated = r.repeated;
-    q.dropped = r.dropped;
-    q
+    Progress {
+        behind: r.behind,
+        repeated: r.repeated,
+        dropped: r.dropped,
+        ..q
+    }
 }

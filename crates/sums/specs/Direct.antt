@@ -10,7 +10,7 @@ use Rattle.rules.specs.Facts.{value_at}
 use Rattle.whole.specs.Ring.{var, con, ◌⊕◌, ◌⊖◌, ◌⊗◌, solve}
 use Rattle.whole.specs.Sums.{adds, addsℤ, fold-below, fold-reverse}
 use Rattle.rules.specs.Rules.{Sound, sq, E, H}
-use Rattle.ages.specs.Ages.{ago, ago-at}
+use Rattle.ages.specs.Ages.{past, past_at}
 use Rattle.sums.specs.Kept.{squares}
 
 -- the parts of a product, summed apart
@@ -99,21 +99,21 @@ pub E-squares : (x : Sound) (L : ℕ) → squares x (2 * L) ≡ E x L
 unfolding E
 E-squares x L = refl
 
-module _ (s : List ℤ) (m n : ℕ) (long : m ≤ length s) where
-  -- the newest n of the first m, oldest first, stand from m - n on
-  place : n ≤ m → (j k : ℕ) → j + suc k ≡ n → ago s m j ≡ value_at s (m - n + k)
-  place h j k e = ago-at s m j long (omega arith) ∙ ap (value_at s) (omega arith)
+module _ (s : List ℤ) (n : ℕ) (h : n ≤ length s) where
+  -- the newest n, oldest first, stand from length s - n on
+  place : (j k : ℕ) → j + suc k ≡ n → past s j ≡ value_at s (length s - n + k)
+  place j k e = past_at s j (omega arith) ∙ ap (value_at s) (omega arith)
 
-  pub oldest_squares : n ≤ m → total (λ (k : ℕ). sq (value_at s (m - n + k))) n ≡ squares (ago s m) n
-  oldest_squares h =
-      sym (fold-reverse adds (λ (k : ℕ). sq (ago s m k)) n
-      ∙ fold-below adds (λ (k : ℕ). sq (ago s m (n - suc k))) (λ (k : ℕ). sq (value_at s (m - n + k))) n (λ k l. ap sq (place h (n - suc k) k (omega arith))))
+  pub oldest_squares : total (λ (k : ℕ). sq (value_at s (length s - n + k))) n ≡ squares (past s) n
+  oldest_squares =
+      sym (fold-reverse adds (λ (k : ℕ). sq (past s k)) n
+      ∙ fold-below adds (λ (k : ℕ). sq (past s (n - suc k))) (λ (k : ℕ). sq (value_at s (length s - n + k))) n (λ k l. ap sq (place (n - suc k) k (omega arith))))
 
 -- H of the newest 2 L, from the two places where they start
-pub oldest_products : (s : List ℤ) (m L : ℕ) → m ≤ length s → 2 * L ≤ m
-    → sum (λ (k : ℕ). value_at s (m - L + k) *ℤ value_at s (m - 2 * L + k)) L ≡ H (ago s m) L
+pub oldest_products : (s : List ℤ) (L : ℕ) → 2 * L ≤ length s
+    → sum (λ (k : ℕ). value_at s (length s - L + k) *ℤ value_at s (length s - L - L + k)) L ≡ H (past s) L
 unfolding H
-oldest_products s m L long h =
-    sym (fold-reverse addsℤ (λ (k : ℕ). ago s m k *ℤ ago s m (k + L)) L
-    ∙ fold-below addsℤ (λ (k : ℕ). ago s m (L - suc k) *ℤ ago s m (L - suc k + L)) (λ (k : ℕ). value_at s (m - L + k) *ℤ value_at s (m - 2 * L + k)) L
-    (λ k l i. place s m L long (omega arith) (L - suc k) k (omega arith) i *ℤ place s m (2 * L) long h (L - suc k + L) k (omega arith) i))
+oldest_products s L h =
+    sym (fold-reverse addsℤ (λ (k : ℕ). past s k *ℤ past s (k + L)) L
+    ∙ fold-below addsℤ (λ (k : ℕ). past s (L - suc k) *ℤ past s (L - suc k + L)) (λ (k : ℕ). value_at s (length s - L + k) *ℤ value_at s (length s - L - L + k)) L
+    (λ k l i. place s L (omega arith) (L - suc k) k (omega arith) i *ℤ (place s (2 * L) h (L - suc k + L) k (omega arith) ∙ ap (value_at s) (let e : length s - 2 * L + k ≡ length s - L - L + k = omega arith in e)) i))

@@ -16,13 +16,12 @@ pub record RightAt (x : Sound) (lag e : ℕ) (h : ℤ) : Type 0 where
   pub energy : e ≡ E x lag
   pub correlation : h ≡ H x lag
 
--- the first m samples of a store are enough for the n lags from low on, and for one lag more
-pub record Enough (s : List ℤ) (m low n : ℕ) : Type 0 where
+-- the samples are enough for the n lags from low on, and for one lag more
+pub record Enough (s : List ℤ) (low n : ℕ) : Type 0 where
   pub samples : Samples s
-  pub long : m ≤ length s
   pub from : 1 ≤ low
   pub upto : low + n ≤ 881
-  pub reach : 2 * (low + n) ≤ m
+  pub reach : 2 * (low + n) ≤ length s
 
 -- all of them are 0
 abbrev pub Zeros : List ℕ → List ℤ → Type 0

@@ -9,11 +9,10 @@ use Rattle.rules.specs.Facts.{value_at, Right}
 use Rattle.sums.specs.Kept.{RightAt, Enough}
 
 -- room for all lags is room for each
-pub room_at : {s : List ℤ} {m low n : ℕ} → Enough s m low n → (i : ℕ) → i < n → Enough s m (low + i) 1
+pub room_at : {s : List ℤ} {low n : ℕ} → Enough s low n → (i : ℕ) → i < n → Enough s (low + i) 1
 room_at r i h =
     record {
       samples = r.samples;
-      long = r.long;
       from = omega (arith, r.from);
       upto = omega (arith, r.upto);
       reach = omega (arith, r.reach);

@@ -7,7 +7,7 @@ ghost use Rattle.whole.specs.Numbers.{sum};
 ghost use Rattle.whole.specs.Tests.{Decides};
 ghost use Rattle.rules.specs.Rules.{older, sq, E};
 ghost use Rattle.rules.specs.Rules as rules;
-ghost use Rattle.ages.specs.Ages.{ago};
+ghost use Rattle.ages.specs.Ages.{past};
 ghost use Rattle.sums.specs.Direct.{high_of, low_of, products};
 ghost use Rattle.sums.specs.Kept.{squares, RightAt, Enough, Zeros};
 ghost use Rattle.rules.specs.Facts.{Right};
@@ -22,7 +22,7 @@ pub struct Sums {
 fn square(x: i16) -> u64
     ensures { (result ≡ sq x) × (result ≤ 2 ^ 30) }
 {
-    let a = x as i32;
+    let a = i32::from(x);
     (a * a) as u64
 }
 
@@ -30,9 +30,7 @@ fn square(x: i16) -> u64
 fn product(x: i16, y: i16) -> i32
     ensures { (result ≡ x *ℤ y) × (nat_abs result ≤ 2 ^ 30) }
 {
-    let a = x as i32;
-    let b = y as i32;
-    a * b
+    i32::from(x) * i32::from(y)
 }
 
 // A product less 1, which is shorter than 2^30 on either side.
@@ -69,55 +67,43 @@ fn turned(h: i64, x: i16, y: i16, z: i16) -> i64
     requires { nat_abs h ≤ 2 ^ 62 }
     ensures { result ≡ h +ℤ x *ℤ y -ℤ y *ℤ z }
 {
-    let a = x as i64;
-    let b = y as i64;
-    let c = z as i64;
-    h + b * (a - c)
+    h + i64::from(y) * (i64::from(x) - i64::from(z))
 }
 
 // E and H at one lag after the newest sample x, from those before it.
-fn next(s: &[i16], m: usize, lag: usize, x: i16, t: Sums) -> Sums
-    requires { Enough s.now m lag 1 × (x ≡ ago s.now m 0) × RightAt (older (ago s.now m)) lag t.e t.h }
-    ensures { RightAt (ago s.now m) lag result.e result.h }
+fn next(s: &[i16], lag: usize, x: i16, t: Sums) -> Sums
+    requires { Enough s.now lag 1 × (x ≡ past s.now 0) × RightAt (older (past s.now)) lag t.e t.h }
+    ensures { RightAt (past s.now) lag result.e result.h }
 {
-    let y = ages::back(s, m, lag);
-    let z = ages::back(s, m, 2 * lag);
-    let e = t.e + square(x) - square(z);
-    let h = turned(t.h, x, y, z);
-    Sums { e: e, h: h }
-}
-
-// All of them, at the lags from low on.
-pub fn next_all(e: &mut [u64], h: &mut [i64], low: usize, s: &[i16], m: usize)
-    requires { Enough s.now m low (length e.old) × Right (older (ago s.now m)) low (length e.old) e.old h.old }
-    ensures { Right (ago s.now m) low (length e.old) e.new h.new }
-{
-    let x = ages::back(s, m, 0);
-    let n = e.len();
-    let mut i: usize = 0;
-    while i < n {
-        let a = e[i];
-        let b = h[i];
-        let t = next(s, m, low + i, x, Sums { e: a, h: b });
-        let v = t.e;
-        let w = t.h;
-        e[i] = v;
-        h[i] = w;
-        i += 1;
+    let y = ages::back(s, lag);
+    let z = ages::back(s, 2 * lag);
+    Sums {
+        e: t.e + square(x) - square(z),
+        h: turned(t.h, x, y, z),
     }
 }
 
-// The sum of squares of the newest `count` samples of the first m.
-fn energy(s: &[i16], m: usize, count: usize) -> u64
-    requires { (m ≤ length s.now) × (count ≤ m) × (count ≤ 1762) }
-    ensures { result ≡ squares (ago s.now m) count }
+// All of them, at the lags from low on.
+pub fn next_all(e: &mut [u64], h: &mut [i64], low: usize, s: &[i16])
+    requires { Enough s.now low (length e.old) × Right (older (past s.now)) low (length e.old) e.old h.old }
+    ensures { Right (past s.now) low (length e.old) e.new h.new }
 {
-    let from = m - count;
-    let mut sum: u64 = 0;
-    let mut i: usize = 0;
-    while i < count {
-        sum += square(s[from + i]);
-        i += 1;
+    let x = ages::back(s, 0);
+    for i in 0..e.len() {
+        let t = next(s, low + i, x, Sums { e: e[i], h: h[i] });
+        e[i] = t.e;
+        h[i] = t.h;
+    }
+}
+
+// The sum of squares of the newest `count` samples.
+fn energy(s: &[i16], count: usize) -> u64
+    requires { (count ≤ length s.now) × (count ≤ 1762) }
+    ensures { result ≡ squares (past s.now) count }
+{
+    let mut sum = 0;
+    for x in &s[s.len() - count..] {
+        sum += square(*x);
     }
     sum
 }
@@ -127,91 +113,76 @@ fn by_pairs(s: &[i16], to: usize, from: usize, pairs: usize) -> i64
     requires { (to + 2 * pairs ≤ length s.now) × (from + 2 * pairs ≤ length s.now) × (pairs ≤ 440) }
     ensures { (result ≡ sum (products s.now to from) (2 * pairs)) × (nat_abs result ≤ 2 ^ 40) }
 {
-    let mut highs: i32 = 0;
-    let mut lows: i32 = 0;
-    let mut i: usize = 0;
-    while i < pairs {
+    let mut highs = 0;
+    let mut lows = 0;
+    for i in 0..pairs {
         let k = 2 * i;
         let p = pair(s[to + k], s[from + k], s[to + k + 1], s[from + k + 1]);
         highs += high_part(p);
         lows += low_part(p);
-        i += 1;
     }
-    let a = highs as i64;
-    let b = lows as i64;
-    a * 65536 + b + pairs as i64
+    i64::from(highs) * 65536 + i64::from(lows) + pairs as i64
 }
 
-// The sum, over the newest `lag` samples of the first m, of each times the one `lag` before it.
-fn correlation(s: &[i16], m: usize, lag: usize) -> i64
-    requires { (m ≤ length s.now) × (2 * lag ≤ m) × (lag ≤ 881) }
-    ensures { result ≡ rules.H (ago s.now m) lag }
+// The sum, over the newest `lag` samples, of each times the one `lag` before it.
+fn correlation(s: &[i16], lag: usize) -> i64
+    requires { (2 * lag ≤ length s.now) × (lag ≤ 881) }
+    ensures { result ≡ rules.H (past s.now) lag }
 {
-    let to = m - lag;
+    let to = s.len() - lag;
     let pairs = lag / 2;
-    let sum = by_pairs(s, to, m - 2 * lag, pairs);
+    let sum = by_pairs(s, to, to - lag, pairs);
     if 2 * pairs == lag {
         return sum;
     }
-    sum + product(s[m - 1], s[to - 1]) as i64
+    sum + i64::from(product(s[s.len() - 1], s[to - 1]))
 }
 
 // E and H at one lag from the samples themselves.
-pub fn direct(s: &[i16], m: usize, lag: usize) -> Sums
-    requires { Enough s.now m lag 1 }
-    ensures { RightAt (ago s.now m) lag result.e result.h }
+pub fn direct(s: &[i16], lag: usize) -> Sums
+    requires { Enough s.now lag 1 }
+    ensures { RightAt (past s.now) lag result.e result.h }
 {
-    let e = energy(s, m, 2 * lag);
-    let h = correlation(s, m, lag);
-    Sums { e: e, h: h }
+    Sums {
+        e: energy(s, 2 * lag),
+        h: correlation(s, lag),
+    }
 }
 
 // E at the next lag: two squares more.
-fn one_lag_more(s: &[i16], m: usize, lag: usize, e: u64) -> u64
-    requires { Enough s.now m lag 1 × (e ≡ E (ago s.now m) lag) }
-    ensures { result ≡ E (ago s.now m) (lag + 1) }
+fn one_lag_more(s: &[i16], lag: usize, e: u64) -> u64
+    requires { Enough s.now lag 1 × (e ≡ E (past s.now) lag) }
+    ensures { result ≡ E (past s.now) (lag + 1) }
 {
-    let y = ages::back(s, m, 2 * lag);
-    let z = ages::back(s, m, 2 * lag + 1);
+    let y = ages::back(s, 2 * lag);
+    let z = ages::back(s, 2 * lag + 1);
     e + square(y) + square(z)
 }
 
 // All of them from the samples themselves, at the lags from low on.
-pub fn direct_all(e: &mut [u64], h: &mut [i64], low: usize, s: &[i16], m: usize)
-    requires { Enough s.now m low (length e.old) × (length h.old ≡ length e.old) }
-    ensures { Right (ago s.now m) low (length e.old) e.new h.new }
+pub fn direct_all(e: &mut [u64], h: &mut [i64], low: usize, s: &[i16])
+    requires { Enough s.now low (length e.old) × (length h.old ≡ length e.old) }
+    ensures { Right (past s.now) low (length e.old) e.new h.new }
 {
-    let n = e.len();
-    let mut sum = energy(s, m, 2 * low);
-    let mut i: usize = 0;
-    while i < n {
+    let mut sum = energy(s, 2 * low);
+    for i in 0..e.len() {
         e[i] = sum;
-        h[i] = correlation(s, m, low + i);
-        sum = one_lag_more(s, m, low + i, sum);
-        i += 1;
+        h[i] = correlation(s, low + i);
+        sum = one_lag_more(s, low + i, sum);
     }
 }
 
 // Each kept E and H, at the lags from low on, is the direct sum.
-pub fn all_right(e: &[u64], h: &[i64], low: usize, s: &[i16], m: usize) -> bool
-    requires { Enough s.now m low (length e.now) × (length h.now ≡ length e.now) }
-    ensures { Decides result (Right (ago s.now m) low (length e.now) e.now h.now) }
+pub fn all_right(e: &[u64], h: &[i64], low: usize, s: &[i16]) -> bool
+    requires { Enough s.now low (length e.now) × (length h.now ≡ length e.now) }
+    ensures { Decides result (Right (past s.now) low (length e.now) e.now h.now) }
 {
-    let n = e.len();
-    let mut sum = energy(s, m, 2 * low);
-    let mut i: usize = 0;
-    while i < n {
-        let a = e[i];
-        if a != sum {
+    let mut sum = energy(s, 2 * low);
+    for i in 0..e.len() {
+        if e[i] != sum || h[i] != correlation(s, low + i) {
             return false;
         }
-        let b = h[i];
-        let c = correlation(s, m, low + i);
-        if b != c {
-            return false;
-        }
-        sum = one_lag_more(s, m, low + i, sum);
-        i += 1;
+        sum = one_lag_more(s, low + i, sum);
     }
     true
 }
@@ -221,27 +192,17 @@ fn none(e: &[u64], h: &[i64]) -> bool
     requires { length h.now ≡ length e.now }
     ensures { Decides result (Zeros e.now h.now) }
 {
-    let n = e.len();
-    let mut i: usize = 0;
-    while i < n {
-        if e[i] != 0 {
-            return false;
-        }
-        if h[i] != 0 {
-            return false;
-        }
-        i += 1;
-    }
-    true
+    e.iter().all(|e| *e == 0) && h.iter().all(|h| *h == 0)
 }
 
 // Each kept E and H at eighth rate, at the lags from 2 on, is the direct sum. In silence, which the energy of one lag more shows, each is 0.
-pub fn eighths_right(e: &[u64], h: &[i64], s: &[i16], m: usize) -> bool
-    requires { Enough s.now m 2 (length e.now) × (length h.now ≡ length e.now) }
-    ensures { Decides result (Right (ago s.now m) 2 (length e.now) e.now h.now) }
+pub fn eighths_right(e: &[u64], h: &[i64], s: &[i16]) -> bool
+    requires { Enough s.now 2 (length e.now) × (length h.now ≡ length e.now) }
+    ensures { Decides result (Right (past s.now) 2 (length e.now) e.now h.now) }
 {
-    if energy(s, m, 2 * (2 + e.len())) == 0 {
-        return none(e, h);
+    if energy(s, 2 * (2 + e.len())) == 0 {
+        none(e, h)
+    } else {
+        all_right(e, h, 2, s)
     }
-    all_right(e, h, 2, s, m)
 }

@@ -7,8 +7,8 @@ ghost use Rattle.whole.specs.Numbers.{floor_div};
 ghost use Rattle.rules.specs.Facts.{Right};
 ghost use Rattle.rules.specs.Rules.{Sound, older, E, D, lowest_lag, highest_lag, is_lost, offset, moved};
 ghost use Rattle.rules.specs.Choosing.{First};
-ghost use Rattle.ages.specs.Ages.{ago};
-ghost use Rattle.passing.specs.Distances.{Modest, Long, Distances, Small};
+ghost use Rattle.ages.specs.Ages.{past};
+ghost use Rattle.passing.specs.Distances.{Modest, Ample, Distances, Small};
 ghost use Rattle.tracking.specs.Tracking.{place, PeriodAt, Tracks, Stepped};
 
 use rules::Settings;
@@ -45,26 +45,18 @@ fn vertex(d1: u64, d2: u64, d3: u64) -> i64
     ensures { (result ≡ offset d1 d2 d3) × (nat_abs result ≤ 128) }
 {
     let m = bend(d1, d2, d3);
-    let a = d1 as i64;
-    let b = d3 as i64;
-    let n = m as i64;
-    floor_div(2 * (128 * (a - b)) + n, 2 * m)
+    floor_div(2 * (128 * (d1 as i64 - d3 as i64)) + m as i64, 2 * m)
 }
 
 // The place of the least of the eight, the first on equality.
 fn least(d: &[u64; 8]) -> usize
     ensures { First (place d.now) 8 result }
 {
-    let mut at: usize = 0;
-    let mut low = d[0];
-    let mut j: usize = 1;
-    while j < 8 {
-        let n = d[j];
-        if n < low {
+    let mut at = 0;
+    for j in 1..8 {
+        if d[j] < d[at] {
             at = j;
-            low = n;
         }
-        j += 1;
     }
     at
 }
@@ -74,20 +66,12 @@ fn period(d: &[u64; 8], low: u32, at: usize) -> u32
     requires { First (place d.now) 8 at × (lowest_lag ≤ low) × (low ≤ highest_lag - 7) × Small 8 d.now }
     ensures { (x : Sound) → Distances x low 8 d.now → PeriodAt x low at result }
 {
-    let n = at as u32;
-    let b = 256 * (low + n);
-    if at == 0 {
-        return b;
+    let best = 256 * (low + at as u32);
+    if at == 0 || at == 7 {
+        return best;
     }
-    if at == 7 {
-        return b;
-    }
-    let d1 = d[at - 1];
-    let d2 = d[at];
-    let d3 = d[at + 1];
-    let v = vertex(d1, d2, d3);
-    let w = b as i64;
-    (w + v) as u32
+    let v = vertex(d[at - 1], d[at], d[at + 1]);
+    (best as i64 + v) as u32
 }
 
 // The lowest lag after the step.
@@ -117,105 +101,56 @@ fn lost(d: u64, e: u64, g: Settings, lag: u32, last: u32) -> bool
     requires { Modest g × (d ≤ 2 ^ 42) × (e ≤ 2 ^ 42) × (lag ≤ highest_lag) × (last ≤ highest_lag) }
     ensures { (x : Sound) → d ≡ D x lag → e ≡ E x lag → result ≡ is_lost g x lag last }
 {
-    if lag > last + 3 {
-        return true;
-    }
-    if last > lag + 3 {
-        return true;
-    }
-    !passing::passing(g, d, e, lag as usize)
-}
-
-// What a tracking step leaves: lost, or the period and the eight lags after it.
-#[derive(Clone, Copy)]
-pub struct Tracked {
-    pub kept: bool,
-    pub period: u32,
-    pub tracker: Tracker,
+    lag > last + 3 || last > lag + 3 || !passing::passing(g, d, e, lag as usize)
 }
 
 // The sums of the eight lags from another lowest on; where it is the same, they stay.
-fn moved_sums(e: &mut [u64; 8], h: &mut [i64; 8], from: u32, to: u32, s: &[i16], m: usize)
-    requires { (lowest_lag ≤ to) × (to ≤ highest_lag - 7) × Long s.now m × Right (ago s.now m) from 8 e.old h.old }
-    ensures { Right (ago s.now m) to 8 e.new h.new }
+fn moved_sums(e: &mut [u64; 8], h: &mut [i64; 8], from: u32, to: u32, s: &[i16])
+    requires { (lowest_lag ≤ to) × (to ≤ highest_lag - 7) × Ample s.now × Right (past s.now) from 8 e.old h.old }
+    ensures { Right (past s.now) to 8 e.new h.new }
 {
-    if from == to {
-        return;
+    if from != to {
+        sums::direct_all(e, h, to as usize, s);
     }
-    sums::direct_all(e, h, to as usize, s, m);
 }
 
 impl Tracker {
     // Tracks the eight lags from low on, with a last best lag, their sums right at once.
-    pub fn at(low: u32, last: u32, s: &[i16], m: usize) -> Tracker
-        requires { (lowest_lag ≤ low) × (low ≤ highest_lag - 7) × Long s.now m }
-        ensures { Tracks (ago s.now m) low last result }
+    pub fn at(low: u32, last: u32, s: &[i16]) -> Tracker
+        requires { (lowest_lag ≤ low) × (low ≤ highest_lag - 7) × Ample s.now }
+        ensures { Tracks (past s.now) low last result }
     {
-        let mut e = [0u64; 8];
-        let mut h = [0i64; 8];
-        sums::direct_all(&mut e, &mut h, low as usize, s, m);
-        Tracker {
-            low: low,
-            last: last,
-            e: e,
-            h: h,
-        }
+        let mut e = [0; 8];
+        let mut h = [0; 8];
+        sums::direct_all(&mut e, &mut h, low as usize, s);
+        Tracker { low, last, e, h }
     }
 
     // One more sample.
-    pub fn update(self, s: &[i16], m: usize) -> Tracker
-        requires { (lowest_lag ≤ self.low) × (self.low ≤ highest_lag - 7) × Long s.now m × Right (older (ago s.now m)) self.low 8 self.e self.h }
-        ensures { Tracks (ago s.now m) self.low self.last result }
+    pub fn update(&mut self, s: &[i16])
+        requires { (lowest_lag ≤ self.old.low) × (self.old.low ≤ highest_lag - 7) × Ample s.now × Right (older (past s.now)) self.old.low 8 self.old.e self.old.h }
+        ensures { Tracks (past s.now) self.old.low self.old.last self.new }
     {
-        let low = self.low;
-        let mut e = self.e;
-        let mut h = self.h;
-        sums::next_all(&mut e, &mut h, low as usize, s, m);
-        Tracker {
-            low: low,
-            last: self.last,
-            e: e,
-            h: h,
-        }
+        sums::next_all(&mut self.e, &mut self.h, self.low as usize, s);
     }
 
-    // A tracking step.
-    pub fn step(self, g: Settings, s: &[i16], m: usize) -> Tracked
-        requires { (lowest_lag ≤ self.low) × (self.low ≤ highest_lag - 7) × (self.last ≤ highest_lag) × Modest g × Long s.now m × Right (ago s.now m) self.low 8 self.e self.h }
-        ensures { Stepped g (ago s.now m) self result }
+    // A tracking step: the period in 1/256 sample, or none where it is lost.
+    pub fn step(&mut self, g: Settings, s: &[i16]) -> Option<u32>
+        requires { (lowest_lag ≤ self.old.low) × (self.old.low ≤ highest_lag - 7) × (self.old.last ≤ highest_lag) × Modest g × Ample s.now × Right (past s.now) self.old.low 8 self.old.e self.old.h }
+        ensures { Stepped g (past s.now) self.old result self.new }
     {
-        let mut e = self.e;
-        let mut h = self.h;
-        let mut d = [0u64; 8];
-        passing::distances(&mut d, &e, &h);
+        let mut d = [0; 8];
+        passing::distances(&mut d, &self.e, &self.h);
         let at = least(&d);
-        let low = self.low;
-        let lag = low + (at as u32);
-        let last = self.last;
-        if lost(d[at], e[at], g, lag, last) {
-            return Tracked {
-                kept: false,
-                period: 0,
-                tracker: Tracker {
-                    low: low,
-                    last: last,
-                    e: e,
-                    h: h,
-                },
-            };
+        let lag = self.low + at as u32;
+        if lost(d[at], self.e[at], g, lag, self.last) {
+            return None;
         }
-        let p = period(&d, low, at);
-        let next = moved_low(low, at);
-        moved_sums(&mut e, &mut h, low, next, s, m);
-        Tracked {
-            kept: true,
-            period: p,
-            tracker: Tracker {
-                low: next,
-                last: lag,
-                e: e,
-                h: h,
-            },
-        }
+        let p = period(&d, self.low, at);
+        let low = moved_low(self.low, at);
+        moved_sums(&mut self.e, &mut self.h, self.low, low, s);
+        self.low = low;
+        self.last = lag;
+        Some(p)
     }
 }

@@ -1,18 +1,18 @@
 -- A voice over the samples of a block: where its position stands after each, and what it writes there. The code keeps it by how far it lies behind the input.
 -- Its rate is the tracked period over an entry of the table, so it lies no farther from one than a cycle is long: the lead's bounds are its own.
-use Rattle.std.specs.Prelude.{◌≡◌, Bool, ◌&&◌, ◌||◌, List, ◌++◌, ◌-ℤ◌, length, get_or}
+use Rattle.std.specs.Prelude.{◌≡◌, Bool, ◌&&◌, List, ◌++◌, ◌-ℤ◌, length, get_or}
 use Rattle.std.proofs.Math.Path.{refl, ap, subst, transport}
 use Rattle.std.proofs.Common.{sym, ◌∙◌, add-zero, add-suc, div-lt_iff_lt-mul, le-div_iff_mul-le, length-set}
 use Prim.Native.Nat.{ℕ, zero, suc, ◌+◌, ◌-◌, ◌*◌, ◌≤◌, ◌<◌}
 use Rattle.std.proofs.Math.Nat.{mul-le-mul_right}
 use native.Mathlib.Omega.{arith}
 use Rattle.std.proofs.Math.Numerals.{add-one}
-use borrow.Author.Tests.{leb-true, ltb-true, ltb-false, lt-ltb, le-ltb, eq-eqb, ne_eqb}
+use borrow.Author.Tests.{leb-true, ltb-true, ltb-false, lt-ltb, le-ltb}
 use Rattle.std.proofs.Math.Dec.{leb, ltb}
 use Rattle.std.proofs.Math.IntN.{ℤ, pos, +ℤ_idr}
 use Rattle.std.proofs.Math.ListN.{set, drop, length-append}
 use Rattle.whole.specs.Tests.{by, cond_yes, cond_no, and_no}
-use Rattle.rules.specs.Rules.{longest_block, no_note, table, first_note, cd_table, film_table, least_period, greatest_period, farthest, input_at, Growth, growth, reading, raw_rate, wanted_period}
+use Rattle.rules.specs.Rules.{longest_block, table, first_note, cd_table, film_table, least_period, greatest_period, farthest, input_at, Growth, growth, reading, raw_rate, wanted_period}
 use Rattle.rules.specs.Facts.{SampleRate, OfTable}
 use Rattle.rules.proofs.Table.{at_each_note}
 use Rattle.rules.specs.Notes.{end}
@@ -21,24 +21,8 @@ use Rattle.rules.specs.Position.{Paced}
 use Rattle.rules.proofs.Position.{growth-keeps, growth-drops, growth-repeats}
 use Rattle.ages.specs.Ages.{ago}
 use Rattle.reading.specs.Gliding.{one_more_lem}
-use Rattle.voices.specs.Voices.{unison, voice_note, voice_period, voice_rate, Voiced, voiced}
+use Rattle.voices.specs.Voices.{voice_period, voice_rate, Voiced, voiced}
 use Rattle.voices.specs.Singing.{Kept, Moved, RateIn, Sang, SangTo, Sounded, Tracked, sing_after, sing_next, sing_outs}
-
--- ---- the note
-
--- none without a wanted note, or below note 0; else so many semitones from it
-module _ (interval n : ℕ) where
-  pub note-none : n ≡ no_note → voice_note interval n ≡ no_note
-  unfolding voice_note
-  note-none e = cond_yes no_note _ (ap (λ (b : Bool). b || ltb (n + interval) unison) (eq-eqb n no_note e))
-
-  pub note-below : (n ≡ no_note → ⊥) → n + interval < unison → voice_note interval n ≡ no_note
-  unfolding voice_note
-  note-below h l = cond_yes no_note _ (ap (λ (b : Bool). b || ltb (n + interval) unison) (ne_eqb n no_note h) ∙ lt-ltb (n + interval) unison l)
-
-  pub note-is : (n ≡ no_note → ⊥) → unison ≤ n + interval → voice_note interval n ≡ n + interval - unison
-  unfolding voice_note
-  note-is h l = cond_no no_note _ (ap (λ (b : Bool). b || ltb (n + interval) unison) (ne_eqb n no_note h) ∙ le-ltb (n + interval) unison l)
 
 -- ---- the rate
 

@@ -19,12 +19,9 @@ loop-i-preserved c =
     let x = get_or a.xs.now l.i (pos 0) in
     let f : SFits w16 x = search rules in
     let e : to_z w16 (of_z w16 x) ≡ x = to_z-of_z f in (
-      omega arith,
-      (
-        length-set l.into (a.from + l.i) (to_z w16 (of_z w16 x)) ∙ l.invariant.1.0,
-        (λ n. set (l.invariant.1.1 n) (a.from + l.i) (e n))
-            ∙ paste-suc a.into.now a.from a.xs.now l.i (pos 0) (omega arith) (omega arith)
-            ∙ ap (paste a.into.now a.from a.xs.now) (sym (add-one l.i)),
-        λ r. samples-put l.into (a.from + l.i) (to_z w16 (of_z w16 x)) (subst (SFits w16) (sym e) f) (omega arith) (l.invariant.1.2 r),
-      ),
+      length-set l.into (a.from + l.i) (to_z w16 (of_z w16 x)) ∙ l.invariant.0,
+      (λ n. set (l.invariant.1 n) (a.from + l.i) (e n))
+          ∙ paste-suc a.into.now a.from a.xs.now l.i (pos 0) (omega arith) (omega arith)
+          ∙ ap (paste a.into.now a.from a.xs.now) (sym (add-one l.i)),
+      λ r. samples-put l.into (a.from + l.i) (to_z w16 (of_z w16 x)) (subst (SFits w16) (sym e) f) (omega arith) (l.invariant.2 r),
     )

@@ -2,7 +2,7 @@
 -- so that the two least lows, and what is found by them, are the rule's.
 use mathlib.Core.Path.{sym}
 use native.Mathlib.Omega.{arith}
-use Rattle.ages.specs.Ages.{ago}
+use Rattle.ages.specs.Ages.{past}
 use Rattle.passing.specs.Distances.{small-energies, small-distances}
 use Rattle.finding.specs.Quiet.{nothing-found}
 use Rattle.finding.proofs.find.Goals as goal
@@ -11,7 +11,7 @@ pub returns-then-quiet : goal.returns-then-quiet
 returns-then-quiet c y r =
     let s = c in
     let q = (c.quiet.ensures c.if-quiet.true).quiet in
-    sym (nothing-found s.args.g y (omega (arith, r.energy 108 (omega arith))) (ago s.args.s.now s.args.m))
+    sym (nothing-found s.args.g y (omega (arith, r.energy 108 (omega arith))) (past s.args.s.now))
 
 pub two_least-t-requires : goal.two_least-t-requires
 two_least-t-requires c =

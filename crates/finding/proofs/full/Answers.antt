@@ -2,7 +2,7 @@
 use native.Mathlib.Omega.{arith}
 use mir.Syntax.{w64}
 use mir.Val.{to_z, of_z}
-use Rattle.ages.specs.Ages.{ago, ago-fits}
+use Rattle.ages.specs.Ages.{past, past-fits}
 use Rattle.sums.specs.Kept.{RightAt}
 use Rattle.sums.specs.Sweep.{stored}
 use Rattle.finding.proofs.full.Goals.{After-direct-t}
@@ -10,15 +10,15 @@ use Rattle.finding.proofs.full.Goals as goal
 
 -- the direct sums, as the local holds them
 sums : (c : After-direct-t)
-    → RightAt (ago c.args.s.now c.args.m) c.args.lag c.direct-t.result.e (to_z w64 (of_z w64 c.direct-t.result.h))
-sums c = let s = c in stored (ago-fits s.requires.samples s.args.m) (omega (arith, s.requires.upto)) c.direct-t.ensures
+    → RightAt (past c.args.s.now) c.args.lag c.direct-t.result.e (to_z w64 (of_z w64 c.direct-t.result.h))
+sums c = let s = c in stored (past-fits s.requires.samples) (omega (arith, s.requires.upto)) c.direct-t.ensures
 
 pub distance-requires : goal.distance-requires
 distance-requires c =
     let s = c in
     record {
-      sound = ago s.args.s.now s.args.m;
-      fits = ago-fits s.requires.samples s.args.m;
+      sound = past s.args.s.now;
+      fits = past-fits s.requires.samples;
       lag = s.args.lag;
       upto = omega (arith, s.requires.upto);
       right = sums (goal.at.distance-requires c).After-direct-t;
@@ -27,4 +27,4 @@ distance-requires c =
 pub returns : goal.returns
 returns c =
     let s = c in
-    c.distance.ensures (ago s.args.s.now s.args.m) s.args.lag (sums (goal.at.returns c).After-direct-t)
+    c.distance.ensures (past s.args.s.now) s.args.lag (sums (goal.at.returns c).After-direct-t)

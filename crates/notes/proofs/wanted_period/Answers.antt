@@ -1,30 +1,20 @@
--- `notes::wanted_period` meets its contract: by where the note lies, below the table, above it or within.
-use mathlib.Core.Path.{sym, ap, ◌∙◌}
-use Prim.Native.Nat.{ℕ, ◌-◌}
+-- By where the note lies, below the table, or from its first note on.
+use mathlib.Core.Path.{◌≡◌, sym, ◌∙◌}
+use Prim.Native.Nat.{◌-◌}
+use borrow.Author.Rules.{rules}
 use native.Mathlib.Omega.{arith}
 use lib.ListN.{get_or}
-use Rattle.rules.specs.Rules.{table, note_period}
-use Rattle.rules.proofs.Notes.{period_of_table, period-below, period-above}
+use Rattle.rules.specs.Rules.{first_note}
+use Rattle.rules.proofs.Notes.{period-below}
+use Rattle.notes.specs.Around.{looked_up}
 use Rattle.notes.proofs.wanted_period.Goals as goal
 
-pub returns-then-note-first : goal.returns-then-note-first
-returns-then-note-first c = sym (period-below _ (omega (arith, c.first_note-first.ensures)))
-
-pub returns-then-place-count : goal.returns-then-place-count
-returns-then-place-count c =
-    let n = c in
-    sym (period-above _ (omega (arith, n.count.ensures, n.first_note-first.ensures)))
-
-pub period_at-requires : goal.period_at-requires
-period_at-requires c = omega (arith, c.count.ensures)
+pub returns-then-note-t : goal.returns-then-note-t
+returns-then-note-t c = sym (period-below _ (omega arith))
 
 pub returns : goal.returns
-unfolding note_period
 returns c =
-    let n = c in
-    let f = n in
-    let first = f.first_note-first.ensures in
-    let a = f.args in
-    c.period_at.ensures
-    ∙ ap (λ (k : ℕ). get_or (table a.hertz) (a.note - k) 0) first
-    ∙ sym (period_of_table a.hertz (record { from = omega (arith, first); upto = omega (arith, first, n.count.ensures) }))
+    let t = c.at-t.ensures in
+    let read : c.unwrap_or.result ≡ get_or c.at-t.result.periods.now (c.args.note - c.at-t.result.first) 0 = search rules in
+    let e : c.args.note - c.at-t.result.first ≡ c.args.note - first_note c.args.hertz = omega arith in
+    read ∙ rw e (sym (looked_up c.requires t.2 (omega arith)))

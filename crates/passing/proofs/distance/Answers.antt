@@ -30,8 +30,8 @@ module _ {e : ℕ} {h : ℤ} (o : One e h) where
   is-D : pos e -ℤ pos 2 *ℤ h ≡ pos (D o.sound o.lag)
   is-D = (λ i. pos (o.right.energy i) -ℤ pos 2 *ℤ o.right.correlation i) ∙ sym (D-is o.sound o.lag)
 
-pub overflow_cast-a : goal.overflow_cast-a
-overflow_cast-a c = fit (energy c.requires).size tt
+pub overflow_cast-result : goal.overflow_cast-result
+overflow_cast-result c = fit (energy c.requires).size tt
 
 pub overflow_mul-result : goal.overflow_mul-result
 overflow_mul-result c = mul_ok (lit w64 2) (correlation c.requires) tt
@@ -39,8 +39,8 @@ overflow_mul-result c = mul_ok (lit w64 2) (correlation c.requires) tt
 pub overflow_sub-result : goal.overflow_sub-result
 overflow_sub-result c = sub-ok (energy c.requires) (twice c.requires) tt
 
-pub overflow_cast-result : goal.overflow_cast-result
-overflow_cast-result c =
+pub overflow_cast-result-2 : goal.overflow_cast-result-2
+overflow_cast-result-2 c =
     subst (λ (z : ℤ). T (non_neg z) × Fits w64 (nat_abs z)) (sym ((whole c.requires).reads ∙ is-D c.requires))
     (tt, record { fits = omega (arith, c.requires.upto, D-within c.requires.sound c.requires.fits c.requires.lag) })
 

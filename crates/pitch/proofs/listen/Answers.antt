@@ -1,6 +1,6 @@
 -- `pitch::listen` meets its contract, by the mode in which the sample arrived and by whether a step or a search is due.
 use mathlib.Core.Path.{sym, ◌∙◌}
-use Rattle.ages.specs.Ages.{ago}
+use Rattle.ages.specs.Ages.{past}
 use Rattle.pitch.specs.Listening.{stepped-on, still-searching, listened-step, listened-on, listened_search, listened_idle}
 use Rattle.pitch.proofs.listen.Goals as goal
 
@@ -11,17 +11,17 @@ returns-then-n-eq0 c =
     let b = c.track.ensures in
     record {
       right = b.right;
-      pitch = λ y r. b.pitch ∙ stepped-on a.f (ago a.s.now a.m) a.v k.followed-w.ensures k.if-v-eq1.true ∙ sym (listened-step a.f a.n (ago a.s.now a.m) y a.v k.if-v-eq1.true c.if-n-eq0.true);
+      pitch = λ y r. b.pitch ∙ stepped-on a.f (past a.s.now) a.v k.followed-w.ensures k.if-v-eq1.true ∙ sym (listened-step a.f a.n (past a.s.now) y a.v k.if-v-eq1.true c.if-n-eq0.true);
     }
 
-pub returns-then-v-eq1 : goal.returns-then-v-eq1
-returns-then-v-eq1 c =
+pub returns-else-n-eq0 : goal.returns-else-n-eq0
+returns-else-n-eq0 c =
     let k = c in
     let a = k.args in
     let b = k.followed-w.ensures.1 in
     record {
       right = b.right;
-      pitch = λ y r. b.pitch ∙ sym (listened-on a.f a.n (ago a.s.now a.m) y a.v k.if-v-eq1.true c.if-n-eq0.false);
+      pitch = λ y r. b.pitch ∙ sym (listened-on a.f a.n (past a.s.now) y a.v k.if-v-eq1.true c.if-n-eq0.false);
     }
 
 pub search-requires : goal.search-requires
@@ -37,14 +37,14 @@ returns-then-n-eq0-2 c =
     let b = c.search.ensures in
     record {
       right = b.right;
-      pitch = λ y r. b.pitch y r ∙ sym (listened_search a.f a.n (ago a.s.now a.m) y a.v k.if-v-eq1.false c.if-n-eq0-2.true);
+      pitch = λ y r. b.pitch y r ∙ sym (listened_search a.f a.n (past a.s.now) y a.v k.if-v-eq1.false c.if-n-eq0-2.true);
     }
 
-pub returns : goal.returns
-returns c =
+pub returns-else-n-eq0-2 : goal.returns-else-n-eq0-2
+returns-else-n-eq0-2 c =
     let k = c in
     let a = k.args in
     record {
       right = still-searching k.requires.0 k.if-v-eq1.false;
-      pitch = λ y r. sym (listened_idle a.f a.n (ago a.s.now a.m) y a.v k.if-v-eq1.false c.if-n-eq0-2.false);
+      pitch = λ y r. sym (listened_idle a.f a.n (past a.s.now) y a.v k.if-v-eq1.false c.if-n-eq0-2.false);
     }

@@ -5,4 +5,4 @@ use Rattle.pitch.proofs.locked.Goals as goal
 pub returns : goal.returns
 returns c =
     let s = c in
-    became_locked s.args.lag s.requires.0 s.requires.1 c.at-t.ensures c.no_tone.ensures
+    became_locked s.args.lag s.requires.0 s.requires.1 c.at.ensures c.no_tone.ensures

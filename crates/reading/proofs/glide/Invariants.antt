@@ -1,12 +1,8 @@
--- `reading::glide` meets its contract: after i turns it is so of the first i samples (`Glided`).
+-- After i turns it is so of the first i samples.
 use mathlib.Core.Path.{◌≡◌}
-use Prim.Native.Nat.{◌-◌, ◌≤◌}
 use lib.ListN.{length}
 use Rattle.reading.specs.Gliding.{Glided}
 use Rattle.reading.proofs.glide.Given as goal
 
 abbrev pub invariant-loop-i : goal.invariant-loop-i
-invariant-loop-i l = (l.i ≤ l.b) × Glided l.behind l.rates l.periods l.s l.m l.i l.initial.out l.out l.g × (length l.out ≡ length l.initial.out)
-
-abbrev pub decreases-loop-i : goal.decreases-loop-i
-decreases-loop-i l = l.b - l.i
+invariant-loop-i l = Glided l.behind l.rates l.periods l.s l.m l.i l.initial.out l.out l.g × (length l.out ≡ length l.initial.out)

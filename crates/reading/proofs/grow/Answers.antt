@@ -21,8 +21,8 @@ returns-then-k-gt-FARTHEST c =
     grown [] (a.period ∷ []) (omega (arith, c.if-k-gt-FARTHEST.true, r.slow, r.upto, c.requires.0)) (sym (add-zero a.g.repeated)) refl (omega arith, omega arith)
     (λ n. growth-drops n a.g.behind a.rate a.period refl c.if-k-gt-FARTHEST.true r.upto)
 
-pub returns : goal.returns
-returns c =
+pub returns-else-k-gt-FARTHEST : goal.returns-else-k-gt-FARTHEST
+returns-else-k-gt-FARTHEST c =
     let a = c.args in
     grown [] [] c.if-k-gt-FARTHEST.false (sym (add-zero a.g.repeated)) (sym (add-zero a.g.dropped)) (omega arith, omega arith)
     (λ n. growth-keeps n a.g.behind a.rate a.period refl c.if-b-rate.false c.if-k-gt-FARTHEST.false)

@@ -7,16 +7,17 @@ use lib.IntN.{ℤ, pos, nat_abs, ◌+ℤ◌, ◌-ℤ◌, ◌*ℤ◌}
 use mir.Syntax.{w16, w32, w64}
 use mir.Val.{SFits, to_z, of_z}
 use mir.Facts.{to_z-of_z}
-use Rattle.whole.specs.Words.{Bits, arg≤, lit, num, loop, cast, add, mul, is}
+use Rattle.whole.specs.Words.{Bits, arg≤, lit, num, loop, add, mul, is}
 use Rattle.whole.specs.Adding.{summed-start, summed, summed_ok}
 use Rattle.whole.specs.Numbers.{sum}
 use Rattle.rules.specs.Facts.{value_at}
+use Rattle.ages.specs.Ages.{from_bits}
 use Rattle.sums.specs.Direct.{high_of, low_of, parts, products, paired, pairs_sum}
 use Rattle.sums.proofs.by_pairs.Goals.{After-high_part-highs, After-loop-i, After-low_part-lows, After-pair-p}
 use Rattle.sums.proofs.by_pairs.Goals as goal
 
 pub loop-i-init : goal.loop-i-init
-loop-i-init c = (summed-start _ _, summed-start _ _, omega arith)
+loop-i-init c = (summed-start _ _, summed-start _ _)
 
 -- what a turn adds
 module _ (c : After-pair-p) where
@@ -63,7 +64,7 @@ overflow_add-lows c = summed_ok 440 c.loop-i.invariant.1 (bottom c.low_part-lows
 pub loop-i-preserved : goal.loop-i-preserved
 loop-i-preserved c =
     let l = c.loop-i in
-    (summed 440 l.invariant.0 (top c.high_part-highs.ensures.0 (term (goal.at.loop-i-preserved c).After-pair-p) c.high_part-highs.ensures.1 (record { sfits = c.high_part-highs.type_inv })) (omega arith) tt, summed 440 l.invariant.1 (bottom c.low_part-lows.ensures.0 (term (goal.at.loop-i-preserved c).After-pair-p) c.low_part-lows.ensures.1 (record { sfits = c.low_part-lows.type_inv })) (omega arith) tt, omega arith)
+    (summed 440 l.invariant.0 (top c.high_part-highs.ensures.0 (term (goal.at.loop-i-preserved c).After-pair-p) c.high_part-highs.ensures.1 (record { sfits = c.high_part-highs.type_inv })) (omega arith) tt, summed 440 l.invariant.1 (bottom c.low_part-lows.ensures.0 (term (goal.at.loop-i-preserved c).After-pair-p) c.low_part-lows.ensures.1 (record { sfits = c.low_part-lows.type_inv })) (omega arith) tt)
 
 -- the sums at the end
 module _ (c : After-loop-i) where
@@ -79,22 +80,16 @@ module _ (c : After-loop-i) where
   all-lows : Bits w32 (65536 * 440) c.loop-i.lows-bits (sum (λ (k : ℕ). low_of (paired f k)) turns)
   all-lows = loop w32 c.loop-i.lows-bits (65536 * 440) c.loop-i.invariant.1.reads (omega (arith, c.loop-i.invariant.1.size))
 
-  wide : Bits w64 (32768 * 440) (of_z w64 (to_z w32 c.loop-i.highs-bits)) (sum (λ (k : ℕ). high_of (paired f k)) turns)
-  wide = cast all-highs tt
-
-  placed : Bits w64 (32768 * 440 * 65536) (of_z w64 (to_z w64 (of_z w64 (to_z w32 c.loop-i.highs-bits)) *ℤ pos 65536)) (sum (λ (k : ℕ). high_of (paired f k)) turns *ℤ pos 65536)
-  placed = mul wide (lit w64 65536) tt
-
-  both : Bits w64 (32768 * 440 * 65536 + 65536 * 440) (of_z w64 (to_z w64 (of_z w64 (to_z w64 (of_z w64 (to_z w32 c.loop-i.highs-bits)) *ℤ pos 65536)) +ℤ to_z w64 (of_z w64 (to_z w32 c.loop-i.lows-bits)))) (sum (λ (k : ℕ). high_of (paired f k)) turns *ℤ pos 65536 +ℤ sum (λ (k : ℕ). low_of (paired f k)) turns)
-  both = add placed (cast {w' = w64} all-lows tt) tt
-
   -- how many pairs there were
   many : Bits w64 440 c.args.pairs (pos turns)
   many = is (ap pos (omega arith)) (num {w = w64} {n = 440} {z = pos c.args.pairs} c.requires.2 tt)
 
 pub returns : goal.returns
 returns c =
-    let all = add (both c) (many c) tt in
-    let twice : 2 * turns c ≡ 2 * c.args.pairs = omega arith in
-    let e = all.reads ∙ ap (λ (z : ℤ). z +ℤ pos (turns c)) (parts (paired (f c)) (turns c)) ∙ pairs_sum (f c) (turns c) ∙ ap (sum (f c)) twice in
+    let k = (goal.at.returns c).After-loop-i in
+    let wide = from_bits {w' = w64} (all-highs k) c.from.ensures (record { sfits = c.from.type_inv }) in
+    let low = from_bits {w' = w64} (all-lows k) c.from-2.ensures (record { sfits = c.from-2.type_inv }) in
+    let all = add (add (mul wide (lit w64 65536) tt) low tt) (many k) tt in
+    let twice : 2 * turns k ≡ 2 * c.args.pairs = omega arith in
+    let e = all.reads ∙ ap (λ (z : ℤ). z +ℤ pos (turns k)) (parts (paired (f k)) (turns k)) ∙ pairs_sum (f k) (turns k) ∙ ap (sum (f k)) twice in
     (e, omega (arith, ap nat_abs all.reads, all.size.within))

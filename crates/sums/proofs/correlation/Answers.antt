@@ -4,13 +4,15 @@ use mathlib.Core.List.{List}
 use Prim.Native.Nat.{ℕ, suc, ◌+◌, ◌*◌, ◌-◌, ◌/◌, ◌^◌}
 use native.Mathlib.Omega.{arith}
 use borrow.Author.Rules.{rules}
+use lib.ListN.{length}
 use lib.IntN.{ℤ, ◌*ℤ◌}
 use mir.Syntax.{w16, w32, w64}
 use mir.Val.{of_z}
 use mir.Facts.{to_z-of_z}
 use Rattle.whole.specs.Numbers.{sum}
-use Rattle.whole.specs.Words.{Bits, arg≤, cast, add, is}
+use Rattle.whole.specs.Words.{Bits, arg≤, add, is}
 use Rattle.rules.specs.Facts.{value_at}
+use Rattle.ages.specs.Ages.{from_bits}
 use Rattle.sums.specs.Direct.{products, one_more_lem, oldest_products}
 use Rattle.sums.proofs.correlation.Goals.{After-product}
 use Rattle.sums.proofs.correlation.Goals as goal
@@ -21,8 +23,8 @@ returns-then-pairs-lag c =
     let all : 2 * (a.lag / 2) ≡ a.lag = omega arith in
     to_z-of_z {w = w64} {z = c.by_pairs-sum.result} (record { sfits = c.by_pairs-sum.type_inv })
     ∙ c.by_pairs-sum.ensures.0
-    ∙ ap (sum (products a.s.now (a.m - a.lag) (a.m - 2 * a.lag))) all
-    ∙ oldest_products a.s.now a.m a.lag (omega arith) (omega arith)
+    ∙ ap (sum (products a.s.now (length a.s.now - a.lag) (length a.s.now - a.lag - a.lag))) all
+    ∙ oldest_products a.s.now a.lag (omega arith)
 
 -- of an odd number the last product
 module _ (c : After-product) where
@@ -30,13 +32,13 @@ module _ (c : After-product) where
   store = c.args.s.now
 
   abbrev m : ℕ
-  m = c.args.m
+  m = length c.args.s.now
 
   abbrev lag : ℕ
   lag = c.args.lag
 
   abbrev f : ℕ → ℤ
-  f = products store (m - lag) (m - 2 * lag)
+  f = products store (m - lag) (m - lag - lag)
 
   most : Bits w64 (2 ^ 40) (of_z w64 c.by_pairs-sum.result) (sum f (2 * (lag / 2)))
   most =
@@ -46,7 +48,7 @@ module _ (c : After-product) where
   newer : m - 1 ≡ m - lag + 2 * (lag / 2)
   newer = omega arith
 
-  older : m - lag - 1 ≡ m - 2 * lag + 2 * (lag / 2)
+  older : m - lag - 1 ≡ m - lag - lag + 2 * (lag / 2)
   older = omega arith
 
   last : Bits w32 (2 ^ 30) (of_z w32 c.product.result) (f (2 * (lag / 2)))
@@ -59,4 +61,4 @@ module _ (c : After-product) where
 pub returns : goal.returns
 returns c =
     let odd : suc (2 * (lag (goal.at.returns c).After-product / 2)) ≡ lag (goal.at.returns c).After-product = omega arith in
-    (add (most (goal.at.returns c).After-product) (cast {w' = w64} (last (goal.at.returns c).After-product) tt) tt).reads ∙ one_more_lem (f (goal.at.returns c).After-product) (2 * (lag (goal.at.returns c).After-product / 2)) (lag (goal.at.returns c).After-product) odd ∙ oldest_products (store (goal.at.returns c).After-product) (m (goal.at.returns c).After-product) (lag (goal.at.returns c).After-product) (omega arith) (omega arith)
+    (add (most (goal.at.returns c).After-product) (from_bits {w' = w64} (last (goal.at.returns c).After-product) c.from.ensures (record { sfits = c.from.type_inv })) tt).reads ∙ one_more_lem (f (goal.at.returns c).After-product) (2 * (lag (goal.at.returns c).After-product / 2)) (lag (goal.at.returns c).After-product) odd ∙ oldest_products (store (goal.at.returns c).After-product) (lag (goal.at.returns c).After-product) (omega arith)

@@ -15,7 +15,7 @@ use Rattle.whole.specs.Words.{Bits, arg≤, num, add, add_ok}
 use Rattle.rules.specs.Rules.{Sound, D, offset, period}
 use Rattle.passing.specs.Distances.{Distances}
 use Rattle.tracking.specs.Tracking.{place, period-at}
-use Rattle.tracking.proofs.period.Goals.{After-vertex-v}
+use Rattle.tracking.proofs.period.Goals.{After-vertex-v, then-at-eq0-via-then-at-eq0, then-at-eq0-via-else-at-eq0+then-at-eq7}
 use Rattle.tracking.proofs.period.Goals as goal
 
 -- by the rule: at an end, and between
@@ -35,13 +35,15 @@ module _ {x : Sound} {low : ℕ} {d : List ℕ} (m : Distances x low 8 d) (at : 
 
 pub returns-then-at-eq0 : goal.returns-then-at-eq0
 returns-then-at-eq0 c x m =
-    let s = c in
-    period-at m s.requires.0 s.requires.1 s.requires.2 (at-end m s.args.at (rw (le-ltb 0 s.args.at (omega arith))))
-
-pub returns-then-at-eq7 : goal.returns-then-at-eq7
-returns-then-at-eq7 c x m =
-    let s = c in
-    period-at m s.requires.0 s.requires.1 s.requires.2 (at-end m s.args.at (rw (le-ltb s.args.at 7 (omega arith), and-false)))
+    let p = c.requires in
+    let at = c.args.at in
+    let end : ltb 0 at && ltb at 7 ≡ false =
+    elim c.then-at-eq0.branch [
+      | then-at-eq0-via-then-at-eq0 w ↦ rw (le-ltb 0 at (omega (arith, w.if-at-eq0.true)))
+      | then-at-eq0-via-else-at-eq0+then-at-eq7 w ↦ rw (le-ltb at 7 (omega (arith, w.if-at-eq7.true)), and-false)
+    ]
+    in
+    period-at m p.0 p.1 p.2 (at-end m at end)
 
 pub vertex-v-requires : goal.vertex-v-requires
 vertex-v-requires c =
@@ -73,9 +75,9 @@ module _ (c : After-vertex-v) where
 pub overflow_add-result : goal.overflow_add-result
 overflow_add-result c = add_ok (at-best (goal.at.overflow_add-result c).After-vertex-v) (beside (goal.at.overflow_add-result c).After-vertex-v) tt
 
-pub overflow_cast-result : goal.overflow_cast-result
-overflow_cast-result c =
-    subst (λ (z : ℤ). T (non_neg z) × Fits w32 (nat_abs z)) (natural (goal.at.overflow_cast-result c).After-vertex-v ∙ sym (whole (goal.at.overflow_cast-result c).After-vertex-v).reads) (tt, record { fits = omega (arith, (whole (goal.at.overflow_cast-result c).After-vertex-v).size.within) })
+pub overflow_cast-result-2 : goal.overflow_cast-result-2
+overflow_cast-result-2 c =
+    subst (λ (z : ℤ). T (non_neg z) × Fits w32 (nat_abs z)) (natural (goal.at.overflow_cast-result-2 c).After-vertex-v ∙ sym (whole (goal.at.overflow_cast-result-2 c).After-vertex-v).reads) (tt, record { fits = omega (arith, (whole (goal.at.overflow_cast-result-2 c).After-vertex-v).size.within) })
 
 pub returns : goal.returns
 returns c x m =

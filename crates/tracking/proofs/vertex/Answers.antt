@@ -5,7 +5,7 @@ use lib.IntN.{pos, ◌+ℤ◌, ◌-ℤ◌, ◌*ℤ◌}
 use mir.Syntax.{w64}
 use mir.Val.{to_z, of_z}
 use mir.Facts.{to_z-of_z}
-use Rattle.whole.specs.Words.{Bits, num, lit, add, add_ok, sub, sub-ok, mul, mul_ok}
+use Rattle.whole.specs.Words.{Bits, num, lit, add, sub, mul}
 use Rattle.whole.specs.Numbers.{floor_div}
 use Rattle.rules.specs.Rules.{offset}
 use Rattle.rules.proofs.Periods.{offset-within}
@@ -29,18 +29,6 @@ module _ {a b : ℕ} (p : a ≤ 2 ^ 42) (q : b ≤ 2 ^ 42) where
 -- D1 - 2 D2 + D3
 under : (c : After-bend-m) → Bits w64 (2 ^ 43) c.bend-m.result (pos c.bend-m.result)
 under c = num {n = 2 ^ 43} {z = pos c.bend-m.result} c.bend-m.ensures.2 tt
-
-pub overflow_sub-a : goal.overflow_sub-a
-overflow_sub-a c = let p = c.requires in sub-ok (one p.2) (one p.3) tt
-
-pub overflow_mul-a : goal.overflow_mul-a
-overflow_mul-a c = let p = c.requires in mul_ok (lit w64 128) (apart p.2 p.3) tt
-
-pub overflow_mul-a-2 : goal.overflow_mul-a-2
-overflow_mul-a-2 c = let p = c.requires in mul_ok (lit w64 2) (times p.2 p.3) tt
-
-pub overflow_add-a : goal.overflow_add-a
-overflow_add-a c = let p = c.requires in add_ok (twice p.2 p.3) (under (goal.at.overflow_add-a c).After-bend-m) tt
 
 pub returns : goal.returns
 unfolding offset

@@ -1,4 +1,4 @@
--- `voices::beside` meets its contract: silent without a period, else by the entry of its note.
+-- Silent without a period, else by the entry of its note.
 use mathlib.Core.Path.{refl, sym}
 use Prim.Native.Nat.{◌<◌}
 use native.Mathlib.Omega.{arith}
@@ -9,20 +9,11 @@ use Rattle.voices.proofs.beside.Goals as goal
 
 pub returns-then-period-eq0 : goal.returns-then-period-eq0
 returns-then-period-eq0 c =
-    let s = c in
-    (refl, sym c.if-period-eq0.true, refl, ((λ some. absurd (omega (arith, c.if-period-eq0.true, some))), sym (rate-none s.args.hertz s.args.interval s.args.note c.if-period-eq0.true)))
-
-pub entry_beside-entry-requires : goal.entry_beside-entry-requires
-entry_beside-entry-requires c = let p = c.requires in (p.0, p.1, p.2.note (omega (arith, c.if-period-eq0.false)), p.3)
+    let a = c.args in
+    (refl, refl, refl, (λ some. absurd (omega (arith, some)), sym (rate-none a.hertz a.interval a.note c.if-period-eq0.true)))
 
 pub voice_rate-requires : goal.voice_rate-requires
 voice_rate-requires c =
-    let s = c in
+    let a = c.args in
     let e = c.entry_beside-entry.ensures in
-    (omega (arith, c.if-period-eq0.false), s.requires.2.upto, λ some. let known : 0 < voice_period s.args.hertz s.args.interval s.args.note = omega (arith, e, some) in omega (arith, (wanted_period_range s.requires.0 (voice_note s.args.interval s.args.note) known).0, e))
-
-pub returns : goal.returns
-returns c =
-    let s = c in
-    let e = c.entry_beside-entry.ensures in
-    (refl, refl, refl, ((λ some. e), c.voice_rate.ensures s.args.hertz s.args.interval s.args.note e))
+    (omega arith, c.requires.2.upto, λ some. let known : 0 < voice_period a.hertz a.interval a.note = omega (arith, e, some) in omega (arith, (wanted_period_range c.requires.0 (voice_note a.interval a.note) known).0, e))

@@ -17,4 +17,4 @@ grown-r-requires c = let p = c.requires in (p.0, p.1 (omega (arith, c.if-rate-eq
 pub returns : goal.returns
 returns c =
     let s = c in
-    voiced_sounds s.args.rate (omega (arith, c.if-rate-eq0.false)) c.grown-r.ensures (λ n. ap (set s.args.out.now s.args.i) (to_z-of_z {w = w16} (sfits_of c.read-o.type_inv) ∙ c.read-o.ensures n))
+    voiced_sounds s.args.rate (omega (arith, c.if-rate-eq0.false)) c.grown-r.ensures (λ n. ap (set s.args.out.now s.args.i) (to_z-of_z {w = w16} (sfits_of c.read.type_inv) ∙ c.read.ensures n))
