@@ -1,10 +1,19 @@
 -- How far a night has come: what its loop and its parts promise, and that in the end it is the single calls one by one.
-use Rattle.std.specs.Prelude.{◌≡◌, ℕ, zero, suc, ◌+◌, ◌-◌, ◌*◌, ◌<◌, ◌≤◌, min, cond, ◌⊎◌, List, [], ◌∷◌, ◌++◌, map, length, take, drop, ℤ, ◌==◌, ◌≢◌, nat_le, nat_lt, refl}
-use Rattle.std.proofs.Common.{sym, ap, ◌∙◌, append_assoc, append-nil, arith, leb-true, leb-false, take-append-drop, length-append, length-drop, length-take, drop_of_length-le, take-add, take_all, take_at, drop_at, drop-drop, length-take-le}
+use Rattle.std.specs.Prelude.{Bool, true, false, Result, Ok, Err, ◌≡◌, ℕ, zero, suc, ◌+◌, ◌-◌, ◌*◌, ◌<◌, ◌≤◌, min, cond, ◌⊎◌, List, [], ◌∷◌, ◌++◌, map, length, take, drop, ℤ, ◌==◌, ◌≢◌, nat_le, nat_lt, refl}
+use Rattle.std.proofs.Common.{inl, inr, sym, ap, ◌∙◌, append_assoc, append-nil, arith, leb-true, leb-false, take-append-drop, length-append, length-drop, length-take, drop_of_length-le, take-add, take_all, take_at, drop_at, drop-drop, length-take-le}
 use Rattle.std.proofs.Math.Path.{subst, transport}
 use Rattle.std.proofs.lemmas.Bool.{eqb-false}
 use Rattle.whole.specs.Tests.{by, cond_case}
+use Rattle.core.specs.Result.{result_eq}
+use borrow.Author.Tests.{ne_eqb}
 use Rattle.rules.specs.Rules.{longest_block}
+use Rattle.refusals.specs.declared.Refusal.{Refusal}
+use Rattle.refusals.specs.Refusals.{refusal_number}
+use Rattle.refusals.specs.contracts.RefusalPartialEq.TheImpl as refusal
+use Rattle.answers.specs.declared.Turn.{Turn}
+use Rattle.answers.specs.declared.Turn.TheVariants.{Taken, GivenAgain}
+use Rattle.answers.specs.contracts.TurnPartialEq.TheImpl as turn
+use Rattle.answers.specs.Numbering.{judged_number}
 use Rattle.record.specs.Parts.{Stores}
 use Rattle.record.specs.Records.{heard_after}
 use Rattle.tuner.specs.declared.Numbers.{Numbers}
@@ -14,9 +23,8 @@ use Rattle.tuner.specs.Tuners.{heard_by, Good, kept_places, parts, kept_outs, Ro
 use Rattle.tuner.specs.Following.{LeastRoom, Judged}
 use Rattle.tuner.proofs.Outputs.{room_after}
 use Rattle.tuner.proofs.Verdicts.{verdict-fits, after_last, again-long, one_left}
-use Rattle.staying.specs.Staying.{Lengths, took-stays, took_number, took-taken, untaken_unchanged}
+use Rattle.staying.specs.Staying.{Lengths, Stays, took-stays, took_number, took-taken, untaken_unchanged}
 use Rattle.nights.specs.declared.NightAnswer.{NightAnswer}
-use Rattle.nights.specs.declared.Reached.{Reached}
 use Rattle.nights.specs.Night.{first_stretches, stretches, number_after, no_night, added_by, added, before, OneByOne, all_done, and_on, refused, Untouched, Nighted, size_out_of_range}
 use Rattle.nights.specs.Night as promise
 
@@ -37,16 +45,6 @@ tuner_by v t k xs store = cond (v == 0) (after_block t k xs store) t
 abbrev pub rows_by : (v : ℕ) → Tuner → List ℤ → List ℕ → List ℕ
 rows_by v t xs store = cond (v == 0) (list_after t xs store).store store
 
--- a tuner is ready for a block of a recording of so many samples, after the answer n
-pub record Ready (long : ℕ) (t : Tuner) (n : NightAnswer) (os : List (List ℤ)) : Type 0 where
-  pub good : Good t
-  pub stores : Stores (heard_by t)
-  pub kept : length t.outs ≡ kept_places
-  pub voices : length t.numbers.voices ≡ 3
-  pub room : Roomy long (kept_outs t) os
-  pub small : Small n
-  pub few : n.taken ≤ t.numbers.count
-
 -- outputs as long as others, and the same up to a place
 unfoldable pub Kept : ℕ → List (List ℤ) → List (List ℤ) → Type 0
 Kept at [] [] = Unit
@@ -54,23 +52,17 @@ Kept at [] (p ∷ ps) = ⊥
 Kept at (o ∷ os) [] = ⊥
 Kept at (o ∷ os) (p ∷ ps) = (take at p ≡ take at o) × (length p ≡ length o) × Kept at os ps
 
--- one block more
-pub record Went (xs : List ℤ) (size : ℕ) (g g' : Reached) (t t' : Tuner) (os os' : List (List ℤ)) (store store' : List ℕ) : Type 0 where
-  pub told : Answer
-  pub at : g'.at ≡ min (g.at + size) (length xs)
-  pub number : g'.next ≡ number_after g.next
-  pub took : Took t g.next (take size (drop g.at xs)) (map (drop g.at) os) store t' told (map (drop g.at) os') store'
-  pub kept : Kept g.at os os'
-  pub answer : g'.answer ≡ added g.answer g.next told
-  pub small : Small g'.answer
-  pub stores : Stores (heard_by t')
-  pub lent : length store' ≡ length store
+-- one block more, with the outputs from a place on
+pub record Went (at k : ℕ) (xs : List ℤ) (t t' : Tuner) (a : Answer) (os os' : List (List ℤ)) (store store' : List ℕ) : Type 0 where
+  pub took : Took t k xs (map (drop at) os) store t' a (map (drop at) os') store'
+  pub kept : Kept at os os'
 
--- the number that refuses a night to a good tuner before its first block, or 0
-pub data Refuses (size length room : ℕ) : ℕ → Type 0 where
-  by_three : (size ≡ 0) ⊎ (longest_block < size) → Refuses size length room 3
-  by-four : 0 < size → size ≤ longest_block → room < length → Refuses size length room 4
-  begins : 0 < size → size ≤ longest_block → length ≤ room → Refuses size length room 0
+-- the number that refuses a night before its first block, or 0
+pub data Refuses (t : Tuner) (size : ℕ) (xs : List ℤ) (os : List (List ℤ)) : ℕ → Type 0 where
+  by_nine : (Good t → ⊥) → Refuses t size xs os 9
+  by_three : Good t → (size ≡ 0) ⊎ (longest_block < size) → Refuses t size xs os 3
+  by_four : Good t → 0 < size → size ≤ longest_block → (Roomy (length xs) (kept_outs t) os → ⊥) → Refuses t size xs os 4
+  begins : Good t → 0 < size → size ≤ longest_block → Roomy (length xs) (kept_outs t) os → Refuses t size xs os 0
 
 -- ---- what a block leaves by its number
 
@@ -103,20 +95,6 @@ module _ {t t' : Tuner} {k : ℕ} {xs : List ℤ} {os os' : List (List ℤ)} {st
 pub nothing-small : (v : ℕ) (m : Numbers) {n : NightAnswer} → n ≡ no_night v m → Small n × (n.taken ≡ 0)
 nothing-small v m e = subst (λ (n : NightAnswer). Small n × (n.taken ≡ 0)) (sym e) (record { written = omega arith; repeated = omega arith; dropped = omega arith; pitched = omega arith; strayed = omega arith }, refl)
 
--- 0 and 1 leave the number as it was, and a refusal gives its own
-added_goes : (v : ℕ) (n : NightAnswer) (k : ℕ) (a : Answer) → v ≤ 1 → (added_by v n k a).number ≡ n.number
-unfolding added_by
-added_goes zero n k a h = refl
-added_goes (suc zero) n k a h = refl
-added_goes (suc (suc v)) n k a h = absurd (omega arith)
-
-pub added-refused : (v : ℕ) (n : NightAnswer) (k : ℕ) (a : Answer) → 1 < v
-    → record { number = v; refused = k; taken = n.taken; written = n.written; repeated = n.repeated; dropped = n.dropped; pitched = n.pitched; strayed = n.strayed; again = n.again; rows = a.rows; left = a.left } ≡ added_by v n k a
-unfolding added_by
-added-refused zero n k a h = absurd (omega arith)
-added-refused (suc zero) n k a h = absurd (omega arith)
-added-refused (suc (suc v)) n k a h = refl
-
 -- ---- stretches
 
 enough : (n m size : ℕ) (l : List ℤ) → 0 < size → length l ≤ n → length l ≤ m → first_stretches n size l ≡ first_stretches m size l
@@ -143,27 +121,21 @@ unfolding first_stretches
 stretches-none size [] e = refl
 stretches-none size (x ∷ l) e = absurd (omega arith)
 
--- the place behind a stretch
-module _ (xs : List ℤ) (at size : ℕ) (h : at ≤ length xs) where
-  abbrev to : ℕ
-  to = min (at + size) (length xs)
+-- a chunk is the first stretch, and what is behind it is the rest
+module _ (zs left : List ℤ) (size : ℕ) (long : length zs ≡ min size (length (zs ++ left))) where
+  block_first : take size (zs ++ left) ≡ zs
+  block_first =
+      by (nat_le size (length (zs ++ left)))
+      (λ e. take_at zs left size (omega (arith, long, leb-true size (length (zs ++ left)) e)))
+      (λ e. let m = leb-false size (length (zs ++ left)) e in
+      take_all size (zs ++ left) (omega arith) ∙ ap (λ (l : List ℤ). zs ++ l) (drop_of_length-le left {i = 0} (omega (arith, long, m, length-append zs left))) ∙ append-nil zs)
 
-  pub stretch_length : at + length (take size (drop at xs)) ≡ to
-  stretch_length = omega (arith, length-take size (drop at xs), length-drop at xs)
-
-  pub stretch_is : take (to - at) (drop at xs) ≡ take size (drop at xs)
-  stretch_is =
-      let d = length-drop at xs in
-      by (nat_le (at + size) (length xs))
-      (λ e. let f : to - at ≡ size = omega (arith, leb-true (at + size) (length xs) e) in ap (λ (n : ℕ). take n (drop at xs)) f)
-      (λ e. let g = leb-false (at + size) (length xs) e in take_all (to - at) (drop at xs) (omega arith) ∙ sym (take_all size (drop at xs) (omega arith)))
-
-  stretch_rest : drop size (drop at xs) ≡ drop to xs
-  stretch_rest =
-      by (nat_le (at + size) (length xs))
-      (λ e. let f : to ≡ at + size = omega (arith, leb-true (at + size) (length xs) e) in drop-drop size at xs ∙ ap (λ (n : ℕ). drop n xs) (sym f))
-      (λ e. let g = leb-false (at + size) (length xs) e in
-      drop-drop size at xs ∙ drop_of_length-le xs {i = at + size} (omega arith) ∙ sym (drop_of_length-le xs {i = to} (omega arith)))
+  block_rest : drop size (zs ++ left) ≡ left
+  block_rest =
+      by (nat_le size (length (zs ++ left)))
+      (λ e. drop_at zs left size (omega (arith, long, leb-true size (length (zs ++ left)) e)))
+      (λ e. let m = leb-false size (length (zs ++ left)) e in
+      drop_of_length-le (zs ++ left) {i = size} (omega arith) ∙ sym (drop_of_length-le left {i = 0} (omega (arith, long, m, length-append zs left))))
 
 -- ---- one output, from a place on: lent, and given back. The place may lie behind its end
 
@@ -245,6 +217,13 @@ kept-room at n (q ∷ ks) [] ps k r = absurd r
 kept-room at n (q ∷ ks) (o ∷ os) [] k r = absurd k
 kept-room at n (q ∷ ks) (o ∷ os) (p ∷ ps) k r = (omega (arith, k.1, r.0), kept-room at n ks os ps k.2 r.1)
 
+-- room for fewer samples
+pub roomy_less : (m n : ℕ) (ks os : List (List ℤ)) → n ≤ m → Roomy m ks os → Roomy n ks os
+unfolding Roomy
+roomy_less m n [] os h r = tt
+roomy_less m n (k ∷ ks) [] h r = absurd r
+roomy_less m n (k ∷ ks) (o ∷ os) h r = (omega (arith, h, r.0), roomy_less m n ks os h r.1)
+
 -- a block from a place on has room where the recording has
 pub part_room : (at b n : ℕ) (ks os : List (List ℤ)) → at + b ≤ n → Roomy n ks os → Roomy b ks (map (drop at) os)
 unfolding Roomy
@@ -298,95 +277,97 @@ before_on at b (o ∷ os) (p ∷ ps) (q ∷ qs) k =
 
 -- ---- the loop
 
--- what is left of the night makes it whole; or it was stopped, and is whole
-pub data Going (t₀ : Tuner) (k₀ size : ℕ) (n₀ : NightAnswer) (xs : List ℤ) (os₀ : List (List ℤ)) (store₀ : List ℕ) (t : Tuner) (g : Reached) (os : List (List ℤ)) (store : List ℕ) : Type 0 where
-  goes : g.answer.number ≡ 0 → Ready (length xs) t g.answer os
-      → ((t' : Tuner) (n' : NightAnswer) (qs : List (List ℤ)) (s' : List ℕ) → length qs ≡ length os → OneByOne t g.next g.answer (stretches size (drop g.at xs)) (map (drop g.at) os) store t' n' qs s'
-      → OneByOne t₀ k₀ n₀ (stretches size xs) os₀ store₀ t' n' (before g.at os qs) s')
-      → Going t₀ k₀ size n₀ xs os₀ store₀ t g os store
-  stopped : (g.answer.number ≢ 0) → OneByOne t₀ k₀ n₀ (stretches size xs) os₀ store₀ t g.answer os store → Going t₀ k₀ size n₀ xs os₀ store₀ t g os store
+-- what holds between two blocks: the tuner is good, its outputs have room for what is left, and what is left of the night makes it whole
+pub record Going (t₀ : Tuner) (k₀ size : ℕ) (n₀ : NightAnswer) (xs : List ℤ) (os₀ : List (List ℤ)) (store₀ : List ℕ) (t : Tuner) (k at : ℕ) (left : List ℤ) (n : NightAnswer) (os : List (List ℤ)) (store : List ℕ) : Type 0 where
+  pub stays : Stays t
+  pub room : Roomy (at + length left) (kept_outs t) os
+  pub small : Small n
+  pub few : n.taken ≤ t.numbers.count
+  pub whole : (t' : Tuner) (n' : NightAnswer) (qs : List (List ℤ)) (s' : List ℕ) → length qs ≡ length os → OneByOne t k n (stretches size left) (map (drop at) os) store t' n' qs s' → OneByOne t₀ k₀ n₀ (stretches size xs) os₀ store₀ t' n' (before at os qs) s'
 
 -- where it begins
-pub go-begins : (t : Tuner) (size : ℕ) (xs : List ℤ) (os : List (List ℤ)) (store : List ℕ) (g : Reached) → g.answer.number ≡ 0 → g.at ≡ 0 → Ready (length xs) t g.answer os → Going t g.next size g.answer xs os store t g os store
-go-begins t size xs os store g z e r =
-    goes z r
-    (λ t' n' qs s' l q. transport (λ i. OneByOne t g.next g.answer (stretches size (drop (e i) xs)) ((ap (λ (n : ℕ). map (drop n) os) e ∙ rest-none os) i) store t' n' ((sym (before-none os qs l) ∙ ap (λ (n : ℕ). before n os qs) (sym e)) i) s') q)
+pub go-begins : (t : Tuner) (k size : ℕ) (xs : List ℤ) (os : List (List ℤ)) (store : List ℕ) → Stays t → Roomy (length xs) (kept_outs t) os → Going t k size (no_night 0 t.numbers) xs os store t k 0 xs (no_night 0 t.numbers) os store
+go-begins t k size xs os store s r =
+    let z = nothing-small 0 t.numbers refl in
+    record {
+      stays = s;
+      room = subst (λ (m : ℕ). Roomy m (kept_outs t) os) (omega arith) r;
+      small = z.0;
+      few = omega (arith, z.1);
+      whole = λ t' n' qs s' l q. transport (λ i. OneByOne t k (no_night 0 t.numbers) (stretches size xs) (rest-none os i) store t' n' (sym (before-none os qs l) i) s') q;
+    }
 
-ready_lengths : {long : ℕ} {t : Tuner} {n : NightAnswer} {os : List (List ℤ)} → Ready long t n os → Lengths t
-ready_lengths r = record { heard = r.stores.store; eighths = r.stores.eighths; energies = r.stores.energies; correlations = r.stores.correlations; outs = r.kept; voices = r.voices }
+-- a chunk is the first stretch of what is left
+first_of_left : (zs left : List ℤ) (size : ℕ) → 0 < size → length zs ≡ min size (length (zs ++ left)) → 0 < length (zs ++ left) → stretches size (zs ++ left) ≡ zs ∷ stretches size left
+first_of_left zs left size some long more = stretches-more size (zs ++ left) some more ∙ (λ i. block_first zs left size long i ∷ stretches size (block_rest zs left size long i))
 
-module _ {t t' : Tuner} {size : ℕ} {xs : List ℤ} {os os' : List (List ℤ)} {store store' : List ℕ} {g g' : Reached} (some : 0 < size) (on : g.at < length xs) (w : Went xs size g g' t t' os os' store store') where
-  abbrev a : Answer
-  a = w.told
+module _ {t₀ t t' : Tuner} {k₀ k size at : ℕ} {n₀ n n' : NightAnswer} {xs zs rest : List ℤ} (left : List ℤ) {os₀ os os' : List (List ℤ)} {store₀ store store' : List ℕ} {a : Answer}
+    (some : 0 < size) (is : rest ≡ zs ++ left) (long : length zs ≡ min size (length rest)) (more : 0 < length rest)
+    (w : Went at k zs t t' a os os' store store') (sum : n' ≡ added n k a)
+    (g : Going t₀ k₀ size n₀ xs os₀ store₀ t k at rest n os store) where
+  blocks : stretches size rest ≡ zs ∷ stretches size left
+  blocks = ap (stretches size) is ∙ first_of_left zs left size some (long ∙ ap (λ (l : List ℤ). min size (length l)) is) (subst (λ (l : List ℤ). 0 < length l) is more)
 
-  abbrev block : List ℤ
-  block = take size (drop g.at xs)
+  many : length (map (drop at) os') ≡ length os
+  many = rest-many at os' ∙ kept-many at os os' w.kept
 
-  -- where the next block begins
-  place : g.at + length block ≡ g'.at
-  place = stretch_length xs g.at size (omega arith) ∙ sym w.at
+  -- a block that is refused ends the night
+  pub go-stops : 1 < a.number → OneByOne t₀ k₀ n₀ (stretches size xs) os₀ store₀ t' n' os' store'
+  go-stops h =
+      transport (λ i. OneByOne t₀ k₀ n₀ (stretches size xs) os₀ store₀ t' (sym sum i) (before-rest at os os' w.kept i) store')
+      (g.whole t' _ _ store' many
+      (transport (λ i. OneByOne t k n (sym blocks i) (map (drop at) os) store t' (added n k a) (map (drop at) os') store') (refused w.took h)))
 
-  -- the block is the first of what is left
-  blocks : stretches size (drop g.at xs) ≡ block ∷ stretches size (drop g'.at xs)
-  blocks =
-      stretches-more size (drop g.at xs) some (omega (arith, length-drop g.at xs))
-      ∙ ap (λ (l : List ℤ). block ∷ stretches size l) (stretch_rest xs g.at size (omega arith) ∙ ap (λ (n : ℕ). drop n xs) (sym w.at))
-
-  -- the answer's number
-  number_is : g'.answer.number ≡ (added_by a.number g.answer g.next a).number
-  number_is = ap (λ (n : NightAnswer). n.number) w.answer
-
-  -- the tuner is ready for the next
-  pub ready-more : Ready (length xs) t g.answer os → Ready (length xs) t' g'.answer os'
-  ready-more r =
-      let s = took-stays r.good (ready_lengths r) w.took in
+  -- any other is followed by the rest
+  pub go-more : a.number ≤ 1 → Small n' → Going t₀ k₀ size n₀ xs os₀ store₀ t' (number_after k) (at + length zs) left n' os' store'
+  go-more h small =
+      let place : at + length rest ≡ at + length zs + length left = omega (arith, ap length is, length-append zs left) in
       record {
-        good = s.0;
-        stores = w.stores;
-        kept = s.1.outs;
-        voices = s.1.voices;
-        room = kept-room g.at (length xs) (kept_outs t') os os' w.kept (room_after t t'.outs os (length xs) t'.numbers.chosen (length xs) refl (ap (λ (u : Tuner). u.numbers.chosen) w.took.tuner ∙ chosen_by w.took.number t g.next block store) r.room);
-        small = w.small;
-        few = subst (λ (n : NightAnswer). n.taken ≤ t'.numbers.count) (sym w.answer) (few-by w.took a.number g.answer refl r.few);
+        stays = took-stays g.stays.0 g.stays.1 w.took;
+        room =
+            subst (λ (m : ℕ). Roomy m (kept_outs t') os') place
+            (kept-room at (at + length rest) (kept_outs t') os os' w.kept
+            (room_after t t'.outs os (at + length rest) t'.numbers.chosen (at + length rest) refl
+            (ap (λ (u : Tuner). u.numbers.chosen) w.took.tuner ∙ chosen_by w.took.number t k zs store) g.room));
+        small = small;
+        few = subst (λ (m : NightAnswer). m.taken ≤ t'.numbers.count) (sym sum) (few-by w.took a.number n refl g.few);
+        whole =
+            λ t'' n'' qs s'' l q.
+            transport (λ i. OneByOne t₀ k₀ n₀ (stretches size xs) os₀ store₀ t'' n'' (before_on at (length zs) os os' qs w.kept i) s'')
+            (g.whole t'' n'' _ s'' (before-many (length zs) (map (drop at) os') qs ∙ many)
+            (transport (λ i. OneByOne t k n (sym blocks i) (map (drop at) os) store t'' n'' (before (length zs) (map (drop at) os') qs) s'')
+            (and_on w.took h
+            (transport (λ i. OneByOne t' (number_after k) (sum i) (stretches size left) (sym (rest-rest (length zs) at os') i) store' t'' n'' qs s'') q))));
       }
 
-  -- one block more
-  pub go-more : {t₀ : Tuner} {k₀ : ℕ} {n₀ : NightAnswer} {os₀ : List (List ℤ)} {store₀ : List ℕ} → g.answer.number ≡ 0 → Going t₀ k₀ size n₀ xs os₀ store₀ t g os store → Going t₀ k₀ size n₀ xs os₀ store₀ t' g' os' store'
-  go-more zero' (stopped n q) = absurd (n zero')
-  go-more {t₀} {k₀} {n₀} {os₀} {store₀} zero' (goes e r rest) =
-      by (nat_le a.number 1)
-      (λ l. let few = leb-true a.number 1 l in
-      goes (number_is ∙ added_goes a.number g.answer g.next a few ∙ e) (ready-more r)
-      (λ t'' n'' qs s'' long q.
-      transport (λ i. OneByOne t₀ k₀ n₀ (stretches size xs) os₀ store₀ t'' n'' ((before_on g.at (length block) os os' qs w.kept ∙ ap (λ (n : ℕ). before n os' qs) place) i) s'')
-      (rest t'' n'' _ s'' (before-many (length block) (map (drop g.at) os') qs ∙ rest-many g.at os' ∙ kept-many g.at os os' w.kept)
-      (transport (λ i. OneByOne t g.next g.answer (sym blocks i) (map (drop g.at) os) store t'' n'' (before (length block) (map (drop g.at) os') qs) s'')
-      (and_on w.took few
-      (transport (λ i. OneByOne t' (w.number i) (w.answer i) (stretches size (drop g'.at xs)) (sym (rest-rest (length block) g.at os' ∙ ap (λ (n : ℕ). map (drop n) os') place) i) store' t'' n'' qs s'') q))))))
-      (λ l. let many = leb-false a.number 1 l in
-      stopped
-      (λ z. let s = number_is ∙ sym (ap (λ (n : NightAnswer). n.number) (added-refused a.number g.answer g.next a (omega arith))) in omega arith)
-      (transport (λ i. OneByOne t₀ k₀ n₀ (stretches size xs) os₀ store₀ t' (sym w.answer i) (before-rest g.at os os' w.kept i) store')
-      (rest t' _ _ store' (rest-many g.at os' ∙ kept-many g.at os os' w.kept)
-      (transport (λ i. OneByOne t g.next g.answer (sym blocks i) (map (drop g.at) os) store t' (added g.answer g.next a) (map (drop g.at) os') store')
-      (refused w.took (omega arith))))))
+-- where no block is left
+pub go-ends : {t₀ t : Tuner} {k₀ k size at : ℕ} {n₀ n : NightAnswer} {xs left : List ℤ} {os₀ os : List (List ℤ)} {store₀ store : List ℕ} → length left ≡ 0 → Going t₀ k₀ size n₀ xs os₀ store₀ t k at left n os store → OneByOne t₀ k₀ n₀ (stretches size xs) os₀ store₀ t n os store
+go-ends {t₀} {t} {k₀} {k} {size} {at} {n₀} {n} {xs} {left} {os₀} {os} {store₀} {store} none g =
+    transport (λ i. OneByOne t₀ k₀ n₀ (stretches size xs) os₀ store₀ t n (before-rest at os os (kept_same at os) i) store)
+    (g.whole t n (map (drop at) os) store (rest-many at os)
+    (transport (λ i. OneByOne t k n (sym (stretches-none size left none) i) (map (drop at) os) store t n (map (drop at) os) store) all_done))
 
-module _ {t₀ t : Tuner} {k₀ size : ℕ} {n₀ : NightAnswer} {xs : List ℤ} {os₀ os : List (List ℤ)} {store₀ store : List ℕ} {g : Reached} where
-  -- a night that goes on is ready for a block
-  pub go-ready : g.answer.number ≡ 0 → Going t₀ k₀ size n₀ xs os₀ store₀ t g os store → Ready (length xs) t g.answer os
-  go-ready e (goes z r rest) = r
-  go-ready e (stopped n q) = absurd (n e)
+-- ---- the verdict on a block, by its number
 
-  -- where it ends: no block is left, or one was refused
-  pub go-ends : ((g.at < length xs) × (g.answer.number ≡ 0) → ⊥) → g.at ≤ length xs → Going t₀ k₀ size n₀ xs os₀ store₀ t g os store → OneByOne t₀ k₀ n₀ (stretches size xs) os₀ store₀ t g.answer os store
-  go-ends end h (stopped n q) = q
-  go-ends end h (goes e r rest) =
-      by (nat_lt g.at (length xs))
-      (λ l. absurd (end (leb-true (suc g.at) (length xs) l, e)))
-      (λ l. let m = leb-false (suc g.at) (length xs) l in
-      transport (λ i. OneByOne t₀ k₀ n₀ (stretches size xs) os₀ store₀ t g.answer (before-rest g.at os os (kept_same g.at os) i) store)
-      (rest t g.answer (map (drop g.at) os) store (rest-many g.at os)
-      (transport (λ i. OneByOne t g.next g.answer (sym (stretches-none size (drop g.at xs) (omega (arith, length-drop g.at xs))) i) (map (drop g.at) os) store t g.answer (map (drop g.at) os) store) all_done)))
+pub above_one : (r : Refusal) → 1 < refusal_number r
+above_one r = grind arith
+
+-- a block is taken where the number is 0
+pub is_taken : (v : Result Turn Refusal) → result_eq turn.eq-value.it refusal.eq-value.it v (Ok Taken) ≡ (judged_number v == 0)
+is_taken (Ok Taken) = refl
+is_taken (Ok GivenAgain) = refl
+is_taken (Err r) = sym (ne_eqb (refusal_number r) 0 (λ e. omega (arith, above_one r)))
+
+-- so it leaves tuner and store by that number
+pub left_by : (t : Tuner) (k : ℕ) (xs : List ℤ) (store : List ℕ) (v : Result Turn Refusal) {b : Bool} {t' : Tuner} {store' : List ℕ} → b ≡ result_eq turn.eq-value.it refusal.eq-value.it v (Ok Taken)
+    → ((b ≡ true) × (t' ≡ after_block t k xs store) × (store' ≡ (list_after t xs store).store)) ⊎ ((b ≡ false) × (t' ≡ t) × (store' ≡ store))
+    → (t' ≡ tuner_by (judged_number v) t k xs store) × (store' ≡ rows_by (judged_number v) t xs store)
+left_by t k xs store v e (inl (so, p, q)) =
+    let z = sym (e ∙ is_taken v) ∙ so in
+    (p ∙ ap (λ (b : Bool). cond b (after_block t k xs store) t) (sym z), q ∙ ap (λ (b : Bool). cond b (list_after t xs store).store store) (sym z))
+left_by t k xs store v e (inr (so, p, q)) =
+    let z = sym (e ∙ is_taken v) ∙ so in
+    (p ∙ ap (λ (b : Bool). cond b (after_block t k xs store) t) (sym z), q ∙ ap (λ (b : Bool). cond b (list_after t xs store).store store) (sym z))
 
 -- ---- a block that has room in each output that is asked for is judged by its own length
 
@@ -420,35 +401,23 @@ module _ {t : Tuner} {xs : List ℤ} {os os' : List (List ℤ)} (room : Roomy (l
   judged-alike (take-full f n e l) = take-full (fits-alike f) n e l
   judged-alike (taken f n e l) = taken (fits-alike f) n e l
 
-pub judged-here : {t : Tuner} {k : ℕ} {xs : List ℤ} {os : List (List ℤ)} {v : ℕ} → Judged t.numbers t.heard k xs (length xs) v → Good t → Roomy (length xs) (kept_outs t) os → Verdict t k xs os v
+pub judged-here : {t : Tuner} {k : ℕ} {xs : List ℤ} {os : List (List ℤ)} {v : ℕ} → Judged t k xs (length xs) v → Good t → Roomy (length xs) (kept_outs t) os → Verdict t k xs os v
 judged-here {t} {k} {xs} {os} j good room =
-    judged-alike (fits-exactly (length xs) xs (kept_outs t) (omega arith)) room (j t.energies t.correlations t.eighths t.outs (map (λ (k : List ℤ). xs) (kept_outs t)) (exactly t xs) good)
+    judged-alike (fits-exactly (length xs) xs (kept_outs t) (omega arith)) room (j (map (λ (k : List ℤ). xs) (kept_outs t)) (exactly t xs) good)
 
 -- ---- the promise by its number
 
-untouched : {v : ℕ} {t : Tuner} {n : Numbers} {os : List (List ℤ)} {store : List ℕ} {a : NightAnswer} → n ≡ t.numbers → a ≡ no_night v t.numbers → Untouched v t os store (with_numbers t n) a os store
-untouched {v} {t} {n} e f = record { tuner = ap (with_numbers t) e; answer = f; outs = refl; rows = refl }
-
-module _ {t : Tuner} {size : ℕ} {xs : List ℤ} {os : List (List ℤ)} where
-  -- a record that is not good
-  pub night-nine : {k : ℕ} {store : List ℕ} {n : Numbers} {a : NightAnswer} → (Good t → ⊥) → n ≡ t.numbers → a ≡ no_night 9 t.numbers → Nighted t k size xs os store (with_numbers t n) a os store
-  night-nine b e f = promise.record_out_of_range b (untouched e f)
-
-  module _ {room : ℕ} (good : Good t) (least : LeastRoom t os room) where
-    -- refused before its first block
-    pub night-refused : {k : ℕ} {store : List ℕ} {v : ℕ} {n : Numbers} {a : NightAnswer} → Refuses size (length xs) room v → (v ≢ 0) → n ≡ t.numbers → a ≡ no_night v t.numbers → Nighted t k size xs os store (with_numbers t n) a os store
-    night-refused (by_three s) z e f = size_out_of_range good s (untouched e f)
-    night-refused (by-four s m h) z e f = promise.output_short good s m (λ r. let q = least.least (length xs) r in omega arith) (untouched e f)
-    night-refused (begins s m h) z e f = absurd (z refl)
+module _ {t : Tuner} {k size : ℕ} {xs : List ℤ} {os : List (List ℤ)} {store : List ℕ} where
+  -- refused before its first block
+  pub night-refused : {v : ℕ} {a : NightAnswer} → Refuses t size xs os v → v ≢ 0 → a ≡ no_night v t.numbers → Nighted t k size xs os store t a os store
+  night-refused (by_nine b) z e = promise.record_out_of_range b (record { tuner = refl; answer = e; outs = refl; rows = refl })
+  night-refused (by_three g s) z e = promise.size_out_of_range g s (record { tuner = refl; answer = e; outs = refl; rows = refl })
+  night-refused (by_four g s m r) z e = promise.output_short g s m r (record { tuner = refl; answer = e; outs = refl; rows = refl })
+  night-refused (begins g s m r) z e = absurd (z refl)
 
 -- or begun
-pub night-begins : {t : Tuner} {size long : ℕ} {os : List (List ℤ)} {room v : ℕ} → LeastRoom t os room → Refuses size long room v → v ≡ 0 → (0 < size) × (size ≤ longest_block) × Roomy long (kept_outs t) os
-night-begins least (by_three s) e = absurd (omega arith)
-night-begins least (by-four s m h) e = absurd (omega arith)
-night-begins {long = long} least (begins s m h) e = (s, m, least.fits long h)
-
--- and done
-pub night-done : {t t' : Tuner} {k size : ℕ} {xs : List ℤ} {os os' : List (List ℤ)} {store store' : List ℕ} {n a : NightAnswer} → Good t → 0 < size → size ≤ longest_block → Roomy (length xs) (kept_outs t) os
-    → n ≡ no_night 0 t.numbers → OneByOne t k n (stretches size xs) os store t' a os' store' → Nighted t k size xs os store t' a os' store'
-night-done {t} {t'} {k} {size} {xs} {os} {os'} {store} {store'} {n} {a} g s m r e o =
-    promise.one_by_one g s m r (subst (λ (n : NightAnswer). OneByOne t k n (stretches size xs) os store t' a os' store') e o)
+pub night-begins : {t : Tuner} {size : ℕ} {xs : List ℤ} {os : List (List ℤ)} {v : ℕ} → Refuses t size xs os v → v ≡ 0 → Good t × (0 < size) × (size ≤ longest_block) × Roomy (length xs) (kept_outs t) os
+night-begins (by_nine b) e = absurd (omega arith)
+night-begins (by_three g s) e = absurd (omega arith)
+night-begins (by_four g s m r) e = absurd (omega arith)
+night-begins (begins g s m r) e = (g, s, m, r)

@@ -9,40 +9,26 @@ ghost use Rattle.tuner.specs.Following.{four};
 ghost use Rattle.tuner.specs.Tuners.{Took};
 
 use meters::Meter;
-use nights::{NightAnswer, NightTaken};
+use nights::NightAnswer;
+use refusals::Refusal;
 use rules::{CD_RATE, Settings};
+use std::array;
 use std::io::{self, ErrorKind, Read};
-use tuner::{Answer, Done, Taken, Tuner};
+use tuner::{Answer, Tuner};
 
-fn wide(b: u8) -> u32
-    ensures { result < 256 }
-{
-    b as u32
-}
+// ---- a record of the script
 
 // The number in the bytes at and at + 1.
-fn word(b: &[u8; 1054], at: usize) -> u32
+fn word(b: &[u8; 1054], at: usize) -> u16
     requires { at < 1053 }
-    ensures { result < 65536 }
 {
-    wide(b[at]) + 256 * wide(b[at + 1])
+    u16::from_le_bytes([b[at], b[at + 1]])
 }
 
 fn long(b: &[u8; 1054], at: usize) -> u32
     requires { at < 1051 }
 {
-    word(b, at) + 65536 * word(b, at + 2)
-}
-
-// A sample, and back, as a number from 0 on.
-fn sample(n: u32) -> i16
-    requires { n < 65536 }
-{
-    ((n as i32) - 32768) as i16
-}
-
-fn level(x: i16) -> u64 {
-    ((x as i32) + 32768) as u64
+    u32::from_le_bytes([b[at], b[at + 1], b[at + 2], b[at + 3]])
 }
 
 fn settings(b: &[u8; 1054]) -> Settings {
@@ -51,54 +37,69 @@ fn settings(b: &[u8; 1054]) -> Settings {
         eps: long(b, 16),
         decay: long(b, 20),
         floor: long(b, 24),
-        mode: word(b, 2),
-        channel: word(b, 6),
+        mode: u32::from(word(b, 2)),
+        channel: u32::from(word(b, 6)),
     }
 }
 
-fn most(n: u32) -> usize
+// At most as many as a record has room for.
+fn most(n: u16) -> usize
     ensures { result ≤ 513 }
 {
-    if n < 513 { n as usize } else { 513 }
+    usize::from(n).min(513)
 }
 
-fn samples(b: &[u8; 1054], n: usize) -> [i16; 513]
-    requires { n ≤ 513 }
-{
-    let mut xs = [0i16; 513];
-    let mut i: usize = 0;
-    while i < n {
-        xs[i] = sample(word(b, 28 + 2 * i));
-        i += 1;
-    }
-    xs
+// A sample is written as a number from 0 on, 32768 more than it is.
+fn samples(b: &[u8; 1054]) -> [i16; 513] {
+    array::from_fn(|i| word(b, 28 + 2 * i).wrapping_sub(32768).cast_signed())
 }
 
-fn put(rt: &impl Print, n: u64) -> io::Result<()> {
-    print!(rt; "{n} ")
+// ---- a line of the answers
+
+fn show(rt: &impl Print, x: i16) -> io::Result<()> {
+    print!(rt; "{} ", i32::from(x) + 32768)
 }
 
-fn say(rt: &impl Print, a: Answer) -> io::Result<()> {
-    put(rt, a.number as u64)?;
-    put(rt, a.written as u64)?;
-    put(rt, a.repeated as u64)?;
-    put(rt, a.dropped as u64)
-}
-
-fn show(rt: &impl Print, xs: &[i16; 513], n: usize) -> io::Result<()>
-    requires { n ≤ 513 }
-{
-    let mut i: usize = 0;
-    while i < n {
-        put(rt, level(xs[i]))?;
-        i += 1;
+fn show_all(rt: &impl Print, xs: &[i16]) -> io::Result<()> {
+    for x in xs {
+        show(rt, *x)?;
     }
     Ok(())
 }
 
-// The block call over a record lent: the promise of the call by value.
-fn block_lent(
-    mut t: Tuner,
+fn say(rt: &impl Print, a: Answer) -> io::Result<()> {
+    print!(rt; "{} {} {} {} ", a.number, a.written, a.repeated, a.dropped)
+}
+
+fn tell(rt: &impl Print, a: NightAnswer) -> io::Result<()> {
+    print!(rt;
+        "{} {} {} {} {} {} ",
+        a.number, a.refused, a.taken, a.written, a.repeated, a.dropped
+    )?;
+    say(rt, a.again)
+}
+
+// What a start, a change, keyboard bytes and a reset answer: a number, and counts 0.
+fn told(rt: &impl Print, answer: Result<(), Refusal>) -> io::Result<()> {
+    print!(rt; "{} 0 0 0 ", refusals::number(answer))
+}
+
+// ---- the calls
+
+// A start without a list and without voices.
+fn start(rt: &impl Print, t: &mut Tuner, hertz: u32, s: Settings) -> io::Result<()> {
+    told(rt, t.start(hertz, s, 0, &[], &[]))
+}
+
+fn midi(rt: &impl Print, t: &mut Tuner, b: &[u8; 1054]) -> io::Result<()> {
+    let n = most(word(b, 4));
+    told(rt, t.midi(&b[28..28 + n]))
+}
+
+// A block that lends nothing but its samples and the lead's output, by the call that the script names: 4 is the tuner's own, 11 the one in place.
+fn given(
+    op: u8,
+    t: &mut Tuner,
     number: u16,
     samples: &[i16],
     out: &mut [i16],
@@ -106,250 +107,118 @@ fn block_lent(
     second: &mut [i16],
     third: &mut [i16],
     store: &mut [u32],
-) -> Taken
-    ensures { Took t number samples.now (four out.old first.old second.old third.old) store.old
-        result.tuner result.answer (four out.new first.new second.new third.new) store.new }
+) -> Answer
+    ensures { Took t.old number samples.now (four out.old first.old second.old third.old) store.old
+        t.new result (four out.new first.new second.new third.new) store.new }
 {
-    let answer = host::block_in_place(&mut t, number, samples, out, first, second, third, store);
-    Taken {
-        tuner: t,
-        answer: answer,
-    }
-}
-
-// A block that lends nothing but its samples and the lead's output, by the call that the script names: 4 by value, 11 over the record lent.
-fn given(op: u8, t: Tuner, number: u16, samples: &[i16], out: &mut [i16]) -> Taken {
-    let mut first = [0i16; 1];
-    let mut second = [0i16; 1];
-    let mut third = [0i16; 1];
-    let mut store = [0u32; 1];
     if op == 4 {
-        return t.block(
-            number,
-            samples,
-            out,
-            &mut first[..0],
-            &mut second[..0],
-            &mut third[..0],
-            &mut store[..0],
-        );
+        t.block(number, samples, out, first, second, third, store)
+    } else {
+        host::block_in_place(t, number, samples, out, first, second, third, store)
     }
-    block_lent(
-        t,
-        number,
-        samples,
-        out,
-        &mut first[..0],
-        &mut second[..0],
-        &mut third[..0],
-        &mut store[..0],
-    )
-}
-
-// A night that lends no more.
-fn nighted(t: Tuner, number: u16, size: usize, samples: &[i16], out: &mut [i16]) -> NightTaken {
-    let mut first = [0i16; 1];
-    let mut second = [0i16; 1];
-    let mut third = [0i16; 1];
-    let mut store = [0u32; 1];
-    nights::night(
-        t,
-        number,
-        size,
-        samples,
-        out,
-        &mut first[..0],
-        &mut second[..0],
-        &mut third[..0],
-        &mut store[..0],
-    )
 }
 
 // A block, with an output of so much room; all of the output is shown, what is not written too.
-fn block(rt: &impl Print, op: u8, t: Tuner, b: &[u8; 1054]) -> io::Result<Tuner> {
+fn block(rt: &impl Print, op: u8, t: &mut Tuner, b: &[u8; 1054]) -> io::Result<()> {
     let n = most(word(b, 4));
     let room = most(word(b, 6));
-    let number = word(b, 2) as u16;
-    let xs = samples(b, n);
+    let xs = samples(b);
     let mut out = [7i16; 513];
-    let r = given(op, t, number, &xs[..n], &mut out[..room]);
-    say(rt, r.answer)?;
-    show(rt, &out, room)?;
-    Ok(r.tuner)
-}
-
-fn tell(rt: &impl Print, a: NightAnswer) -> io::Result<()> {
-    put(rt, a.number as u64)?;
-    put(rt, a.refused as u64)?;
-    put(rt, a.taken)?;
-    put(rt, a.written)?;
-    put(rt, a.repeated)?;
-    put(rt, a.dropped)?;
-    say(rt, a.again)
+    let a = given(
+        op,
+        t,
+        word(b, 2),
+        &xs[..n],
+        &mut out[..room],
+        &mut [],
+        &mut [],
+        &mut [],
+        &mut [],
+    );
+    say(rt, a)?;
+    show_all(rt, &out[..room])
 }
 
 // A night, shown like a block.
-fn night(rt: &impl Print, t: Tuner, b: &[u8; 1054]) -> io::Result<Tuner> {
+fn night(rt: &impl Print, t: &mut Tuner, b: &[u8; 1054]) -> io::Result<()> {
     let n = most(word(b, 4));
     let room = most(word(b, 6));
-    let number = word(b, 2) as u16;
     let size = long(b, 8) as usize;
-    let xs = samples(b, n);
+    let xs = samples(b);
     let mut out = [7i16; 513];
-    let r = nighted(t, number, size, &xs[..n], &mut out[..room]);
-    tell(rt, r.answer)?;
-    show(rt, &out, room)?;
-    Ok(r.tuner)
+    let a = nights::night(
+        t,
+        word(b, 2),
+        size,
+        &xs[..n],
+        &mut out[..room],
+        &mut [],
+        &mut [],
+        &mut [],
+        &mut [],
+    );
+    tell(rt, a)?;
+    show_all(rt, &out[..room])
 }
 
-fn metered(rt: &impl Print, t: Tuner) -> io::Result<()> {
-    let m = t.meter();
-    match m {
-        Meter::Searching => put(rt, 0),
-        Meter::Locking(_) => put(rt, 1),
-        Meter::Pitched(_) => put(rt, 2),
-        Meter::Refused => put(rt, 3),
-    }
+fn meter(rt: &impl Print, t: &Tuner) -> io::Result<()> {
+    let state = match t.meter() {
+        Meter::Searching => 0,
+        Meter::Locking(_) => 1,
+        Meter::Pitched(_) => 2,
+        Meter::Refused => 3,
+    };
+    print!(rt; "{state} ")
 }
 
 // A stretch of the samples of the record, by its number.
 fn stretch(rt: &impl Print, b: &[u8; 1054]) -> io::Result<()> {
-    let xs = samples(b, 513);
-    let k = word(b, 2) as usize;
-    let s = cutting::cut(&xs, k);
-    put(rt, s.len() as u64)?;
-    if 0 < s.len() {
-        put(rt, level(s[0]))?;
+    let xs = samples(b);
+    let s = cutting::cut(&xs, usize::from(word(b, 2)));
+    print!(rt; "{} ", s.len())?;
+    match s.first() {
+        Some(x) => show(rt, *x),
+        None => Ok(()),
     }
-    Ok(())
-}
-
-// The record with its position so far behind.
-fn behind(t: Tuner, far: u64) -> Tuner {
-    let mut n = t.numbers;
-    n.behind = far;
-    let mut u = t;
-    u.numbers = n;
-    u
 }
 
 // The record with its count near the take's limit, its phases kept.
-fn aged(t: Tuner) -> Tuner {
-    let mut n = t.numbers;
+fn age(t: &mut Tuner) {
+    let n = &mut t.numbers;
     if n.count < 999999990 {
-        let near = n.count + 40 * ((999999990 - n.count) / 40);
-        n.count = near;
+        n.count += 40 * ((999999990 - n.count) / 40);
     }
-    let mut u = t;
-    u.numbers = n;
-    u
 }
 
-// What a start, a change, keyboard bytes and a reset answer: a number, and counts 0.
-fn took(rt: &impl Print, r: Done) -> io::Result<Tuner> {
-    put(rt, r.number as u64)?;
-    put(rt, 0)?;
-    put(rt, 0)?;
-    put(rt, 0)?;
-    Ok(r.tuner)
-}
-
-// A start without a list and without voices.
-fn started(hertz: u32, s: Settings) -> Done {
-    let intervals = [0i32; 1];
-    let store = [0u32; 1];
-    tuner::start(hertz, s, 0, &intervals[..0], &store[..0])
-}
-
-fn started_default() -> Done {
-    started(CD_RATE, record::default_settings())
-}
-
-fn reset(t: Tuner) -> Done {
-    let store = [0u32; 1];
-    t.reset(&store[..0])
-}
-
-fn keys(b: &[u8; 1054], n: usize) -> [u8; 513]
-    requires { n ≤ 513 }
-{
-    let mut ks = [0u8; 513];
-    let mut i: usize = 0;
-    while i < n {
-        ks[i] = b[28 + i];
-        i += 1;
+// The call that byte 0 names; 7, 8 and 9 make the record another by hand.
+fn play(rt: &impl Print, t: &mut Tuner, b: &[u8; 1054]) -> io::Result<()> {
+    match b[0] {
+        0 => start(rt, t, long(b, 8), settings(b))?,
+        1 => start(rt, t, CD_RATE, record::default_settings())?,
+        2 => told(rt, t.change(settings(b)))?,
+        3 => told(rt, t.reset(&[]))?,
+        4 | 11 => block(rt, b[0], t, b)?,
+        5 => meter(rt, t)?,
+        6 => stretch(rt, b)?,
+        7 => t.numbers.behind = 65536001,
+        8 => age(t),
+        9 => t.numbers.behind = 0,
+        10 => midi(rt, t, b)?,
+        _ => night(rt, t, b)?,
     }
-    ks
-}
-
-fn midi(rt: &impl Print, t: Tuner, b: &[u8; 1054]) -> io::Result<Tuner> {
-    let n = most(word(b, 4));
-    let ks = keys(b, n);
-    took(rt, t.midi(&ks[..n]))
-}
-
-// Calls from 5 on; 11 is a block over the record lent.
-fn other(rt: &impl Print, op: u8, t: Tuner, b: &[u8; 1054]) -> io::Result<Tuner> {
-    if op == 5 {
-        metered(rt, t)?;
-        return Ok(t);
-    }
-    if op == 6 {
-        stretch(rt, b)?;
-        return Ok(t);
-    }
-    if op == 7 {
-        return Ok(behind(t, 65536001));
-    }
-    if op == 8 {
-        return Ok(aged(t));
-    }
-    if op == 9 {
-        return Ok(behind(t, 0));
-    }
-    if op == 10 {
-        return midi(rt, t, b);
-    }
-    if op == 11 {
-        return block(rt, op, t, b);
-    }
-    night(rt, t, b)
-}
-
-fn played(rt: &impl Print, t: Tuner, b: &[u8; 1054]) -> io::Result<Tuner> {
-    let op = b[0];
-    if op == 0 {
-        return took(rt, started(long(b, 8), settings(b)));
-    }
-    if op == 1 {
-        return took(rt, started_default());
-    }
-    if op == 2 {
-        return took(rt, t.change(settings(b)));
-    }
-    if op == 3 {
-        return took(rt, reset(t));
-    }
-    if op == 4 {
-        return block(rt, op, t, b);
-    }
-    other(rt, op, t, b)
+    println!(rt)
 }
 
 fn main(rt: HostRuntime) -> io::Result<()> {
     let mut input = rt.stdin();
-    let mut t = started_default().tuner;
-    let mut turns = u64::MAX;
-    while turns > 0 {
+    let mut t = Tuner::default();
+    for _ in 0..u64::MAX {
         let mut b = [0u8; 1054];
         match input.read_exact(&mut b) {
-            Ok(()) => {}
+            Ok(()) => play(&rt, &mut t, &b)?,
             Err(error) if error.kind() == ErrorKind::UnexpectedEof => return Ok(()),
             Err(error) => return Err(error),
         }
-        t = played(&rt, t, &b)?;
-        println!(rt)?;
-        turns = turns - 1;
     }
     Ok(())
 }

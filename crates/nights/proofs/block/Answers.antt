@@ -1,51 +1,46 @@
--- `nights::block` meets its contract: it is judged by its own length, since it has room, and then taken, given again or refused by its number.
-use Rattle.std.proofs.Common.{List, ℤ, ap, ◌∙◌, arith}
+-- The block is judged by its own length, since it has room, and then taken, given again or refused.
+use Rattle.std.proofs.Common.{◌≡◌, ◌≤◌, ℕ, List, ℤ, length, inl, inr, refl, ap, sym, ◌∙◌, arith}
+use borrow.Author.Tests.{eqb-true}
+use Rattle.answers.specs.Numbering.{judged_number}
 use Rattle.tuner.specs.declared.Tuner.{Tuner}
 use Rattle.tuner.specs.Tuners.{Verdict}
-use Rattle.tuner.specs.Parted.{tuner_of}
 use Rattle.tuner.specs.Following.{four}
 use Rattle.tuner.proofs.Outputs.{room_after}
 use Rattle.tuner.proofs.Verdicts.{verdict-fits, verdict-zero, took_by}
-use Rattle.nights.specs.Going.{chosen_by, last-by, judged-here}
-use Rattle.nights.proofs.block.Goals.{After-judge-verdict}
+use Rattle.nights.specs.Going.{is_taken, left_by, chosen_by, last-by, judged-here}
+use Rattle.nights.proofs.block.Goals.{After-judge-verdict, then-eq, else-eq}
 use Rattle.nights.proofs.block.Goals as goal
 
 -- where the block was judged
-module _ (c : After-judge-verdict) where
-  abbrev tuner : Tuner
-  tuner = let a = c.args in tuner_of a.n a.energies.now a.correlations.now a.heard.now a.eighths.now a.outs.now
+verdict-here : (c : After-judge-verdict) → let a = c.args in Verdict a.t.now a.number a.samples.now (four a.out.now a.first.now a.second.now a.third.now) (judged_number c.judge-verdict.result)
+verdict-here c = judged-here c.judge-verdict.ensures c.requires.0.0 c.requires.1
 
-  abbrev outputs : List (List ℤ)
-  outputs = let a = c.args in four a.out.now a.first.now a.second.now a.third.now
+pub take-requires-clause-fits : goal.take-requires-clause-fits
+take-requires-clause-fits c =
+    let p = verdict-here (goal.at.take-requires-clause-fits c).After-judge-verdict in
+    let z = eqb-true (judged_number c.judge-verdict.result) 0 (sym (c.eq.ensures ∙ is_taken c.judge-verdict.result) ∙ c.if-eq.true) in
+    let f = verdict-fits p (omega (arith, z)) in
+    (f.nonempty, f.most, verdict-zero p z)
 
-  verdict-here : Verdict tuner c.args.number c.args.samples.now outputs c.judge-verdict.result
-  verdict-here = judged-here c.judge-verdict.ensures c.requires.good.0 c.requires.room
-
-pub taken_by-r-requires : goal.taken_by-r-requires
-taken_by-r-requires c =
-    let p = verdict-here (goal.at.taken_by-r-requires c).After-judge-verdict in
-    record { good = c.requires.good; fits = λ z. let f = verdict-fits p (omega (arith, z)) in (f.nonempty, f.most, verdict-zero p z) }
-
-pub ended-requires : goal.ended-requires
-ended-requires c =
-    let j = (goal.at.ended-requires c).After-judge-verdict in
-    let p = verdict-here j in
+pub answer-requires : goal.answer-requires
+answer-requires c h =
+    let p = verdict-here (goal.at.answer-requires c).After-judge-verdict in
     let a = c.args in
-    let t = c.taken_by-r.ensures in
-    let many = ap (λ (u : Tuner). u.numbers.chosen) t.tuner ∙ chosen_by c.judge-verdict.result (tuner j) a.number a.samples.now a.store.now in (
-      omega (arith, many, c.requires.good.0.voices.few),
-      t.stores.1,
-      λ h. let long = ap (λ (u : Tuner). u.numbers.last.length) t.tuner ∙ last-by a.store.now p c.requires.good.1.store h in
-          (omega (arith, long, (verdict-fits p h).most), room_after (tuner j) _ (outputs j) _ _ _ long many c.requires.room),
-    )
+    let t = a.t.now in
+    let stays = c.requires.0 in
+    let left =
+    left_by t a.number a.samples.now a.store.now c.judge-verdict.result c.eq.ensures
+    (elim c.if-eq.branch [ then-eq w ↦ inl (w.if-eq.true, w.t-is ∙ w.take.ensures.tuner, w.store-is ∙ w.take.ensures.rows) | else-eq w ↦ inr (w.if-eq.false, w.t-is, w.store-is) ]) in
+    let many = ap (λ (u : Tuner). u.numbers.chosen) left.0 ∙ chosen_by (judged_number c.judge-verdict.result) t a.number a.samples.now a.store.now in
+    let long = ap (λ (u : Tuner). u.numbers.last.length) left.0 ∙ last-by a.store.now p stays.1.heard h in
+    (omega (arith, many, stays.0.voices.few), omega (arith, long, (verdict-fits p h).most), room_after t _ _ _ _ _ long many c.requires.1)
 
 pub returns : goal.returns
 returns c =
     let p = verdict-here (goal.at.returns c).After-judge-verdict in
-    let t = c.taken_by-r.ensures in
-    let d = c.ended.ensures in
-    let st = t.stores.0 in
-    record {
-      took = took_by p t.tuner d.answer.0 (λ h. ap (λ (u : Tuner). u.numbers.last.length) t.tuner ∙ last-by c.args.store.now p c.requires.good.1.store h) d.answer.1 d.outs t.rows;
-      stores = (record { store = st.store; eighths = st.eighths; energies = st.energies; correlations = st.correlations; store_fits = st.store_fits; eighths_fit = st.eighths_fit }, t.stores.1);
-    }
+    let a = c.args in
+    let t = a.t.now in
+    let left =
+    left_by t a.number a.samples.now a.store.now c.judge-verdict.result c.eq.ensures
+    (elim c.if-eq.branch [ then-eq w ↦ inl (w.if-eq.true, w.t-is ∙ w.take.ensures.tuner, w.store-is ∙ w.take.ensures.rows) | else-eq w ↦ inr (w.if-eq.false, w.t-is, w.store-is) ]) in
+    took_by p left.0 refl (λ h. ap (λ (u : Tuner). u.numbers.last.length) left.0 ∙ last-by a.store.now p c.requires.0.1.heard h) c.answer.ensures.answer c.answer.ensures.outs left.1

@@ -1,15 +1,15 @@
--- `nights::go` meets its contract: after each block what is left of the night makes it whole (`Going`), and everything lent is as long as it was.
-use Rattle.std.proofs.Common.{◌≡◌, ◌-◌, ◌≤◌, length}
-use Rattle.tuner.specs.Parted.{tuner_of}
+-- Between two blocks what is left of the night makes it whole (`Going`).
+use Rattle.std.proofs.Common.{◌≡◌, ◌+◌, length}
+use Rattle.std.specs.Slice.Iter.{chunks_rest, chunks_size}
 use Rattle.tuner.specs.Following.{four}
+use Rattle.nights.specs.Night.{no_night}
 use Rattle.nights.specs.Going.{Kept, Going}
 use Rattle.nights.proofs.go.Given as goal
 
-abbrev pub invariant-loop-energies : goal.invariant-loop-energies
-invariant-loop-energies l =
-    (l.g.at ≤ length l.samples) × (length l.outs ≡ 2048) × Kept 0 (four l.initial.out l.initial.first l.initial.second l.initial.third) (four l.out l.first l.second l.third) × (length l.store ≡ length l.initial.store) ×
-    Going (tuner_of l.initial.g.numbers l.initial.energies l.initial.correlations l.initial.heard l.initial.eighths l.initial.outs) l.initial.g.next l.size l.initial.g.answer l.samples (four l.initial.out l.initial.first l.initial.second l.initial.third) l.initial.store
-    (tuner_of l.g.numbers l.energies l.correlations l.heard l.eighths l.outs) l.g (four l.out l.first l.second l.third) l.store
-
-abbrev pub decreases-loop-energies : goal.decreases-loop-energies
-decreases-loop-energies l = length l.samples - l.g.at
+abbrev pub invariant-loop-stretch : goal.invariant-loop-stretch
+invariant-loop-stretch l =
+    let rest = chunks_rest l.stretch-iterator in
+    let i = l.initial in
+    (chunks_size l.stretch-iterator ≡ l.size) × (l.at + length rest ≡ length l.samples) ×
+    Going i.t i.next l.size (no_night 0 i.t.numbers) l.samples (four i.out i.first i.second i.third) i.store
+    l.t l.next l.at rest l.sum (four l.out l.first l.second l.third) l.store

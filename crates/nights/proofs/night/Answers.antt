@@ -1,6 +1,15 @@
--- `nights::night` meets its contract: it is the night over the tuner's own arrays.
-use Rattle.tuner.proofs.Fields.{stores, outs-long}
+-- Refused before its first block, or block by block.
+use Rattle.std.proofs.Common.{refl, arith, ◌∙◌, ap, ℕ}
+use Rattle.nights.specs.declared.NightAnswer.{NightAnswer}
+use Rattle.nights.specs.Night.{no_night, one_by_one}
+use Rattle.nights.specs.Going.{above_one, night-refused, night-begins}
 use Rattle.nights.proofs.night.Goals as goal
 
-pub night_lent-d-requires : goal.night_lent-d-requires
-night_lent-d-requires c = (stores c.args.t _ c.well_formed.0, outs-long c.args.t _ c.well_formed.0)
+pub go-requires : goal.go-requires
+go-requires c = let b = night-begins c.in-Ok.ensures refl in (b.1, (b.0, c.lengths.ensures), b.3)
+
+pub returns-in-Ok : goal.returns-in-Ok
+returns-in-Ok c = let b = night-begins c.in-Ok.ensures refl in one_by_one b.0 b.1 b.2 b.3 c.go.ensures
+
+pub returns-in-Err : goal.returns-in-Err
+returns-in-Err c = night-refused c.in-Err.ensures (λ z. omega (arith, z, above_one c.in-Err.refusal)) (c.begin.ensures ∙ ap (λ (v : ℕ). no_night v c.args.t.now.numbers) c.number.ensures)
