@@ -2,7 +2,7 @@
 
 #![tactic(auto)]
 
-ghost use Rattle.std.specs.Prelude.{◌≡◌, ◌∷◌, List, ℕ, ◌+◌, ◌-◌, ◌*◌, ◌≤◌, ◌<◌, length, IfSome};
+ghost use Rattle.std.specs.Prelude.{◌≡◌, List, [], ◌∷◌, ◌++◌, ℕ, ◌+◌, ◌-◌, ◌*◌, ◌≤◌, ◌<◌, length, IfSome};
 ghost use Rattle.text.specs.Text.{one_more, number, sample, places_within, digits, decimal, long_decimal, signed, sample_fields, put, Put};
 ghost use Rattle.text.specs.Places.{First};
 
@@ -150,6 +150,17 @@ pub fn put_field<N: Decimal>(out: &mut [u8], at: usize, n: N) -> usize
 {
     out[at] = b'\t';
     n.put(out, at + 1)
+}
+
+// Writes a number and the line's end.
+pub fn put_line<N: Decimal>(out: &mut [u8], at: usize, n: N) -> usize
+    requires { at + N.room + 1 ≤ length out.old }
+    ensures put { Put out.old at (N.text n ++ (10 ∷ [])) out.new result }
+    ensures within { result ≤ at + N.room + 1 }
+{
+    let end = n.put(out, at);
+    out[end] = b'\n';
+    end + 1
 }
 
 // Writes samples, a tab before each.
