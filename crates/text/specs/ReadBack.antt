@@ -1,14 +1,14 @@
 -- What is printed is read back as itself: reading appends the digits that printing takes off the end, one by one,
 -- and `decimal` prints enough of them for every number below 100,000.
 use Rattle.std.specs.Prelude.{◌≡◌, refl, Bool, true, false, cond, List, [], ◌∷◌, ◌++◌, map, ℕ, zero, suc, ◌+◌, ◌-◌, ◌*◌, ◌/◌, ◌%◌, ◌^◌, ◌≤◌, ◌<◌, ltb, eqb, ℤ, pos, negsuc, neg_ℤ, length, get_or, Option, Some, option_map}
-use Rattle.std.proofs.Common.{sym, ap, ◌∙◌, append-nil, pow-suc, arith, ne_eqb, ltb-true, SFits}
+use Rattle.std.proofs.Common.{sym, ap, ◌∙◌, append-nil, pow-suc, arith, ltb-true, SFits}
 use Rattle.std.proofs.Math.Decide.{dec_lt}
 use Rattle.std.proofs.Math.ListN.{get_or-append}
 use Rattle.std.proofs.lemmas.List.{get_or_at}
 use Rattle.std.specs.Int.{w16}
 use Rattle.whole.specs.Tests.{cond_case}
 use Rattle.text.specs.Text.{onto, fields, more_digits, number, sample, digits, places_within, decimal, signed, sample_fields}
-use Rattle.text.specs.Fields.{fields-some}
+use Rattle.text.specs.Fields.{NoTab, one_field, fields-some}
 use Rattle.text.specs.Reading.{one_digit, number_digits, plain-sample}
 use Rattle.text.specs.Spelling.{digits-length, decimal-length}
 
@@ -79,10 +79,6 @@ sample-back (negsuc n) f =
 
 -- ---- fields
 
--- no tab in these bytes
-abbrev pub NoTab : List ℕ → Type 0
-NoTab bs = (k : ℕ) → k < length bs → get_or bs k 0 ≡ 9 → ⊥
-
 pub decimal_no_tab : (n : ℕ) → NoTab (decimal n)
 decimal_no_tab n k h e = absurd (omega (arith, decimal-digits n k h))
 
@@ -91,12 +87,6 @@ unfolding signed
 signed_no_tab (pos n) k h e = decimal_no_tab n k h e
 signed_no_tab (negsuc n) zero h e = absurd (omega arith)
 signed_no_tab (negsuc n) (suc k) h e = decimal_no_tab (suc n) k (omega arith) e
-
--- without a tab there is one field
-pub one_field : (f : List ℕ) → NoTab f → fields f ≡ f ∷ []
-unfolding fields onto
-one_field [] n = refl
-one_field (b ∷ f) n = rw (ne_eqb b 9 (n 0 (omega arith)), one_field f (λ k h. n (suc k) (omega arith)))
 
 -- at a tab the fields before it end and those after it begin
 pub parted : (bs cs : List ℕ) → fields (bs ++ (9 ∷ cs)) ≡ fields bs ++ fields cs

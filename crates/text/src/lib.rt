@@ -3,8 +3,10 @@
 #![tactic(auto)]
 
 ghost use Rattle.std.specs.Prelude.{◌≡◌, List, [], ◌∷◌, ◌++◌, ℕ, ◌+◌, ◌-◌, ◌*◌, ◌≤◌, ◌<◌, length, IfSome};
-ghost use Rattle.text.specs.Text.{one_more, number, sample, places_within, digits, decimal, long_decimal, signed, sample_fields, put, Put};
+ghost use Rattle.text.specs.Text.{fields, one_more, number, sample, places_within, digits, decimal, long_decimal, signed, sample_fields, put, Put};
+ghost use Rattle.std.specs.Iterator.{YieldsFirstRef, item_count};
 ghost use Rattle.text.specs.Places.{First};
+ghost use Rattle.text.specs.Fields.{left};
 
 // The first place from `from` on where the byte b stands; the length where it stands nowhere.
 pub fn first(a: &[u8], from: usize, b: u8) -> usize
@@ -14,6 +16,36 @@ pub fn first(a: &[u8], from: usize, b: u8) -> usize
     match a[from..].iter().position(|x| *x == b) {
         Some(k) => from + k,
         None => a.len(),
+    }
+}
+
+// The fields of a line that are left, parted by one tab.
+#[derive(Drop)]
+pub struct Fields<'a> {
+    rest: Option<&'a [u8]>,
+}
+
+impl<'a> Fields<'a> {
+    // Those of a line.
+    pub fn new(line: &'a [u8]) -> Fields<'a>
+        ensures { left result ≡ fields line.now }
+    {
+        Fields { rest: Some(line) }
+    }
+}
+
+impl<'a> Iterator for Fields<'a> {
+    type Item = &'a [u8];
+
+    ghost next_gives = { YieldsFirstRef left };
+
+    ghost remaining = { item_count left };
+
+    fn next(&mut self) -> Option<&'a [u8]> {
+        let rest = self.rest?;
+        let end = first(rest, 0, b'\t');
+        self.rest = rest.get(end + 1..);
+        Some(&rest[..end])
     }
 }
 
