@@ -25,6 +25,11 @@ room-of-line (b ∷ bs) =
     grown [] e = absurd (omega (arith, e))
     grown (f ∷ fs) e = omega (arith, e)
 
+-- without the first field they take less
+pub room_of_others : {fs more : List (List ℕ)} {f : List ℕ} → fs ≡ f ∷ more → room_of more < room_of fs
+unfolding room_of
+room_of_others {f = f} e = omega (arith, ap room_of e)
+
 -- no tab in these bytes
 abbrev pub NoTab : List ℕ → Type 0
 NoTab bs = (k : ℕ) → k < length bs → get_or bs k 0 ≡ 9 → ⊥

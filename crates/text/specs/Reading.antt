@@ -63,6 +63,14 @@ unfolding sample number
 without_minus [] e = refl
 without_minus (b ∷ bs) e = plain-sample (b ∷ bs) (omega arith) (λ m. false≢true (sym e ∙ rw (eq-eqb b 45 m)))
 
+-- nothing is read from an empty field
+pub no_number : (most : ℕ) → number most [] ≡ None
+no_number most = number_empty most [] refl
+
+pub no_sample : sample [] ≡ None
+unfolding sample
+no_sample = refl
+
 -- where nothing is read from an empty field, a field that something was read from is not empty
 pub field-long : {A : Type 0} (how : List ℕ → Option A) → how [] ≡ None → (f : List ℕ) (x : A) → Some x ≡ how f → 0 < length f
 field-long how z [] x e = absurd (none-some x (sym (e ∙ z)))
