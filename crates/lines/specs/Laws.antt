@@ -343,7 +343,6 @@ pub took-alone : {t t' : Tuner} {k : ℕ} {xs ys : List ℤ} (first second third
 took-alone {t} {t'} {k} {xs} {ys} first second third {store} {store'} {a} e f g p =
     subst (λ (os : List (List ℤ)). Took t k xs (alone (replicate longest_block (pos 0))) store t' a os store') (λ i. outputs ys (no-places first e i) (no-places second f i) (no-places third g i)) p
 
-
 -- a refusal's number is not 0
 pub no_refusal : (e : Refusal) → refusal_number e ≡ 0 → ⊥
 no_refusal e z = absurd (omega (arith, some_number e))

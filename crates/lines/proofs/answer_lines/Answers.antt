@@ -1,4 +1,5 @@
-use Rattle.std.proofs.Common.{arith}
+-- `lines::answer_lines` meets its contract: each line's answer is put after those before it.
+use Rattle.std.proofs.Common.{◌<◌, length, arith}
 use Rattle.lines.specs.Batch.{none-answered, length_so_far, batch_more, no_room_left, no_line_left}
 use Rattle.lines.proofs.answer_lines.Goals as goal
 
@@ -6,4 +7,8 @@ pub loop-at-init : goal.loop-at-init
 loop-at-init c = (omega arith, none-answered)
 
 pub loop-at-preserved : goal.loop-at-preserved
-loop-at-preserved c = ?
+loop-at-preserved c =
+    let b = c.loop-at.invariant.1 in
+    let f = c.first-end.ensures in
+    let l : c.first-end.result < length c.args.input.now = omega (arith, f.within) in
+    (omega arith, batch_more b f l c.if-out-length-lt-ANSWER_ROOM.false c.answer_line-reply.ensures.answered c.answer_line-reply.auto.out)

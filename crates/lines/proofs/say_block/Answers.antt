@@ -1,5 +1,5 @@
 -- `lines::say_block` meets its contract: each part is put after those before it.
-use Rattle.std.proofs.Common.{ℕ, ◌∷◌, take, subst, arith}
+use Rattle.std.proofs.Common.{ℕ, ◌∷◌, take, length-take-le, subst, arith}
 use Rattle.text.specs.Text.{decimal, sample_fields, Put}
 use Rattle.text.specs.Places.{put_then, put-end}
 use Rattle.lines.proofs.say_block.Goals as goal
@@ -15,4 +15,4 @@ returns c =
     let d₃ = put_then d₂ p₃ (omega (arith, d₂.next)) in
     let d₄ = put_then d₃ p₄ (omega (arith, d₃.next)) in
     let d₅ = put_then d₄ p₅ (omega (arith, d₄.next)) in
-    put-end 10 d₅ (omega (arith, d₅.next, c.put_samples-at.ensures.within, c.requires.0, c.requires.1, c.requires.2, c.from-4.ensures, c.put-at.auto.out, c.put_field-at.auto.out, c.put_field-at-2.auto.out, c.put_field-at-3.auto.out, c.put_samples-at.auto.out))
+    put-end 10 d₅ (omega (arith, d₅.next, c.put_samples-at.ensures.within, c.requires.0, c.requires.1, c.requires.2, length-take-le c.from-4.result c.args.ys.now (omega (arith, c.requires.1, c.requires.2, c.from-4.ensures)), c.from-4.ensures, c.put-at.auto.out, c.put_field-at.auto.out, c.put_field-at-2.auto.out, c.put_field-at-3.auto.out, c.put_samples-at.auto.out))
