@@ -6,7 +6,7 @@
 ghost use Rattle.std.specs.Prelude.{◌≡◌, ℕ, ◌+◌, ◌-◌, ◌≤◌, ◌<◌, pos, length};
 ghost use Rattle.whole.specs.Tests.{Decides};
 ghost use Rattle.rules.specs.Rules.{settings_number, start_number, defaults, longest_block, kept_samples};
-ghost use Rattle.rules.specs.Facts.{ToneIn, value_at};
+ghost use Rattle.rules.specs.Facts.{ToneIn, LagsIn, value_at};
 ghost use Rattle.ages.specs.Ages.{Samples};
 ghost use Rattle.refusals.specs.Refusals.{number_of};
 ghost use Rattle.pitch.specs.Pitches.{PitchRight};
@@ -55,6 +55,7 @@ pub struct Last {
 
 // ---- fresh
 
+#[tactic(auto, unfolding(rules::specs::Rules::defaults))]
 pub fn default_settings() -> Settings
     ensures { result ≡ defaults }
 {
@@ -68,6 +69,7 @@ pub fn default_settings() -> Settings
     }
 }
 
+#[tactic(auto, unfolding(crate::specs::Records::fresh_heard))]
 pub fn fresh_heard() -> Heard
     ensures { result ≡ fresh_heard }
 {
@@ -80,6 +82,7 @@ pub fn fresh_heard() -> Heard
     }
 }
 
+#[tactic(auto, unfolding(crate::specs::Records::fresh_pitch))]
 pub fn fresh_pitch() -> Pitch
     ensures { result ≡ fresh_pitch }
 {
@@ -90,12 +93,14 @@ pub fn fresh_pitch() -> Pitch
     }
 }
 
+#[tactic(auto, unfolding(crate::specs::Records::fresh_head))]
 pub fn fresh_head() -> Head
     ensures { result ≡ fresh_head }
 {
     Head { behind: 0 }
 }
 
+#[tactic(auto, unfolding(crate::specs::Records::no_last))]
 pub fn no_last() -> Last
     ensures { result ≡ no_last }
 {
@@ -111,6 +116,7 @@ pub fn no_last() -> Last
 // ---- tested
 
 // Whether settings are in range: the first bad one is named.
+#[tactic(auto, unfolding(rules::specs::Rules::settings_number))]
 pub fn check_settings(s: Settings) -> Result<(), Refusal>
     ensures { number_of result ≡ settings_number s }
 {
@@ -136,6 +142,7 @@ pub fn check_settings(s: Settings) -> Result<(), Refusal>
 }
 
 // Whether a start may be made: an unknown sample rate is named before the settings.
+#[tactic(auto, using(rules::proofs::Ranges::known, rules::proofs::Ranges::unknown), unfolding(rules::specs::Rules::start_number))]
 pub fn check_start(hertz: u32, s: Settings) -> Result<(), Refusal>
     ensures { number_of result ≡ start_number hertz s }
 {
@@ -192,14 +199,19 @@ fn tone_right(t: Tone) -> bool
         && (rules::LEAST_RATE..=rules::GREATEST_RATE).contains(&t.rate)
 }
 
-// The eight lags while tracking.
+// Eight lags, and the last best among them.
+fn lags_right(low: u32, last: u32) -> bool
+    ensures { Decides result (LagsIn low last) }
+{
+    (rules::LOWEST_LAG..=rules::HIGHEST_LOW).contains(&low) && (low..=low + 7).contains(&last)
+}
+
+// The eight lags while tracking, and their sums.
 fn tracker_right(t: Tracker, store: &[i16; KEPT_SAMPLES]) -> bool
     requires { Samples store.now }
     ensures { Decides result (TrackerRight (sound_of store.now) t) }
 {
-    (rules::LOWEST_LAG..=rules::HIGHEST_LOW).contains(&t.low)
-        && (t.low..=t.low + 7).contains(&t.last)
-        && sums::all_right(&t.e, &t.h, t.low as usize, store, KEPT_SAMPLES)
+    lags_right(t.low, t.last) && sums::all_right(&t.e, &t.h, t.low as usize, store, KEPT_SAMPLES)
 }
 
 // The pitch: searching without a period, or tracking the eight lags.

@@ -2,13 +2,13 @@
 
 #![tactic(auto)]
 
-ghost use Rattle.std.specs.Prelude.{◌≡◌, ◌≤◌, ◌<◌, pos, length, get_or};
+ghost use Rattle.std.specs.Prelude.{◌≡◌, ℕ, ◌≤◌, ◌<◌, pos, length, get_or};
 ghost use Rattle.whole.specs.Tests.{Decides};
 ghost use Rattle.rules.specs.Rules.{longest_block, kept_samples};
 ghost use Rattle.rules.specs.Facts.{SampleRate};
 ghost use Rattle.refusals.specs.Refusals.{number_of};
 ghost use Rattle.voices.specs.Singing.{TrackedAll};
-ghost use Rattle.singers.specs.Singers.{VoiceIn, VoicesIn, outs, room_with, least_room, written_by, all_written, kept_interval, all_in_range, intervals_number, level_voice, chosen_voices, level_voices};
+ghost use Rattle.singers.specs.Singers.{VoiceIn, VoicesIn, outs, room_with, least_room, written_by, all_written, kept_interval, intervals_number, level_voice, chosen_voices, level_voices};
 ghost use Rattle.singers.specs.Voicing.{SangBy, AllSang};
 
 use refusals::Refusal;
@@ -60,6 +60,7 @@ pub fn voices_right(vs: Voices) -> bool
 }
 
 // The lesser of this room and that of a voice's output, where the voice is chosen.
+#[tactic(auto, unfolding(crate::specs::Singers::room_with))]
 fn room_with(j: u64, chosen: u64, places: usize, room: usize) -> usize
     ensures { result ≡ room_with j chosen places room }
 {
@@ -128,6 +129,7 @@ pub fn all_sung(
 }
 
 // The output that a chosen voice keeps is written.
+#[tactic(auto, unfolding(crate::specs::Singers::written_by))]
 fn give(j: u64, chosen: u64, v: Voice, n: usize, out: &mut [i16])
     requires { (n ≤ longest_block) × (j < chosen → n ≤ length out.old) }
     ensures { out.new ≡ written_by j chosen n v out.old }
@@ -148,6 +150,7 @@ pub fn give_all(vs: Voices, n: usize, first: &mut [i16], second: &mut [i16], thi
 }
 
 // An interval in semitones as it is kept.
+#[tactic(auto, unfolding(crate::specs::Singers::kept_interval))]
 pub fn kept_interval(z: i32) -> u32
     ensures { result ≡ kept_interval z }
 {
@@ -159,7 +162,7 @@ pub fn kept_interval(z: i32) -> u32
 }
 
 fn all_in_range(intervals: &[i32]) -> bool
-    ensures { result ≡ all_in_range intervals.now }
+    ensures { Decides result ((i : ℕ) → i < length intervals.now → kept_interval (get_or intervals.now i (pos 0)) ≤ 24) }
 {
     intervals.iter().all(|z| kept_interval(*z) <= WIDEST)
 }
@@ -178,6 +181,7 @@ pub fn check_intervals(intervals: &[i32]) -> Result<(), Refusal>
 }
 
 // A voice level with the input, that kept no output.
+#[tactic(auto, unfolding(crate::specs::Singers::level_voice))]
 fn level_voice(interval: u32) -> Voice
     ensures { result ≡ level_voice interval }
 {
@@ -198,6 +202,7 @@ fn chosen_voice(intervals: &[i32], j: usize) -> Voice
     }
 }
 
+#[tactic(auto, unfolding(crate::specs::Singers::chosen_voices))]
 pub fn chosen_voices(intervals: &[i32]) -> Voices
     ensures { result ≡ chosen_voices intervals.now }
 {
@@ -210,6 +215,7 @@ pub fn chosen_voices(intervals: &[i32]) -> Voices
 }
 
 // The same voices, each level.
+#[tactic(auto, unfolding(crate::specs::Singers::level_voices))]
 pub fn level_voices(vs: Voices) -> Voices
     ensures { result ≡ level_voices vs }
 {

@@ -2,7 +2,7 @@
 
 #![tactic(auto)]
 
-ghost use Rattle.std.specs.Prelude.{◌≡◌, List, ◌+◌, ◌≤◌, ◌<◌, ℤ, pos, length, get_or, take, IfOk};
+ghost use Rattle.std.specs.Prelude.{◌≡◌, cond, eqb, List, ◌+◌, ◌≤◌, ◌<◌, ℤ, pos, length, get_or, take, IfOk};
 ghost use Rattle.whole.specs.Tests.{Decides};
 ghost use Rattle.refusals.specs.Refusals.{number_of};
 ghost use Rattle.rules.specs.Rules.{farthest, take_limit, longest_block, kept_samples};
@@ -200,16 +200,16 @@ impl Numbers {
         ensures { result ≡ answer_by (judged_number verdict) self.now.last.length self.now }
     {
         let plain = self.plain(answers::number(verdict));
-        if verdict.is_err() {
-            return plain;
-        }
-        Answer {
-            written: self.last.length,
-            repeated: self.last.repeated,
-            dropped: self.last.dropped,
-            pitched: self.last.pitched,
-            strayed: self.last.strayed,
-            ..plain
+        match verdict {
+            Ok(_) => Answer {
+                written: self.last.length,
+                repeated: self.last.repeated,
+                dropped: self.last.dropped,
+                pitched: self.last.pitched,
+                strayed: self.last.strayed,
+                ..plain
+            },
+            Err(_) => plain,
         }
     }
 }
@@ -538,6 +538,24 @@ impl Tuner {
         n.answer(verdict)
     }
 
+    // A block is taken where that is the verdict; any other verdict leaves record and store as they were.
+    fn take_by(
+        &mut self,
+        verdict: Result<Turn, Refusal>,
+        number: u16,
+        samples: &[i16],
+        store: &mut [u32],
+    )
+        requires good { Good self.old }
+        requires fits { judged_number verdict ≡ 0 → (0 < length samples.now) × (length samples.now ≤ longest_block) × (self.old.numbers.count + length samples.now ≤ take_limit) }
+        ensures tuner { self.new ≡ cond (eqb (judged_number verdict) 0) (after_block self.old number samples.now store.old) self.old }
+        ensures rows { store.new ≡ cond (eqb (judged_number verdict) 0) (list_after self.old samples.now store.old).store store.old }
+    {
+        if let Ok(Turn::Taken) = verdict {
+            self.take(number, samples, store);
+        }
+    }
+
     // Takes a block, gives the last one again or refuses, and writes the outputs.
     pub fn block(
         &mut self,
@@ -563,9 +581,7 @@ impl Tuner {
             third.len(),
         );
         let verdict = self.judge(number, samples, room);
-        if verdict == Ok(Turn::Taken) {
-            self.take(number, samples, store);
-        }
+        self.take_by(verdict, number, samples, store);
         self.answer(verdict, out, first, second, third)
     }
 }
@@ -592,6 +608,7 @@ fn chosen_voice(intervals: &[i32], j: usize) -> Voice
     }
 }
 
+#[tactic(auto, unfolding(crate::specs::Tuners::chosen_voices))]
 fn chosen_voices(intervals: &[i32]) -> [Voice; 3]
     ensures { result ≡ chosen_voices intervals.now }
 {
@@ -635,6 +652,7 @@ fn check_begin(
 
 impl Numbers {
     // Of a take that has not begun.
+    #[tactic(auto, unfolding(crate::specs::Tuners::fresh_numbers))]
     fn fresh(hertz: u64, s: Settings, listed: u32, chosen: u32, voices: [Voice; 3]) -> Numbers
         ensures { result ≡ fresh_numbers hertz s listed chosen voices }
     {
@@ -674,14 +692,6 @@ impl Numbers {
         Numbers::fresh(self.hertz, self.settings, self.listed, self.chosen, voices)
     }
 
-    // The default tuner's.
-    fn default() -> Numbers
-        ensures { silent_tuner result ≡ default_tuner }
-    {
-        let voices = [level(UNISON), level(UNISON), level(UNISON)];
-        Numbers::fresh(u64::from(CD_RATE), record::default_settings(), 0, 0, voices)
-    }
-
     // A fresh tuner's.
     fn begun(hertz: u32, s: Settings, listed: u32, intervals: &[i32]) -> Numbers
         requires { length intervals.now ≤ 3 }
@@ -695,11 +705,19 @@ impl Numbers {
             chosen_voices(intervals),
         )
     }
+
+    // The default tuner's.
+    fn default() -> Numbers
+        ensures { silent_tuner result ≡ default_tuner }
+    {
+        Numbers::begun(CD_RATE, record::default_settings(), 0, &[])
+    }
 }
 
 impl Default for Tuner {
     ghost is_default = { λ t. t ≡ default_tuner };
 
+    #[tactic(auto, unfolding(crate::specs::Tuners::silent_tuner))]
     fn default() -> Tuner {
         Tuner {
             numbers: Numbers::default(),
@@ -714,6 +732,7 @@ impl Default for Tuner {
 
 impl Tuner {
     // These numbers, and silence.
+    #[tactic(auto, unfolding(crate::specs::Tuners::silent_tuner))]
     fn silence(&mut self, n: Numbers)
         ensures { self.new ≡ silent_tuner n }
     {

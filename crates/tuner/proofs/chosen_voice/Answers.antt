@@ -1,0 +1,9 @@
+-- `tuner::chosen_voice` meets its contract: an interval past the last is none.
+use mathlib.Core.Path.{sym, ap, ◌∙◌}
+use native.Mathlib.Omega.{arith}
+use Rattle.singers.specs.Voicing.{interval-none}
+use Rattle.tuner.specs.Tuners.{level_voice}
+use Rattle.tuner.proofs.chosen_voice.Goals as goal
+
+pub returns-in-None : goal.returns-in-None
+returns-in-None c = let a = c.args in c.level-in-None.ensures ∙ ap level_voice (sym (interval-none a.intervals.now a.j (grind arith)))
