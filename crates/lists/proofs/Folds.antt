@@ -7,7 +7,7 @@ use Rattle.rules.specs.Rules.{no_note}
 use Rattle.lists.specs.declared.Listing.{Listing}
 use Rattle.lists.specs.Lists.{room, no_place, empty_listing, Sheet, sheet, begins, begun, listing_after, store_after, after_note, after_notes, last_note, PlaceIn, listed, left_out, ListingIn}
 use Rattle.lists.proofs.Stores.{store_after-length, store_after-twice}
-use Rattle.lists.specs.Folds.{Level, after_stretch}
+use Rattle.lists.specs.Folds.{Four, Level, after_stretch}
 
 -- ---- in two calls as in one
 pub last_note-append : (last : ℕ) (xs ys : List ℕ) → last_note last (xs ++ ys) ≡ last_note (last_note last xs) ys
@@ -73,6 +73,16 @@ module _ (notes : List ℕ) (n from : ℕ) (h : n ≤ length notes) where
 
   pub level-more : (to : ℕ) → Level notes n from to → to < n → get_or notes to 0 ≡ get_or notes from 0 → Level notes n from (to + 1)
   level-more to v l e = longer-level to (omega (arith, v.forth)) l e v.level
+
+  pub level-four : (to : ℕ) → Level notes n from to → to + 4 ≤ n → Four notes to (get_or notes from 0) → Level notes n from (to + 4)
+  level-four to v l q =
+      let two : to + 1 + 1 ≡ to + 2 = omega arith in
+      let three : to + 2 + 1 ≡ to + 3 = omega arith in
+      let four : to + 3 + 1 ≡ to + 4 = omega arith in
+      let a = level-more to v (omega arith) q.first in
+      let b = level-more (to + 1) a (omega arith) q.second in
+      let c = level-more (to + 2) (rw two at b) (omega arith) q.third in
+      rw four at (level-more (to + 3) (rw three at c) (omega arith) q.fourth)
 
 module _ {notes : List ℕ} {n from to : ℕ} (v : Level notes n from to) (h : n ≤ length notes) where
   abbrev level-note : ℕ

@@ -5,8 +5,8 @@ use Rattle.std.proofs.Common.{◌∙◌, ltb-true, length-take-le}
 use mathlib.Core.List.{List, [], ◌∷◌, ◌++◌, append_assoc}
 use Prim.Native.Nat.{ℕ, suc, ◌+◌, ◌-◌, ◌*◌, ◌≤◌, ◌<◌}
 use native.Mathlib.Omega.{arith}
-use Rattle.std.proofs.Math.ListN.{length, take, drop, length-append, length-drop, length-take}
-use Rattle.std.proofs.Math.Seq.{take_at, drop_at, drop-drop, take_all}
+use Rattle.std.proofs.Math.ListN.{length, take, drop, set, length-append, length-drop, length-take}
+use Rattle.std.proofs.Math.Seq.{take_at, drop_at, drop-drop, take_all, sets-eq}
 use Rattle.std.proofs.lemmas.List.{take-append-le}
 use Rattle.whole.specs.Tests.{by, cond_case, and_right}
 use Rattle.rules.specs.Rules.{no_note}
@@ -62,6 +62,16 @@ module _ (s : List ℕ) (place : ℕ) (fits : 3 * place + 3 ≤ length s) where
       ∙ three (3 * m - (3 * place + 3)) r.note r.first r.length (drop (3 * place + 3) s)
       ∙ drop-drop (3 * m - (3 * place + 3)) (3 * place + 3) s
       ∙ ap (λ (n : ℕ). drop n s) f
+
+  -- number by number
+  pub put_is : (n f k : ℕ) → set (set (set s (3 * place) n) (3 * place + 1) f) (3 * place + 2) k ≡ put s place (row n f k)
+  unfolding put
+  put_is n f k =
+      let one : 3 * place + 1 ≡ suc (3 * place) = omega arith in
+      let two : 3 * place + 2 ≡ suc (suc (3 * place)) = omega arith in
+      (λ i. set (set (set s (3 * place) n) (one i) f) (two i) k)
+      ∙ sets-eq (n ∷ f ∷ k ∷ []) s (3 * place) fits
+      ∙ append_assoc (take (3 * place) s) (n ∷ f ∷ k ∷ []) (drop (3 * place + 3) s)
 
 -- behind the numbers of as many rows
 pub put-behind : (rs : List Row) (q : Row) (t : List ℕ) → put (numbers rs ++ t) (length rs) q ≡ numbers (rs ++ q ∷ []) ++ drop 3 t

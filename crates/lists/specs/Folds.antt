@@ -1,5 +1,5 @@
 -- Laws of what notes make of a listing and its store: in two calls as in one, a stretch of equal notes at once, and a listing that may be kept is left so.
-use Rattle.std.specs.Prelude.{◌≡◌, List, ◌++◌, ℕ, ◌-◌, ◌≤◌, ◌<◌, length, get_or, take, replicate}
+use Rattle.std.specs.Prelude.{◌≡◌, List, ◌++◌, ℕ, ◌+◌, ◌-◌, ◌≤◌, ◌<◌, length, get_or, take, replicate}
 use Rattle.lists.specs.Lists.{room, Sheet, sheet, listing_after, store_after}
 
 -- what a stretch of notes leaves that ends before sample `to`
@@ -13,3 +13,10 @@ pub record Level (notes : List ℕ) (n from to : ℕ) : Type 0 where
   pub forth : from < to
   pub within : to ≤ n
   pub level : take to notes ≡ take from notes ++ replicate (to - from) (get_or notes from 0)
+
+-- four samples with a note
+pub record Four (notes : List ℕ) (at note : ℕ) : Type 0 where
+  pub first : get_or notes at 0 ≡ note
+  pub second : get_or notes (at + 1) 0 ≡ note
+  pub third : get_or notes (at + 2) 0 ≡ note
+  pub fourth : get_or notes (at + 3) 0 ≡ note

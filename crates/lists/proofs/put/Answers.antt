@@ -1,14 +1,18 @@
--- A row is three numbers, in the place of the three that were there.
-use Prim.Native.Nat.{◌+◌, ◌*◌}
-use mathlib.Core.List.{◌++◌}
+-- `lists::put` meets its contract: three numbers are stored one after the other.
 use native.Mathlib.Omega.{arith}
-use lib.ListN.{take}
-use borrow.Rule.Slice.PartMut.{Post-is}
-use Rattle.lists.specs.Lists.{put}
+use Prim.Native.Nat.{◌+◌, ◌*◌}
+use lib.ListN.{set, length-set}
+use Rattle.lists.proofs.Stores.{put_is}
 use Rattle.lists.proofs.put.Goals as goal
 
+pub bounds-store-at-2 : goal.bounds-store-at-2
+bounds-store-at-2 c = let a = c.args in omega (arith, length-set a.store.now (3 * a.place) a.note)
+
+pub bounds-store-at-3 : goal.bounds-store-at-3
+bounds-store-at-3 c =
+    let a = c.args in
+    let s = set a.store.now (3 * a.place) a.note in
+    omega (arith, length-set a.store.now (3 * a.place) a.note, length-set s (3 * a.place + 1) a.first)
+
 pub returns : goal.returns
-unfolding put
-returns c =
-    let at = 3 * c.args.place in
-    λ i. take at c.args.store.now ++ (c.copy_from_slice.ensures.after i ++ Post-is at (at + 3) c.args.store.now (omega arith) i)
+returns c = let a = c.args in put_is a.store.now a.place (omega arith) a.note a.first a.count
