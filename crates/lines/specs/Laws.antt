@@ -1,5 +1,5 @@
 -- Laws of reading a line field by field.
-use Rattle.std.specs.Prelude.{◌≡◌, Bool, true, false, cond, ◌&&◌, nat_eq, Result, Ok, Err, is_ok, List, [], ◌∷◌, ◌++◌, ℕ, ◌+◌, ◌*◌, ◌≤◌, ◌<◌, eqb, leb, ℤ, pos, length, take, set, replicate, Option, Some, None, option_map, option_and_then}
+use Rattle.std.specs.Prelude.{◌≡◌, Bool, false, cond, ◌&&◌, nat_eq, Result, Ok, Err, is_ok, List, [], ◌∷◌, ◌++◌, ℕ, ◌+◌, ◌*◌, ◌≤◌, ◌<◌, eqb, leb, ℤ, pos, length, take, set, replicate, Option, Some, None, option_map, option_and_then}
 use Rattle.std.proofs.Common.{refl, sym, ap, ◌∙◌, subst, arith, add-one, ne_eqb, leb-true, length-set, append_assoc, append-nil}
 use Rattle.std.proofs.Math.Seq.{take-suc-set}
 use Rattle.std.proofs.lemmas.Bool.{lt-leb, le-leb}
@@ -9,14 +9,14 @@ use Rattle.refusals.specs.declared.Refusal.{Refusal}
 use Rattle.refusals.specs.declared.Refusal.TheVariants.{BlockEmpty, BlockOver512, OutputShort, NumberNeither, OtherSamples, TakeFull, ScaleOutOfRange, RecordOutOfRange, LineUnreadable, EpsOutOfRange, DecayOutOfRange, FloorOutOfRange, ChannelOutOfRange, ModeUnknown, RateUnknown, StoreWithoutRoom, IntervalOutOfRange, TooManyVoices, NotRiffWave, NoFmt, FmtWrong, NoData, RunsPast, NoRoom, NoGoodFmt, NoDataReached, TooManyTakes, FileTooLong, NoMidiFile, FormatUnknown, DivisionWrong, EndsEarly, WithinAnEvent, QuantityTooLong, NoRunningStatus, StatusWithin, UnknownStatus, TempoWrong, TrackTooLong}
 use Rattle.refusals.specs.Refusals.{refusal_number, number_of}
 use Rattle.rules.specs.declared.Settings.{Settings}
-use Rattle.rules.specs.Rules.{scale_mode, cd_rate, longest_block}
+use Rattle.rules.specs.Rules.{scale_mode, longest_block}
 use Rattle.tuner.specs.declared.Tuner.{Tuner}
 use Rattle.tuner.specs.declared.Numbers.{Numbers}
 use Rattle.tuner.specs.declared.Answer.{Answer}
 use Rattle.tuner.specs.Tuners.{plain, counted, answer_by, Took}
 use Rattle.tuner.specs.Following.{four as outputs}
 use Rattle.tuner.proofs.Verdicts.{verdict-fits}
-use Rattle.text.specs.Text.{fields, number, sample}
+use Rattle.text.specs.Text.{fields, number}
 use Rattle.text.specs.Fields.{room_of}
 use Rattle.text.specs.Reading.{field-long}
 use Rattle.lines.specs.Lines.{Line, start, change, block, reset, mode, channel, midi, unreadable, each, four, one, start_of, change_of, settings_in, line_of, start_in, change_in, block_in, reset_in, mode_in, channel_in, midi_in, record_in, read, Desk, desk, numbered, begins, alone, TookAlone, Answered, answered, same, start_word, change_word, block_word, reset_word, mode_word, channel_word, midi_word}

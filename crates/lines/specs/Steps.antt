@@ -1,5 +1,5 @@
 -- What the parts of the reading and the answering promise.
-use Rattle.std.specs.Prelude.{◌≡◌, Bool, cond, List, [], ◌∷◌, ℕ, ℤ, Option, Some, None, option_map, option_and_then, option_copied}
+use Rattle.std.specs.Prelude.{◌≡◌, Bool, List, [], ◌∷◌, ℕ, Option, Some, None, option_map, option_and_then, option_copied}
 use Rattle.std.proofs.Common.{Bor, sym, ap, subst, ◌∙◌}
 use Rattle.tuner.specs.declared.Answer.{Answer}
 use Rattle.rules.specs.declared.Settings.{Settings}

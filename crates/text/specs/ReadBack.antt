@@ -7,10 +7,10 @@ use Rattle.std.proofs.Math.ListN.{get_or-append}
 use Rattle.std.proofs.lemmas.List.{get_or_at}
 use Rattle.std.specs.Int.{w16}
 use Rattle.whole.specs.Tests.{cond_case}
-use Rattle.text.specs.Text.{onto, fields, more_digits, number, sample, digits, places_within, decimal, signed, sample_fields}
+use Rattle.text.specs.Text.{onto, fields, more_digits, number, sample, digits, places, places_within, decimal, signed, sample_fields}
 use Rattle.text.specs.Fields.{NoTab, one_field, fields-some}
 use Rattle.text.specs.Reading.{one_digit, number_digits, plain-sample}
-use Rattle.text.specs.Spelling.{digits-length, decimal-length}
+use Rattle.text.specs.Spelling.{digits-length, decimal-length, places-is}
 
 -- ---- numbers
 
@@ -45,7 +45,7 @@ decimal-long n h = omega (arith, decimal-length n, (places-enough 4 n h).1)
 -- a printed number is read back as itself
 pub number-back : (most n : ℕ) → n < 100000 → n ≤ most → number most (decimal n) ≡ Some n
 unfolding decimal
-number-back most n h m = number_digits most (decimal n) (decimal-long n h) ∙ read-digits most (places_within 4 n) n (places-enough 4 n h).0 m
+number-back most n h m = number_digits most (decimal n) (decimal-long n h) ∙ read-digits most (places n) n (rw (places-is n) (places-enough 4 n h).0) m
 
 -- ---- samples
 
@@ -64,7 +64,7 @@ digits_only (suc k) n i h = by_place (dec_lt i k) (digits_only k (n / 10) i)
 
 pub decimal-digits : (n i : ℕ) → i < length (decimal n) → 48 ≤ get_or (decimal n) i 0
 unfolding decimal
-decimal-digits n i h = digits_only (places_within 4 n) n i (omega (arith, decimal-length n))
+decimal-digits n i h = digits_only (places n) n i (omega (arith, decimal-length n, places-is n))
 
 -- a printed sample is read back as itself
 pub sample-back : (x : ℤ) → SFits w16 x → sample (signed x) ≡ Some x

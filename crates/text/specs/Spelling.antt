@@ -8,7 +8,8 @@ use native.Mathlib.Omega.{arith}
 use Rattle.std.proofs.Math.ListN.{set}
 use Rattle.std.proofs.Math.Seq.{append_snoc}
 use Rattle.whole.specs.Tests.{cond_case, cond_yes, cond_no}
-use Rattle.text.specs.Text.{digits, places_within, decimal, long_decimal, signed, sample_fields, put, Put}
+use Rattle.std.proofs.lemmas.Bool.Decides.{nat_tests}
+use Rattle.text.specs.Text.{digits, places, places_within, decimal, long_decimal, signed, sample_fields, put, Put}
 use Rattle.text.specs.Places.{put-none, put-before, put_then}
 
 pub digits-length : (k n : ℕ) → length (digits k n) ≡ k
@@ -49,9 +50,14 @@ unfolding places_within
 places_few zero n = omega arith
 places_few (suc k) n = cond_case (ltb n 10) 1 (suc (places_within k (n / 10))) (λ (m : ℕ). m ≤ suc (suc k)) (λ e. omega arith) (λ e. omega (arith, places_few k (n / 10)))
 
+-- `places` counts so as well
+pub places-is : (n : ℕ) → places n ≡ places_within 4 n
+unfolding places places_within
+places-is n = grind (arith, nat_tests)
+
 pub decimal-length : (n : ℕ) → length (decimal n) ≡ places_within 4 n
 unfolding decimal
-decimal-length n = digits-length (places_within 4 n) n
+decimal-length n = digits-length (places n) n ∙ places-is n
 
 pub decimal-short : (n : ℕ) → length (decimal n) ≤ 5
 decimal-short n = omega (arith, decimal-length n, places_few 4 n)

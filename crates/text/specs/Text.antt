@@ -44,14 +44,18 @@ unfoldable pub digits : ℕ → ℕ → List ℕ
 digits zero n = []
 digits (suc k) n = digits k (n / 10) ++ ((48 + n % 10) ∷ [])
 
--- how many digits a number has, k + 1 at most
-unfoldable pub places_within : ℕ → ℕ → ℕ
-places_within zero n = 1
-places_within (suc k) n = cond (ltb n 10) 1 (suc (places_within k (n / 10)))
+-- how many digits a number below 100,000 has
+unfoldable pub places : ℕ → ℕ
+places n = cond (ltb n 10) 1 (cond (ltb n 100) 2 (cond (ltb n 1000) 3 (cond (ltb n 10000) 4 5)))
 
 -- a number below 100,000 in decimal
 unfoldable pub decimal : ℕ → List ℕ
-decimal n = digits (places_within 4 n) n
+decimal n = digits (places n) n
+
+-- how many digits a number has that has at most k + 1
+unfoldable pub places_within : ℕ → ℕ → ℕ
+places_within zero n = 1
+places_within (suc k) n = cond (ltb n 10) 1 (suc (places_within k (n / 10)))
 
 -- a number of at most 20 digits in decimal
 unfoldable pub long_decimal : ℕ → List ℕ

@@ -1,6 +1,6 @@
 -- `lines::answer_lines` meets its contract: each line's answer is put after those before it.
 use Rattle.std.proofs.Common.{◌<◌, length, arith}
-use Rattle.lines.specs.Batch.{none-answered, length_so_far, batch_more, no_room_left, no_line_left}
+use Rattle.lines.specs.Batch.{none-answered, batch_more}
 use Rattle.lines.proofs.answer_lines.Goals as goal
 
 pub loop-at-init : goal.loop-at-init

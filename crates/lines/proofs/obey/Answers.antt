@@ -1,5 +1,5 @@
 -- `lines::obey` meets its contract: each call's own promise, and the number that it answers.
-use Rattle.std.proofs.Common.{refl, sym, ap, ◌∙◌}
+use Rattle.std.proofs.Common.{refl, ap, ◌∙◌}
 use Rattle.lines.specs.Lines.{begins, changed, begun-again, mode-changed, channel-changed, keyed}
 use Rattle.lines.specs.Steps.{asked, replied_as, replied_number}
 use Rattle.lines.specs.Laws.{taken_number}

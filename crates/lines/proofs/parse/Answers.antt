@@ -1,5 +1,5 @@
 -- `lines::parse` meets its contract: the words are tested in the order of the rule.
-use Rattle.std.proofs.Common.{◌≡◌, true, false, nat_eq, length, arith, refl, sym, ap, ◌∙◌}
+use Rattle.std.proofs.Common.{◌≡◌, true, false, nat_eq, length, arith, sym, ap, ◌∙◌}
 use Rattle.std.specs.Cmp.Lexicographic.{pointwise}
 use Rattle.text.specs.Fields.{left, room_of, room-of-line, room_of_others, fields-some}
 use Rattle.lines.specs.Lines.{start_word, change_word, block_word, reset_word, mode_word, channel_word, midi_word}

@@ -1,5 +1,5 @@
 -- `lines::start` meets its contract: the call's own promise, and the number that it answers.
-use Rattle.std.proofs.Common.{refl, sym, ap, ◌∙◌}
+use Rattle.std.proofs.Common.{refl}
 use Rattle.lines.specs.Lines.{begins, begun, not_begun}
 use Rattle.lines.specs.Steps.{replied_number}
 use Rattle.lines.specs.Laws.{no_refusal, refused_number}

@@ -1,5 +1,5 @@
 -- `lines::values` meets its contract: each field takes two bytes at least, so that there is a place for its value.
-use Rattle.std.proofs.Common.{◌≡◌, ◌∷◌, arith, sym, ap, subst, ◌∙◌, List, ℕ}
+use Rattle.std.proofs.Common.{arith, sym, ap, subst, ◌∙◌}
 use Rattle.text.specs.Fields.{left}
 use Rattle.text.specs.declared.Fields.{Fields}
 use Rattle.lines.specs.Laws.{Reading, none_read, place-left, one_unread, next-read, all_read}

@@ -1,5 +1,4 @@
 -- The values read so far stand in front of those still to come.
-use Rattle.std.proofs.Common.{length}
 use Rattle.text.specs.Fields.{left}
 use Rattle.lines.specs.Laws.{Reading}
 use Rattle.lines.proofs.values.Given as goal
