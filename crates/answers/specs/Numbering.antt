@@ -1,11 +1,21 @@
 -- The number that answers a block whose record is good and that fits, over the record's numbers. Definitions only.
-use Rattle.std.specs.Prelude.{◌≡◌, ℕ, ◌+◌, ◌-◌, ◌%◌, ◌<◌, ◌≤◌, cond, List, length, drop, ℤ, ◌==◌, ◌≢◌}
+use Rattle.std.specs.Prelude.{◌≡◌, ℕ, ◌+◌, ◌-◌, ◌%◌, ◌<◌, ◌≤◌, cond, List, length, drop, ℤ, ◌==◌, ◌≢◌, Result, Ok, Err}
 use Rattle.rules.specs.Rules.{take_limit, kept_samples}
+use Rattle.refusals.specs.declared.Refusal.{Refusal}
+use Rattle.refusals.specs.Refusals.{refusal_number}
 use Rattle.answers.specs.declared.Answer.{Answer}
+use Rattle.answers.specs.declared.Turn.{Turn}
+use Rattle.answers.specs.declared.Turn.TheVariants.{Taken, GivenAgain}
 
 -- an answer with this number and counts 0
 abbrev pub plain : ℕ → Answer
 plain v = record { number = v; written = 0; repeated = 0; dropped = 0 }
+
+-- 0 where a block is taken, 1 where it is given again, and else the number of its refusal
+abbrev pub judged_number : Result Turn Refusal → ℕ
+judged_number (Ok Taken) = 0
+judged_number (Ok GivenAgain) = 1
+judged_number (Err r) = refusal_number r
 
 -- there is a last block, of so many samples, and it has this number
 abbrev pub HasNumber : ℕ → ℕ → ℕ → Type 0

@@ -1,299 +1,288 @@
 -- Laws of reading a line field by field.
-use Rattle.std.specs.Prelude.{◌≡◌, Bool, cond, ℕ, ◌+◌, ◌-◌, ◌*◌, ◌≤◌, ◌<◌, eqb, leb, ℤ, pos, length, take, drop, set, replicate}
-use Rattle.std.proofs.Math.Path.{refl, sym, ap}
-use Rattle.std.proofs.Common.{◌∙◌, subst, arith, add-one, eqb-true, eq-eqb, ne_eqb, le-leb, leb-true, length-set, length-drop, take-suc-set, length-take-le}
-use Rattle.std.proofs.Math.Bool.{true, false}
-use mathlib.Core.List.{List, [], ◌∷◌, ◌++◌, append_assoc, append-nil}
-use Rattle.std.proofs.Math.Option.{Option, none, some, map, bind}
-use Rattle.std.proofs.lemmas.Bool.{lt-leb}
-use Rattle.whole.specs.Tests.{Decides, cond_case, cond_yes, cond_no, yes_and_no, and_left, and_right, by}
+use Rattle.std.specs.Prelude.{◌≡◌, Bool, true, false, cond, ◌&&◌, nat_eq, Result, Ok, Err, is_ok, List, [], ◌∷◌, ◌++◌, ℕ, ◌+◌, ◌*◌, ◌≤◌, ◌<◌, eqb, leb, ℤ, pos, length, take, set, replicate, Option, Some, None, option_map, option_and_then}
+use Rattle.std.proofs.Common.{refl, sym, ap, ◌∙◌, subst, arith, add-one, ne_eqb, leb-true, length-set, append_assoc, append-nil}
+use Rattle.std.proofs.Math.Seq.{take-suc-set}
+use Rattle.std.proofs.lemmas.Bool.{lt-leb, le-leb}
+use Rattle.whole.specs.Tests.{cond_case}
+use Rattle.std.specs.Cmp.Lexicographic.{pointwise}
+use Rattle.refusals.specs.declared.Refusal.{Refusal}
+use Rattle.refusals.specs.declared.Refusal.TheVariants.{BlockEmpty, BlockOver512, OutputShort, NumberNeither, OtherSamples, TakeFull, ScaleOutOfRange, RecordOutOfRange, LineUnreadable, EpsOutOfRange, DecayOutOfRange, FloorOutOfRange, ChannelOutOfRange, ModeUnknown, RateUnknown, StoreWithoutRoom, IntervalOutOfRange, TooManyVoices, NotRiffWave, NoFmt, FmtWrong, NoData, RunsPast, NoRoom, NoGoodFmt, NoDataReached, TooManyTakes, FileTooLong, NoMidiFile, FormatUnknown, DivisionWrong, EndsEarly, WithinAnEvent, QuantityTooLong, NoRunningStatus, StatusWithin, UnknownStatus, TempoWrong, TrackTooLong}
+use Rattle.refusals.specs.Refusals.{refusal_number, number_of}
 use Rattle.rules.specs.declared.Settings.{Settings}
-use Rattle.rules.specs.Rules.{defaults, cd_rate, longest_block}
+use Rattle.rules.specs.Rules.{scale_mode, cd_rate, longest_block}
 use Rattle.tuner.specs.declared.Tuner.{Tuner}
 use Rattle.tuner.specs.declared.Numbers.{Numbers}
 use Rattle.tuner.specs.declared.Answer.{Answer}
-use Rattle.tuner.specs.Tuners.{fresh_tuner, default_tuner, plain, counted, answer_by, Took, Started}
+use Rattle.tuner.specs.Tuners.{plain, counted, answer_by, Took}
 use Rattle.tuner.specs.Following.{four as outputs}
 use Rattle.tuner.proofs.Verdicts.{verdict-fits}
 use Rattle.text.specs.Text.{fields, number, sample}
-use Rattle.text.specs.Places.{optional, First}
-use Rattle.text.specs.Fields.{later, later-end, later-some, later-field}
+use Rattle.text.specs.Fields.{room_of}
 use Rattle.text.specs.Reading.{field-long}
-use Rattle.lines.specs.declared.NumberField.{NumberField}
-use Rattle.lines.specs.declared.FourSettings.{FourSettings}
+use Rattle.lines.specs.Lines.{Line, start, change, block, reset, mode, channel, midi, unreadable, each, four, one, start_of, change_of, settings_in, line_of, start_in, change_in, block_in, reset_in, mode_in, channel_in, midi_in, record_in, read, Desk, desk, numbered, begins, alone, TookAlone, Answered, answered, same, start_word, change_word, block_word, reset_word, mode_word, channel_word, midi_word}
+use Rattle.lines.specs.Steps.{others, one_in, one_fields, four_in, four_others, start_after, start_fields, change_after, change_fields, reset_fields, block_fields, midi_fields, some_bytes, asked, said, Replied, replied_as}
 use Rattle.lines.specs.declared.Reply.{Reply}
-use Rattle.lines.specs.Lines.{Line, start, change, block, reset, mode, channel, midi, unreadable, each, four, one, start_of, change_of, settings_in, line_of, start_in, change_in, block_in, reset_in, mode_in, channel_in, midi_in, record_in, read, Desk, desk, numbered, begins, alone, TookAlone, Said, Answered, answered, same, start_word, change_word, block_word, reset_word, mode_word, channel_word, midi_word}
-use Rattle.lines.specs.Steps.{NumberIn, no_field, no_number, a-number, NumberRead, FieldRead, FieldsRead, FourRead, word_of, keyboard_word_of, keyboard_chosen, Replied}
-
--- ---- a field is read, or not
-pub number_in : {most : ℕ} {fs more : List (List ℕ)} {f : List ℕ} (ok : Bool) (v : ℕ) → fs ≡ f ∷ more → optional ok v ≡ number most f → NumberIn most fs ok v more
-number_in true v e n = a-number e (sym n)
-number_in false v e n = no_number e (sym n)
-
--- a field ends at the next tab or at the line's end
-pub field_at : {A : Type 0} (how : List ℕ → Option A) → how [] ≡ none → (line : List ℕ) (at to : ℕ) (ok : Bool) (x : A) → at < length line → First line (at + 1) 9 to →
-    optional ok x ≡ how (take (to - (at + 1)) (drop (at + 1) line)) → FieldRead how line at ok x to
-field_at how z line at to ok x h f e =
-    let part = take (to - (at + 1)) (drop (at + 1) line) in
-    let n = length-take-le (to - (at + 1)) (drop (at + 1) line) (omega (arith, f.within, length-drop (at + 1) line)) in
-    record {
-      within = f.within;
-      text = part;
-      field = later-field line at to h f;
-      read = e;
-      long = λ y. omega (arith, n, f.after, field-long how z part x (ap (λ (b : Bool). optional b x) (sym y) ∙ e));
-    }
-
--- before the end there is a field
-pub field-read : {most : ℕ} {line : List ℕ} {at : ℕ} {r : NumberField} → at < length line → NumberRead most line at r → FieldRead (number most) line at r.ok r.value r.to
-field-read {most} {line} {at} {r} h n = by_field n.long n.field
-  where
-    by_field : {ok : Bool} {v : ℕ} → (ok ≡ true → at + 2 ≤ r.to) → NumberIn most (later line at) ok v (later line r.to) → FieldRead (number most) line at ok v r.to
-    by_field l (no_field e) = absurd (omega (arith, ap length e, later-some line at h))
-    by_field l (no_number {f = f} e z) = record { within = n.within; text = f; field = e; read = sym z; long = l }
-    by_field l (a-number {f = f} e z) = record { within = n.within; text = f; field = e; read = sym z; long = l }
+use Rattle.lines.specs.declared.Request.{Request}
 
 -- ---- settings, one field after the other: g makes something of the numbers that are still to come
+
+-- two that answer alike at each value; and none at each value
+and_same : {A B : Type 0} {f g : A → Option B} (o : Option A) → ((x : A) → f x ≡ g x) → option_and_then f o ≡ option_and_then g o
+and_same None e = refl
+and_same (Some x) e = e x
+
+and_none : {A B : Type 0} {f : A → Option B} (o : Option A) → ((x : A) → f x ≡ None) → option_and_then f o ≡ None
+and_none None e = refl
+and_none (Some x) e = e x
+
 module _ {A : Type 0} (g : List ℕ → Option A) where
-  turned : (v : ℕ) (o : Option (List ℕ)) → bind (map (λ (ns : List ℕ). v ∷ ns) o) g ≡ bind o (λ (ns : List ℕ). g (v ∷ ns))
-  unfolding bind
-  turned v none = refl
-  turned v (some ns) = refl
+  turned : (v : ℕ) (o : Option (List ℕ)) → option_and_then g (option_map (λ (ns : List ℕ). v ∷ ns) o) ≡ option_and_then (λ (ns : List ℕ). g (v ∷ ns)) o
+  turned v None = refl
+  turned v (Some ns) = refl
 
-  pub setting-read : {fs more : List (List ℕ)} {ok : Bool} {v : ℕ} → ok ≡ true → NumberIn 4294967295 fs ok v more → settings_in g fs ≡ settings_in (λ (ns : List ℕ). g (v ∷ ns)) more
-  unfolding each bind
-  setting-read y (no_field e) = absurd (yes_and_no y refl)
-  setting-read y (no_number e n) = absurd (yes_and_no y refl)
-  setting-read {more = more} {v = v} y (a-number e n) = rw (e, n) (turned v (each (number 4294967295) more))
-
-  pub setting_missing : {fs more : List (List ℕ)} {ok : Bool} {v : ℕ} → g [] ≡ none → ok ≡ false → NumberIn 4294967295 fs ok v more → settings_in g fs ≡ none
-  unfolding each bind
-  setting_missing z y (no_field e) = rw e z
-  setting_missing z y (no_number e n) = rw (e, n)
-  setting_missing z y (a-number e n) = absurd (yes_and_no refl y)
+  setting_read : g [] ≡ None → (fs : List (List ℕ)) → settings_in g fs ≡ option_and_then (λ (v : ℕ). settings_in (λ (ns : List ℕ). g (v ∷ ns)) (others fs)) (one_in fs)
+  unfolding each
+  setting_read z [] = z
+  setting_read z (f ∷ fs) = by_field (number 4294967295 f)
+    where
+      by_field : (o : Option ℕ) → option_and_then g (option_and_then (λ (v : ℕ). option_map (λ (ns : List ℕ). v ∷ ns) (each (number 4294967295) fs)) o) ≡ option_and_then (λ (v : ℕ). settings_in (λ (ns : List ℕ). g (v ∷ ns)) fs) o
+      by_field None = refl
+      by_field (Some v) = turned v (each (number 4294967295) fs)
 
   -- a field too many
-  pub setting_extra : (fs : List (List ℕ)) → 0 < length fs → ((n : ℕ) (ns : List ℕ) → g (n ∷ ns) ≡ none) → settings_in g fs ≡ none
-  unfolding each bind
-  setting_extra [] h z = absurd (omega arith)
-  setting_extra (f ∷ fs) h z = by_first (number 4294967295 f) (each (number 4294967295) fs)
+  no_more : ((n : ℕ) (ns : List ℕ) → g (n ∷ ns) ≡ None) → (f : List ℕ) (fs : List (List ℕ)) → settings_in g (f ∷ fs) ≡ None
+  unfolding each
+  no_more z f fs = by_field (number 4294967295 f) (each (number 4294967295) fs)
     where
-      by_first : (o : Option ℕ) (p : Option (List ℕ)) → bind (bind o (λ (n : ℕ). map (λ (ns : List ℕ). n ∷ ns) p)) g ≡ none
-      by_first none p = refl
-      by_first (some n) none = refl
-      by_first (some n) (some ns) = z n ns
+      by_field : (o : Option ℕ) (p : Option (List ℕ)) → option_and_then g (option_and_then (λ (v : ℕ). option_map (λ (ns : List ℕ). v ∷ ns) p) o) ≡ None
+      by_field None p = refl
+      by_field (Some v) None = refl
+      by_field (Some v) (Some ns) = z v ns
+
+four_then : {A B : Type 0} (g : A → Option B) (make : ℕ → ℕ → ℕ → ℕ → A) (o p q r : Option ℕ)
+    → option_and_then (λ (a : ℕ). option_and_then (λ (b : ℕ). option_and_then (λ (c : ℕ). option_and_then (λ (d : ℕ). g (make a b c d)) r) q) p) o
+    ≡ option_and_then g (option_and_then (λ (a : ℕ). option_and_then (λ (b : ℕ). option_and_then (λ (c : ℕ). option_and_then (λ (d : ℕ). Some (make a b c d)) r) q) p) o)
+four_then g make None p q r = refl
+four_then g make (Some a) None q r = refl
+four_then g make (Some a) (Some b) None r = refl
+four_then g make (Some a) (Some b) (Some c) None = refl
+four_then g make (Some a) (Some b) (Some c) (Some d) = refl
+
+four_read : (make : Settings → List ℕ → Option Line) (fs : List (List ℕ)) → settings_in (four make) fs ≡ option_and_then (λ (s : Settings). settings_in (make s) (four_others fs)) (four_in fs)
+unfolding four
+four_read make fs =
+    setting_read (four make) refl fs
+    ∙ and_same (one_in fs) (λ a. setting_read (λ (ns : List ℕ). four make (a ∷ ns)) refl (others fs)
+    ∙ and_same (one_in (others fs)) (λ b. setting_read (λ (ns : List ℕ). four make (a ∷ b ∷ ns)) refl (others (others fs))
+    ∙ and_same (one_in (others (others fs))) (λ c. setting_read (λ (ns : List ℕ). four make (a ∷ b ∷ c ∷ ns)) refl (others (others (others fs))))))
+    ∙ four_then (λ (s : Settings). settings_in (make s) (four_others fs)) (λ (a b c d : ℕ). record { scale = a; eps = b; decay = c; floor = d; mode = scale_mode; channel = 0 })
+    (one_in fs) (one_in (others fs)) (one_in (others (others fs))) (one_in (others (others (others fs))))
 
 -- one setting, and no field after it
-pub one-read : {fs more : List (List ℕ)} {ok : Bool} {v : ℕ} → more ≡ [] → NumberIn 4294967295 fs ok v more → optional ok v ≡ settings_in one fs
-unfolding each bind one
-one-read m (no_field e) = rw e
-one-read m (no_number e n) = rw (e, n)
-one-read m (a-number e n) = rw (e, n, m)
-
-pub one_extra : {fs more : List (List ℕ)} {ok : Bool} {v : ℕ} → 0 < length more → NumberIn 4294967295 fs ok v more → settings_in one fs ≡ none
-unfolding each bind one
-one_extra m (no_field e) = rw e
-one_extra m (no_number e n) = rw (e, n)
-one_extra {more = more} {v = v} m (a-number e n) = setting-read one refl (a-number e n) ∙ setting_extra (λ (ns : List ℕ). one (v ∷ ns)) more m (λ n ns. refl)
-
--- after the settings of a change there is no field more
-pub change-whole : (s : Settings) {fs : List (List ℕ)} → fs ≡ [] → settings_in (change_of s) fs ≡ some (change s)
-unfolding each bind change_of
-change-whole s e = rw e
-
-pub change_extra : (s : Settings) (fs : List (List ℕ)) → 0 < length fs → settings_in (change_of s) fs ≡ none
-unfolding change_of
-change_extra s fs h = setting_extra (change_of s) fs h (λ n ns. refl)
-
--- after those of a start there is none, or the sample rate alone
-pub start-whole : (s : Settings) {fs : List (List ℕ)} → fs ≡ [] → settings_in (start_of s) fs ≡ some (start cd_rate s)
-unfolding each bind start_of
-start-whole s e = rw e
-
-pub start-rated : (s : Settings) (fs : List (List ℕ)) (ok : Bool) (hertz : ℕ) → 0 < length fs → optional ok hertz ≡ settings_in one fs → settings_in (start_of s) fs ≡ optional ok (start hertz s)
-unfolding each bind start_of one
-start-rated s fs ok hertz h e = as_one fs h ∙ ap (map (λ (n : ℕ). start n s)) (sym e) ∙ by-ok ok
+pub one_read : (fs : List (List ℕ)) → settings_in one fs ≡ one_fields fs
+unfolding each one
+one_read [] = refl
+one_read (f ∷ []) = by_field (number 4294967295 f)
   where
-    by-ok : (b : Bool) → map (λ (n : ℕ). start n s) (optional b hertz) ≡ optional b (start hertz s)
-    by-ok true = refl
-    by-ok false = refl
+    by_field : (o : Option ℕ) → option_and_then one (option_and_then (λ (v : ℕ). Some (v ∷ [])) o) ≡ o
+    by_field None = refl
+    by_field (Some v) = refl
+one_read (f ∷ e ∷ more) = setting_read one refl (f ∷ e ∷ more) ∙ and_none (number 4294967295 f) (λ v. no_more (λ (ns : List ℕ). one (v ∷ ns)) (λ n ns. refl) e more)
 
-    by-fields : (o : Option ℕ) (p : Option (List ℕ)) → bind (bind o (λ (n : ℕ). map (λ (ns : List ℕ). n ∷ ns) p)) (start_of s)
-        ≡ map (λ (n : ℕ). start n s) (bind (bind o (λ (n : ℕ). map (λ (ns : List ℕ). n ∷ ns) p)) one)
-    by-fields none p = refl
-    by-fields (some n) none = refl
-    by-fields (some n) (some []) = refl
-    by-fields (some n) (some (m ∷ ms)) = refl
+-- after the settings of a start there is no field, or the sample rate alone; after those of a change there is none
+start_rest : (s : Settings) (fs : List (List ℕ)) → settings_in (start_of s) fs ≡ start_after s fs
+unfolding each start_of
+start_rest s [] = refl
+start_rest s (f ∷ []) = by_field (number 4294967295 f)
+  where
+    by_field : (o : Option ℕ) → option_and_then (start_of s) (option_and_then (λ (v : ℕ). Some (v ∷ [])) o) ≡ option_map (λ (hertz : ℕ). start hertz s) o
+    by_field None = refl
+    by_field (Some v) = refl
+start_rest s (f ∷ e ∷ more) = by_fields (number 4294967295 f) (number 4294967295 e) (each (number 4294967295) more)
+  where
+    by_fields : (o p : Option ℕ) (q : Option (List ℕ)) → option_and_then (start_of s) (option_and_then (λ (v : ℕ). option_map (λ (ns : List ℕ). v ∷ ns) (option_and_then (λ (w : ℕ). option_map (λ (ns : List ℕ). w ∷ ns) q) p)) o) ≡ None
+    by_fields None p q = refl
+    by_fields (Some v) None q = refl
+    by_fields (Some v) (Some w) None = refl
+    by_fields (Some v) (Some w) (Some ns) = refl
 
-    as_one : (fs : List (List ℕ)) → 0 < length fs → settings_in (start_of s) fs ≡ map (λ (n : ℕ). start n s) (settings_in one fs)
-    as_one [] h = absurd (omega arith)
-    as_one (f ∷ fs) h = by-fields (number 4294967295 f) (each (number 4294967295) fs)
+change_rest : (s : Settings) (fs : List (List ℕ)) → settings_in (change_of s) fs ≡ change_after s fs
+unfolding each change_of
+change_rest s [] = refl
+change_rest s (f ∷ fs) = no_more (change_of s) (λ n ns. refl) f fs
 
--- ---- all fields from a place on, each read in one way: those read so far stand in front
+-- ---- the fields after the first word, as they are read
+pub start_said : (fs : List (List ℕ)) → start_in fs ≡ line_of (start_fields fs)
+unfolding start_in
+start_said fs = ap line_of (four_read start_of fs ∙ and_same (four_in fs) (λ s. start_rest s (four_others fs)))
+
+pub change_said : (fs : List (List ℕ)) → change_in fs ≡ line_of (change_fields fs)
+unfolding change_in
+change_said fs = ap line_of (four_read change_of fs ∙ and_same (four_in fs) (λ s. change_rest s (four_others fs)))
+
+pub reset_said : (fs : List (List ℕ)) → reset_in fs ≡ line_of (reset_fields fs)
+unfolding reset_in line_of
+reset_said [] = refl
+reset_said (f ∷ fs) = refl
+
+pub block_said : (fs : List (List ℕ)) → block_in fs ≡ line_of (block_fields fs)
+unfolding block_in line_of
+block_said [] = refl
+block_said (f ∷ fs) = refl
+
+pub midi_said : (fs : List (List ℕ)) → midi_in fs ≡ line_of (midi_fields fs)
+unfolding midi_in each line_of
+midi_said [] = refl
+midi_said (f ∷ fs) = ap line_of (by_field (number 255 f) (each (number 255) fs))
+  where
+    by_field : (o : Option ℕ) (p : Option (List ℕ)) → let q = option_and_then (λ (b : ℕ). option_map (λ (bs : List ℕ). b ∷ bs) p) o in option_map midi q ≡ option_and_then some_bytes q
+    by_field None p = refl
+    by_field (Some b) None = refl
+    by_field (Some b) (Some bs) = refl
+
+module _ (fs : List (List ℕ)) where
+  pub mode_said : (v : ℕ) → Some v ≡ one_fields fs → mode v ≡ mode_in fs
+  unfolding mode_in line_of
+  mode_said v e = ap (λ (o : Option ℕ). line_of (option_map mode o)) (e ∙ sym (one_read fs))
+
+  pub mode_unsaid : None ≡ one_fields fs → unreadable ≡ mode_in fs
+  unfolding mode_in line_of
+  mode_unsaid e = ap (λ (o : Option ℕ). line_of (option_map mode o)) (e ∙ sym (one_read fs))
+
+  pub channel_said : (v : ℕ) → Some v ≡ one_fields fs → channel v ≡ channel_in fs
+  unfolding channel_in line_of
+  channel_said v e = ap (λ (o : Option ℕ). line_of (option_map channel o)) (e ∙ sym (one_read fs))
+
+  pub channel_unsaid : None ≡ one_fields fs → unreadable ≡ channel_in fs
+  unfolding channel_in line_of
+  channel_unsaid e = ap (λ (o : Option ℕ). line_of (option_map channel o)) (e ∙ sym (one_read fs))
+
+-- ---- the values of all fields: those read so far stand in front
 module _ {A : Type 0} (how : List ℕ → Option A) where
   abbrev after : List A → List (List ℕ) → Option (List A)
-  after xs fs = map (λ (ys : List A). xs ++ ys) (each how fs)
+  after xs fs = option_map (λ (ys : List A). xs ++ ys) (each how fs)
 
-  module _ {fs more : List (List ℕ)} {f : List ℕ} (e : fs ≡ f ∷ more) where
-    none_more : (ok : Bool) (x : A) (xs : List A) → optional ok x ≡ how f → ok ≡ false → after xs fs ≡ none
-    unfolding each bind
-    none_more ok x xs v n = rw (e, sym v, n)
-
-    one_more_lem : (ok : Bool) (x : A) (xs : List A) → optional ok x ≡ how f → ok ≡ true → after (xs ++ (x ∷ [])) more ≡ after xs fs
-    unfolding each bind
-    one_more_lem ok x xs v n = rw (e, sym v, n) (joined (each how more))
-      where
-        joined : (o : Option (List A)) → map (λ (ys : List A). (xs ++ (x ∷ [])) ++ ys) o ≡ map (λ (ys : List A). xs ++ ys) (map (λ (ys : List A). x ∷ ys) o)
-        joined none = refl
-        joined (some ys) = ap some (append_assoc xs (x ∷ []) ys)
-
-  no_more : (xs : List A) → after xs [] ≡ some xs
-  unfolding each
-  no_more xs = ap some (append-nil xs)
-
-  none_before : (fs : List (List ℕ)) → after [] fs ≡ each how fs
-  none_before fs = same-again (each how fs)
-    where
-      same-again : (o : Option (List A)) → map (λ (ys : List A). [] ++ ys) o ≡ o
-      same-again none = refl
-      same-again (some ys) = refl
-
-  -- n fields from `at` on were read, as far as `to`, and each took at least two bytes
-  pub record Reading (line : List ℕ) (at : ℕ) (xs : List A) (to n : ℕ) : Type 0 where
-    pub two-each : at + 2 * n ≤ to
-    pub within : to ≤ length line
+  -- n fields were read, and each took at least two bytes
+  pub record Reading (all rest : List (List ℕ)) (xs : List A) (n : ℕ) : Type 0 where
+    pub two_each : 2 * n + room_of rest ≤ 8193
     pub room : length xs ≡ 4096
-    pub so_far : after (take n xs) (later line to) ≡ each how (later line at)
+    pub so_far : after (take n xs) rest ≡ each how all
 
-  module _ {line : List ℕ} {at : ℕ} {xs : List A} where
-    pub none_read : at ≤ length line → length xs ≡ 4096 → Reading line at xs at 0
-    none_read h e = record { two-each = omega arith; within = h; room = e; so_far = none_before (later line at) }
-
-    module _ {to n : ℕ} (p : Reading line at xs to n) (short : length line ≤ 8192) where
-      -- there is a place for one more
-      place-left : to < length line → n < length xs
-      place-left h = omega (arith, p.two-each, p.room)
-
-      pub all_read : length line ≤ to → FieldsRead how line at (record { ok = true; value = n }) xs
-      all_read h =
-          record {
-            many = omega (arith, p.two-each, p.within);
-            long = p.room;
-            values = sym (sym p.so_far ∙ ap (after (take n xs)) (later-end line to h) ∙ no_more (take n xs));
-          }
-
-      module _ {ok : Bool} {x : A} {to' : ℕ} (f : FieldRead how line to ok x to') where
-        pub one-unread : ok ≡ false → FieldsRead how line at (record { ok = false; value = 0 }) xs
-        one-unread e = record { many = omega arith; long = p.room; values = sym (sym p.so_far ∙ none_more f.field ok x (take n xs) f.read e) }
-
-        pub next-read : to < length line → ok ≡ true → Reading line at (set xs n x) to' (n + 1)
-        next-read h e =
-            let s : take (n + 1) (set xs n x) ≡ take n xs ++ (x ∷ []) = ap (λ (k : ℕ). take k (set xs n x)) (add-one n) ∙ take-suc-set xs n x (place-left h) in
-            record {
-              two-each = omega (arith, p.two-each, f.long e);
-              within = f.within;
-              room = length-set xs n x ∙ p.room;
-              so_far = ap (λ (ys : List A). after ys (later line to')) s ∙ one_more_lem f.field ok x (take n xs) f.read e ∙ p.so_far;
-            }
-
--- ---- what the fields say
-module _ {A : Type 0} (make : A → Line) {o : Option A} (ok : Bool) (v : A) (e : optional ok v ≡ o) where
-  pub line_read : ok ≡ true → line_of (map make o) ≡ make v
-  unfolding line_of
-  line_read y = rw (sym e, y)
-
-  pub line-unread : ok ≡ false → line_of (map make o) ≡ unreadable
-  unfolding line_of
-  line-unread y = rw (sym e, y)
-
--- a start or a change, by whether its four settings could be read, and what is made of the fields after them
-module _ {line : List ℕ} {at : ℕ} {r : FourSettings} (f : FourRead line at r) (make : Settings → List ℕ → Option Line) where
-  pub four-unread : r.ok ≡ false → line_of (settings_in (four make) (later line at)) ≡ unreadable
-  unfolding line_of
-  four-unread n = ap line_of (f.read make ∙ cond_no _ _ n)
-
-  pub four-read : r.ok ≡ true → {o : Option Line} → settings_in (make r.settings) (later line r.to) ≡ o → line_of (settings_in (four make) (later line at)) ≡ line_of o
-  four-read y e = ap line_of (f.read make ∙ cond_yes _ _ y ∙ e)
-
-pub reset_extra : (fs : List (List ℕ)) → 0 < length fs → reset_in fs ≡ unreadable
-unfolding reset_in
-reset_extra [] h = absurd (omega arith)
-reset_extra (f ∷ fs) h = refl
-
-module _ {fs more : List (List ℕ)} {ok : Bool} {k : ℕ} (n : NumberIn 65535 fs ok k more) where
-  pub block_unnumbered : ok ≡ false → block_in fs ≡ unreadable
-  unfolding block_in line_of bind
-  block_unnumbered y = by_field n y
+  pub none_read : {all : List (List ℕ)} {xs : List A} → room_of all ≤ 8193 → length xs ≡ 4096 → Reading all all xs 0
+  none_read {all} h e = record { two_each = omega arith; room = e; so_far = same_again (each how all) }
     where
-      by_field : {ok : Bool} → NumberIn 65535 fs ok k more → ok ≡ false → block_in fs ≡ unreadable
-      by_field (no_field e) y = rw e
-      by_field (no_number e n) y = rw (e, n)
-      by_field (a-number e n) y = absurd (yes_and_no refl y)
+      same_again : (o : Option (List A)) → option_map (λ (ys : List A). [] ++ ys) o ≡ o
+      same_again None = refl
+      same_again (Some ys) = refl
 
-  module _ (good : Bool) (xs : List ℤ) (yes : ok ≡ true) (e : optional good xs ≡ each sample more) where
-    block-numbered : block_in fs ≡ line_of (map (block k) (each sample more))
-    unfolding block_in bind
-    block-numbered = by_field n yes
+  module _ {all rest more : List (List ℕ)} {f : List ℕ} {xs : List A} {n : ℕ} (p : Reading all rest xs n) (e : rest ≡ f ∷ more) where
+    -- there is a place for one more
+    pub place-left : how [] ≡ None → (x : A) → Some x ≡ how f → n < 4096
+    unfolding room_of
+    place-left z x v = omega (arith, p.two_each, ap room_of e, field-long how z f x v)
+
+    pub one_unread : None ≡ how f → each how all ≡ None
+    unfolding each
+    one_unread v = sym p.so_far ∙ rw (e, ← v)
+
+    pub next-read : how [] ≡ None → (x : A) → Some x ≡ how f → Reading all more (set xs n x) (n + 1)
+    unfolding each room_of
+    next-read z x v =
+        let l : n < length xs = omega (arith, place-left z x v, p.room) in
+        let s : take (n + 1) (set xs n x) ≡ take n xs ++ (x ∷ []) = ap (λ (k : ℕ). take k (set xs n x)) (add-one n) ∙ take-suc-set xs n x l in
+        record {
+          two_each = omega (arith, p.two_each, ap room_of e, field-long how z f x v);
+          room = length-set xs n x ∙ p.room;
+          so_far = ap (λ (ys : List A). after ys more) s ∙ joined (each how more) ∙ rw (e, ← v) at p.so_far;
+        }
       where
-        by_field : {ok : Bool} → NumberIn 65535 fs ok k more → ok ≡ true → block_in fs ≡ line_of (map (block k) (each sample more))
-        by_field (no_field e) y = absurd (yes_and_no y refl)
-        by_field (no_number e n) y = absurd (yes_and_no y refl)
-        by_field (a-number e n) y = rw (e, n)
+        joined : (o : Option (List A)) → option_map (λ (ys : List A). (take n xs ++ (x ∷ [])) ++ ys) o ≡ option_map (λ (ys : List A). take n xs ++ ys) (option_map (λ (ys : List A). x ∷ ys) o)
+        joined None = refl
+        joined (Some ys) = ap Some (append_assoc (take n xs) (x ∷ []) ys)
 
-    pub block-unread : good ≡ false → block_in fs ≡ unreadable
-    block-unread y = block-numbered ∙ line-unread (block k) good xs e y
+  pub all_read : {all rest : List (List ℕ)} {xs : List A} {n : ℕ} → Reading all rest xs n → rest ≡ [] → each how all ≡ Some (take n xs)
+  unfolding each
+  all_read {xs = xs} {n} p e = sym p.so_far ∙ rw e (ap Some (append-nil (take n xs)))
 
-    pub block_read : good ≡ true → block_in fs ≡ block k xs
-    block_read y = block-numbered ∙ line_read (block k) good xs e y
-
-pub midi-some : (fs : List (List ℕ)) → 0 < length fs → midi_in fs ≡ line_of (map midi (each (number 255) fs))
-unfolding midi_in
-midi-some [] h = absurd (omega arith)
-midi-some (f ∷ fs) h = refl
+pub said_line : (r : Option Request) {o : Option Line} → option_map asked r ≡ o → said r ≡ line_of o
+unfolding line_of
+said_line None e = ap line_of e
+said_line (Some r) e = ap line_of e
 
 -- ---- words
-same-is : (a b : List ℕ) → same a b ≡ true → a ≡ b
+
+-- as `==` tests them
+tested : (a b : List ℕ) → same a b ≡ pointwise nat_eq a b
 unfolding same
-same-is [] [] e = refl
-same-is [] (b ∷ bs) e = absurd (yes_and_no e refl)
-same-is (a ∷ rest) [] e = absurd (yes_and_no e refl)
-same-is (a ∷ rest) (b ∷ bs) e = λ i. eqb-true a b (and_left (eqb a b) (same rest bs) e) i ∷ same-is rest bs (and_right (eqb a b) (same rest bs) e) i
+tested [] [] = refl
+tested [] (b ∷ bs) = refl
+tested (a ∷ rest) [] = refl
+tested (a ∷ rest) (b ∷ bs) = ap (λ (t : Bool). eqb a b && t) (tested rest bs)
 
-is_same : (a : List ℕ) → same a a ≡ true
-unfolding same
-is_same [] = refl
-is_same (a ∷ rest) = rw (eq-eqb a a refl) (is_same rest)
+module _ (w : List ℕ) (fs : List (List ℕ)) where
+  pub record_tested : record_in (w ∷ fs) ≡
+      cond (pointwise nat_eq w start_word) (start_in fs)
+      (cond (pointwise nat_eq w change_word) (change_in fs)
+      (cond (pointwise nat_eq w block_word) (block_in fs)
+      (cond (pointwise nat_eq w reset_word) (reset_in fs)
+      (cond (pointwise nat_eq w mode_word) (mode_in fs)
+      (cond (pointwise nat_eq w channel_word) (channel_in fs)
+      (cond (pointwise nat_eq w midi_word) (midi_in fs) unreadable))))))
+  unfolding record_in
+  record_tested = λ i.
+      cond (tested w start_word i) (start_in fs)
+      (cond (tested w change_word i) (change_in fs)
+      (cond (tested w block_word i) (block_in fs)
+      (cond (tested w reset_word i) (reset_in fs)
+      (cond (tested w mode_word i) (mode_in fs)
+      (cond (tested w channel_word i) (channel_in fs)
+      (cond (tested w midi_word i) (midi_in fs) unreadable))))))
 
-pub decided : {b : Bool} (w u : List ℕ) → Decides b (w ≡ u) → same w u ≡ b
-decided {b} w u d = by b (λ y. ap (same w) (sym (d.yes y)) ∙ is_same w ∙ sym y) (λ n. by (same w u) (λ y. absurd (d.no n (same-is w u y))) (λ z. z ∙ sym n))
+-- ---- a call is taken where its number is 0
+some_number : (r : Refusal) → 0 < refusal_number r
+some_number BlockEmpty = omega arith
+some_number BlockOver512 = omega arith
+some_number OutputShort = omega arith
+some_number NumberNeither = omega arith
+some_number OtherSamples = omega arith
+some_number TakeFull = omega arith
+some_number ScaleOutOfRange = omega arith
+some_number RecordOutOfRange = omega arith
+some_number LineUnreadable = omega arith
+some_number EpsOutOfRange = omega arith
+some_number DecayOutOfRange = omega arith
+some_number FloorOutOfRange = omega arith
+some_number ChannelOutOfRange = omega arith
+some_number ModeUnknown = omega arith
+some_number RateUnknown = omega arith
+some_number StoreWithoutRoom = omega arith
+some_number IntervalOutOfRange = omega arith
+some_number TooManyVoices = omega arith
+some_number NotRiffWave = omega arith
+some_number NoFmt = omega arith
+some_number FmtWrong = omega arith
+some_number NoData = omega arith
+some_number RunsPast = omega arith
+some_number NoRoom = omega arith
+some_number NoGoodFmt = omega arith
+some_number NoDataReached = omega arith
+some_number TooManyTakes = omega arith
+some_number FileTooLong = omega arith
+some_number NoMidiFile = omega arith
+some_number FormatUnknown = omega arith
+some_number DivisionWrong = omega arith
+some_number EndsEarly = omega arith
+some_number WithinAnEvent = omega arith
+some_number QuantityTooLong = omega arith
+some_number NoRunningStatus = omega arith
+some_number StatusWithin = omega arith
+some_number UnknownStatus = omega arith
+some_number TempoWrong = omega arith
+some_number TrackTooLong = omega arith
 
--- the fields after the first word, by what it is
-unfoldable pub chosen : ℕ → List (List ℕ) → Line
-chosen n fs = cond (eqb n 1) (start_in fs) (cond (eqb n 2) (change_in fs) (cond (eqb n 3) (block_in fs) (cond (eqb n 4) (reset_in fs) (keyboard_chosen n fs))))
-
-pub record-chosen : (w : List ℕ) (fs : List (List ℕ)) → record_in (w ∷ fs) ≡ chosen (word_of w) fs
-unfolding record_in word_of keyboard_word_of chosen keyboard_chosen
-record-chosen w fs = by_tests (same w start_word) (same w change_word) (same w block_word) (same w reset_word) (same w mode_word) (same w channel_word) (same w midi_word)
-  where
-    by_tests : (a b c d e f g : Bool) →
-        cond a (start_in fs) (cond b (change_in fs) (cond c (block_in fs) (cond d (reset_in fs) (cond e (mode_in fs) (cond f (channel_in fs) (cond g (midi_in fs) unreadable))))))
-        ≡ chosen (cond a 1 (cond b 2 (cond c 3 (cond d 4 (cond e 5 (cond f 6 (cond g 7 0))))))) fs
-    by_tests true b c d e f g = refl
-    by_tests false true c d e f g = refl
-    by_tests false false true d e f g = refl
-    by_tests false false false true e f g = refl
-    by_tests false false false false true f g = refl
-    by_tests false false false false false true g = refl
-    by_tests false false false false false false true = refl
-    by_tests false false false false false false false = refl
-
-pub chosen-other : (n : ℕ) (fs : List (List ℕ)) → (n ≡ 1 → ⊥) → (n ≡ 2 → ⊥) → (n ≡ 3 → ⊥) → (n ≡ 4 → ⊥) → chosen n fs ≡ keyboard_chosen n fs
-unfolding chosen
-chosen-other n fs a b c d = rw (ne_eqb n 1 a, ne_eqb n 2 b, ne_eqb n 3 c, ne_eqb n 4 d)
-
-pub keyboard-other : (n : ℕ) (fs : List (List ℕ)) → (n ≡ 5 → ⊥) → (n ≡ 6 → ⊥) → (n ≡ 7 → ⊥) → keyboard_chosen n fs ≡ unreadable
-unfolding keyboard_chosen
-keyboard-other n fs a b c = rw (ne_eqb n 5 a, ne_eqb n 6 b, ne_eqb n 7 c)
+pub taken_number : (r : Result Unit Refusal) → is_ok r ≡ eqb (number_of r) 0
+taken_number (Ok u) = refl
+taken_number (Err e) = sym (ne_eqb (refusal_number e) 0 (λ z. absurd (omega (arith, some_number e))))
 
 -- ---- a line is answered
 pub read-long : (line : List ℕ) → 8192 < length line → read line ≡ unreadable
@@ -304,19 +293,22 @@ pub read_short : (line : List ℕ) → length line ≤ 8192 → read line ≡ re
 unfolding read
 read_short line h = rw (le-leb (length line) 8192 h)
 
+-- a line that begins with the word w
+pub begins_with : (line w : List ℕ) (fs : List (List ℕ)) → length line ≤ 8192 → fields line ≡ w ∷ fs → read line ≡
+    cond (pointwise nat_eq w start_word) (start_in fs)
+    (cond (pointwise nat_eq w change_word) (change_in fs)
+    (cond (pointwise nat_eq w block_word) (block_in fs)
+    (cond (pointwise nat_eq w reset_word) (reset_in fs)
+    (cond (pointwise nat_eq w mode_word) (mode_in fs)
+    (cond (pointwise nat_eq w channel_word) (channel_in fs)
+    (cond (pointwise nat_eq w midi_word) (midi_in fs) unreadable))))))
+begins_with line w fs h e = read_short line h ∙ ap record_in e ∙ record_tested w fs
+
 -- as `answer_line` promises it
-abbrev Promised : Desk → (line : List ℕ) → Reply → (store' out out' : List ℕ) → Type 0
-Promised d line r store' out out' = Answered d line out (desk r.tuner store') r.answer r.length out' × (r.begins ≡ begins (read line) r.answer)
-
-module _ {d : Desk} {store' out out' : List ℕ} {r : Reply} (line : List ℕ) (room : 4096 ≤ length out) where
-  answered_as : {l : Line} → read line ≡ l → Replied d l r store' out out' → Promised d line r store' out out'
-  answered_as e p = (answered room (subst (λ (l : Line). Said d l (desk r.tuner store') p.text r.answer) (sym e) p.said) p.put, p.begun ∙ ap (λ (l : Line). begins l r.answer) (sym e))
-
-  pub answered-long : 8192 < length line → Replied d unreadable r store' out out' → Promised d line r store' out out'
-  answered-long h p = answered_as (read-long line h) p
-
-  pub answered-record : length line ≤ 8192 → Replied d (record_in (fields line)) r store' out out' → Promised d line r store' out out'
-  answered-record h p = answered_as (read_short line h) p
+pub answered_as : {d d' : Desk} {out out' : List ℕ} {r : Reply} (line : List ℕ) {l : Line} → 4096 ≤ length out → l ≡ read line → Replied d l d' r out out'
+    → Answered d line out d' r.answer r.length out' × (r.begins ≡ begins (read line) r.answer)
+answered_as {d} {d'} {out} {out'} {r} line room e p =
+    let q = replied_as (sym e) p in (answered room q.said q.put, q.begun)
 
 -- with no room nothing begins
 pub begins_no_room : (line : Line) → false ≡ begins line (numbered 4)
@@ -351,7 +343,9 @@ pub took-alone : {t t' : Tuner} {k : ℕ} {xs ys : List ℤ} (first second third
 took-alone {t} {t'} {k} {xs} {ys} first second third {store} {store'} {a} e f g p =
     subst (λ (os : List (List ℤ)). Took t k xs (alone (replicate longest_block (pos 0))) store t' a os store') (λ i. outputs ys (no-places first e i) (no-places second f i) (no-places third g i)) p
 
--- ---- the opening
-pub opened : {s : Settings} {voices : List ℤ} {store : List ℕ} {t : Tuner} {v : ℕ} → s ≡ defaults → length voices ≡ 0 → Started cd_rate s 0 voices store t v → t ≡ default_tuner
-opened {voices = voices} {v = v} e n p =
-    p.tuner ∙ (λ i. cond (eqb v 0) (fresh_tuner cd_rate (e i) 0 (no-places voices n i)) default_tuner) ∙ cond_case (eqb v 0) default_tuner default_tuner (λ (t : Tuner). t ≡ default_tuner) (λ z. refl) (λ z. refl)
+-- a refusal's number is not 0
+pub no_refusal : (e : Refusal) → refusal_number e ≡ 0 → ⊥
+no_refusal e z = absurd (omega (arith, some_number e))
+
+pub refused_number : (e : Refusal) → false ≡ eqb (refusal_number e) 0
+refused_number e = sym (ne_eqb (refusal_number e) 0 (no_refusal e))

@@ -1,6 +1,5 @@
 -- The line program's lines, in document 01's words: what a line says, and what it is answered. Definitions only.
-use Rattle.std.specs.Prelude.{◌≡◌, Bool, true, false, cond, ◌&&◌, List, [], ◌∷◌, ◌++◌, ℕ, ◌≤◌, ◌<◌, eqb, leb, ℤ, pos, ◌⊎◌, ◌+◌, length, get_or, take, drop, replicate}
-use Rattle.std.proofs.Math.Option.{Option, none, some, map, bind}
+use Rattle.std.specs.Prelude.{◌≡◌, Bool, true, false, cond, ◌&&◌, List, [], ◌∷◌, ◌++◌, ℕ, ◌≤◌, ◌<◌, eqb, leb, ℤ, pos, ◌⊎◌, ◌+◌, length, get_or, take, drop, replicate, Option, Some, None, option_map, option_and_then}
 use Rattle.rules.specs.declared.Settings.{Settings}
 use Rattle.rules.specs.Rules.{scale_mode, cd_rate, longest_block}
 use Rattle.tuner.specs.declared.Tuner.{Tuner}
@@ -22,42 +21,42 @@ pub data Line : Type 0 where
 
 -- every field is read in one way; none where one of them cannot be
 unfoldable pub each : {A : Type 0} → (List ℕ → Option A) → List (List ℕ) → Option (List A)
-each how [] = some []
-each {A} how (f ∷ fs) = bind (how f) (λ (x : A). map (λ (xs : List A). x ∷ xs) (each how fs))
+each how [] = Some []
+each {A} how (f ∷ fs) = option_and_then (λ (x : A). option_map (λ (xs : List A). x ∷ xs) (each how fs)) (how f)
 
 -- scale, eps, decay, floor, none of them missing, and what is made of the fields after them; a start has mode scale and channel 0
 unfoldable pub four : (Settings → List ℕ → Option Line) → List ℕ → Option Line
-four make [] = none
-four make (a ∷ []) = none
-four make (a ∷ b ∷ []) = none
-four make (a ∷ b ∷ c ∷ []) = none
+four make [] = None
+four make (a ∷ []) = None
+four make (a ∷ b ∷ []) = None
+four make (a ∷ b ∷ c ∷ []) = None
 four make (a ∷ b ∷ c ∷ d ∷ more) = make (record { scale = a; eps = b; decay = c; floor = d; mode = scale_mode; channel = 0 }) more
 
 -- a start: the sample rate comes last, 44,100 if missing, and no field more
 unfoldable pub start_of : Settings → List ℕ → Option Line
-start_of s [] = some (start cd_rate s)
-start_of s (hertz ∷ []) = some (start hertz s)
-start_of s (hertz ∷ e ∷ more) = none
+start_of s [] = Some (start cd_rate s)
+start_of s (hertz ∷ []) = Some (start hertz s)
+start_of s (hertz ∷ e ∷ more) = None
 
 -- a change: no field more
 unfoldable pub change_of : Settings → List ℕ → Option Line
-change_of s [] = some (change s)
-change_of s (e ∷ more) = none
+change_of s [] = Some (change s)
+change_of s (e ∷ more) = None
 
 -- a setting alone: neither a missing nor an extra field
 unfoldable pub one : List ℕ → Option ℕ
-one [] = none
-one (a ∷ []) = some a
-one (a ∷ b ∷ more) = none
+one [] = None
+one (a ∷ []) = Some a
+one (a ∷ b ∷ more) = None
 
 -- what is made of settings; each is at most 4294967295
 abbrev pub settings_in : {A : Type 0} → (List ℕ → Option A) → List (List ℕ) → Option A
-settings_in make fs = bind (each (number 4294967295) fs) make
+settings_in make fs = option_and_then make (each (number 4294967295) fs)
 
 -- what could be read, or a line that cannot be
 unfoldable pub line_of : Option Line → Line
-line_of none = unreadable
-line_of (some line) = line
+line_of None = unreadable
+line_of (Some line) = line
 
 -- the fields after the first word
 unfoldable pub start_in : List (List ℕ) → Line
@@ -69,22 +68,22 @@ change_in fs = line_of (settings_in (four change_of) fs)
 -- a block number is at most 65535; without samples it is an empty block
 unfoldable pub block_in : List (List ℕ) → Line
 block_in [] = unreadable
-block_in (f ∷ fs) = line_of (bind (number 65535 f) (λ (k : ℕ). map (block k) (each sample fs)))
+block_in (f ∷ fs) = line_of (option_and_then (λ (k : ℕ). option_map (block k) (each sample fs)) (number 65535 f))
 
 unfoldable pub reset_in : List (List ℕ) → Line
 reset_in [] = reset
 reset_in (f ∷ fs) = unreadable
 
 unfoldable pub mode_in : List (List ℕ) → Line
-mode_in fs = line_of (map mode (settings_in one fs))
+mode_in fs = line_of (option_map mode (settings_in one fs))
 
 unfoldable pub channel_in : List (List ℕ) → Line
-channel_in fs = line_of (map channel (settings_in one fs))
+channel_in fs = line_of (option_map channel (settings_in one fs))
 
 -- at least one byte, each at most 255
 unfoldable pub midi_in : List (List ℕ) → Line
 midi_in [] = unreadable
-midi_in (f ∷ fs) = line_of (map midi (each (number 255) (f ∷ fs)))
+midi_in (f ∷ fs) = line_of (option_map midi (each (number 255) (f ∷ fs)))
 
 -- two texts are the same
 unfoldable pub same : List ℕ → List ℕ → Bool

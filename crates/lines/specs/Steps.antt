@@ -1,102 +1,101 @@
 -- What the parts of the reading and the answering promise.
-use Rattle.std.specs.Prelude.{◌≡◌, Bool, true, false, cond, List, [], ◌∷◌, ℕ, ◌+◌, ◌≤◌, eqb, length, take}
-use Rattle.std.proofs.Common.{sym, ap, subst, subst₂, ◌∙◌}
-use Rattle.std.proofs.Math.Option.{Option, none, some}
-use Rattle.rules.specs.declared.Settings.{Settings}
-use Rattle.tuner.specs.declared.Tuner.{Tuner}
+use Rattle.std.specs.Prelude.{◌≡◌, Bool, cond, List, [], ◌∷◌, ℕ, ℤ, Option, Some, None, option_map, option_and_then, option_copied}
+use Rattle.std.proofs.Common.{Bor, sym, ap, subst, ◌∙◌}
 use Rattle.tuner.specs.declared.Answer.{Answer}
-use Rattle.tuner.specs.Tuners.{Changed}
-use Rattle.text.specs.declared.Number.{Number}
-use Rattle.text.specs.Text.{number, Put}
-use Rattle.text.specs.Places.{optional}
-use Rattle.text.specs.Fields.{later}
+use Rattle.rules.specs.declared.Settings.{Settings}
+use Rattle.rules.specs.Rules.{scale_mode, cd_rate}
+use Rattle.text.specs.Text.{number, sample, Put}
 use Rattle.lines.specs.declared.Reply.{Reply}
-use Rattle.lines.specs.declared.NumberField.{NumberField}
-use Rattle.lines.specs.declared.FourSettings.{FourSettings}
-use Rattle.lines.specs.declared.Count.{Count}
-use Rattle.lines.specs.Lines.{Line, start, unreadable, each, four, start_of, settings_in, mode_in, channel_in, midi_in, same, start_word, change_word, block_word, reset_word, mode_word, channel_word, midi_word, Desk, desk, numbered, number_line, Said, begins}
+use Rattle.lines.specs.declared.Request.{Request}
+use Rattle.lines.specs.declared.Request.TheVariants.{Start, Change, Block, Reset, Mode, Channel, Midi}
+use Rattle.lines.specs.Lines.{Line, start, change, block, reset, mode, channel, midi, unreadable, each, Desk, Said, begins, number_line, numbered}
 
--- the first of some fields is read, and the fields after it
-pub data NumberIn (most : ℕ) (fs : List (List ℕ)) : Bool → ℕ → List (List ℕ) → Type 0 where
-  no_field : {v : ℕ} {more : List (List ℕ)} → fs ≡ [] → NumberIn most fs false v more
-  no_number : {v : ℕ} {f : List ℕ} {more : List (List ℕ)} → fs ≡ f ∷ more → number most f ≡ none → NumberIn most fs false v more
-  a-number : {v : ℕ} {f : List ℕ} {more : List (List ℕ)} → fs ≡ f ∷ more → number most f ≡ some v → NumberIn most fs true v more
+-- what a request asks for, and what a line says that was read as one
+abbrev pub asked : Request → Line
+asked (Start hertz s) = start hertz s
+asked (Change s) = change s
+asked (Block k xs) = block k xs.now
+asked Reset = reset
+asked (Mode m) = mode m
+asked (Channel c) = channel c
+asked (Midi bytes) = midi bytes.now
 
-pub record NumberRead (most : ℕ) (line : List ℕ) (at : ℕ) (r : NumberField) : Type 0 where
-  pub within : r.to ≤ length line
-  pub small : r.value ≤ most
-  pub long : r.ok ≡ true → at + 2 ≤ r.to
-  pub field : NumberIn most (later line at) r.ok r.value (later line r.to)
+abbrev pub said : Option Request → Line
+said None = unreadable
+said (Some r) = asked r
 
--- the field after a place is read in one way, and the place after it; one that can be read takes at least two bytes with its tab
-pub record FieldRead {A : Type 0} (how : List ℕ → Option A) (line : List ℕ) (at : ℕ) (ok : Bool) (value : A) (to : ℕ) : Type 0 where
-  pub within : to ≤ length line
+-- the first of some fields is read, and those after it
+abbrev pub read_first : {A : Type 0} → (List ℕ → Option A) → List (List ℕ) → Option A
+read_first how [] = None
+read_first how (f ∷ fs) = how f
+
+abbrev pub others : List (List ℕ) → List (List ℕ)
+others [] = []
+others (f ∷ fs) = fs
+
+-- the four settings, and the fields after them
+abbrev pub one_in : List (List ℕ) → Option ℕ
+one_in = read_first (number 4294967295)
+
+abbrev pub four_in : List (List ℕ) → Option Settings
+four_in fs =
+    option_and_then (λ (a : ℕ). option_and_then (λ (b : ℕ). option_and_then (λ (c : ℕ). option_and_then (λ (d : ℕ). Some (record { scale = a; eps = b; decay = c; floor = d; mode = scale_mode; channel = 0 }))
+    (one_in (others (others (others fs))))) (one_in (others (others fs)))) (one_in (others fs))) (one_in fs)
+
+abbrev pub four_others : List (List ℕ) → List (List ℕ)
+four_others fs = others (others (others (others fs)))
+
+abbrev pub one_fields : List (List ℕ) → Option ℕ
+one_fields [] = None
+one_fields (f ∷ []) = number 4294967295 f
+one_fields (f ∷ e ∷ more) = None
+
+-- what is made of the fields after the first word
+abbrev pub start_after : Settings → List (List ℕ) → Option Line
+start_after s [] = Some (start cd_rate s)
+start_after s (f ∷ []) = option_map (λ (hertz : ℕ). start hertz s) (number 4294967295 f)
+start_after s (f ∷ e ∷ more) = None
+
+abbrev pub start_fields : List (List ℕ) → Option Line
+start_fields fs = option_and_then (λ (s : Settings). start_after s (four_others fs)) (four_in fs)
+
+abbrev pub change_after : Settings → List (List ℕ) → Option Line
+change_after s [] = Some (change s)
+change_after s (f ∷ more) = None
+
+abbrev pub change_fields : List (List ℕ) → Option Line
+change_fields fs = option_and_then (λ (s : Settings). change_after s (four_others fs)) (four_in fs)
+
+abbrev pub reset_fields : List (List ℕ) → Option Line
+reset_fields [] = Some reset
+reset_fields (f ∷ fs) = None
+
+abbrev pub block_fields : List (List ℕ) → Option Line
+block_fields fs = option_and_then (λ (k : ℕ). option_map (block k) (each sample (others fs))) (read_first (number 65535) fs)
+
+abbrev pub some_bytes : List ℕ → Option Line
+some_bytes [] = None
+some_bytes (b ∷ bs) = Some (midi (b ∷ bs))
+
+abbrev pub midi_fields : List (List ℕ) → Option Line
+midi_fields fs = option_and_then some_bytes (each (number 255) fs)
+
+-- the values that a slice holds
+abbrev pub values_of : {A : Type 0} → Option (Bor (List A)) → Option (List A)
+values_of r = option_copied r
+
+-- a line to the desk d was answered at the front of the output, and left d'
+pub record Replied (d : Desk) (line : Line) (d' : Desk) (r : Reply) (out out' : List ℕ) : Type 0 where
   pub text : List ℕ
-  pub field : later line at ≡ text ∷ later line to
-  pub read : optional ok value ≡ how text
-  pub long : ok ≡ true → at + 2 ≤ to
-
--- all fields from a place on are read in one way
-pub record FieldsRead {A : Type 0} (how : List ℕ → Option A) (line : List ℕ) (at : ℕ) (r : Count) (xs : List A) : Type 0 where
-  pub many : r.value ≤ 4096
-  pub long : length xs ≡ 4096
-  pub values : optional r.ok (take r.value xs) ≡ each how (later line at)
-
--- the four settings from a place on were read, and the place after them; whatever is made of what follows
-pub record FourRead (line : List ℕ) (at : ℕ) (r : FourSettings) : Type 0 where
-  pub within : r.to ≤ length line
-  pub read : (make : Settings → List ℕ → Option Line) → settings_in (four make) (later line at) ≡ cond r.ok (settings_in (make r.settings) (later line r.to)) none
-
--- the sample rate of a start was read from the fields after its settings
-pub record RateRead (fs : List (List ℕ)) (r : Number) : Type 0 where
-  pub read : (s : Settings) → settings_in (start_of s) fs ≡ optional r.ok (start r.value s)
-
--- the first word: 1 start, 2 change, 3 block, 4 reset, 5 mode, 6 channel, 7 midi, 0 another
-unfoldable pub keyboard_word_of : List ℕ → ℕ
-keyboard_word_of w = cond (same w mode_word) 5 (cond (same w channel_word) 6 (cond (same w midi_word) 7 0))
-
-unfoldable pub word_of : List ℕ → ℕ
-word_of w = cond (same w start_word) 1 (cond (same w change_word) 2 (cond (same w block_word) 3 (cond (same w reset_word) 4 (keyboard_word_of w))))
-
--- the fields after the first word, by what it is
-unfoldable pub keyboard_chosen : ℕ → List (List ℕ) → Line
-keyboard_chosen n fs = cond (eqb n 5) (mode_in fs) (cond (eqb n 6) (channel_in fs) (cond (eqb n 7) (midi_in fs) unreadable))
-
--- a line was answered at the front of the output, and what was lent for the list is then this
-pub record Replied (d : Desk) (line : Line) (r : Reply) (store' out out' : List ℕ) : Type 0 where
-  pub text : List ℕ
-  pub said : Said d line (desk r.tuner store') text r.answer
+  pub said : Said d line d' text r.answer
   pub begun : r.begins ≡ begins line r.answer
   pub put : Put out 0 text out' r.length
 
--- whatever store is lent, it is as it was
-abbrev pub RepliedPlain : Tuner → Line → Reply → (out out' : List ℕ) → Type 0
-RepliedPlain t line r out out' = (store : List ℕ) → Replied (desk t store) line r store out out'
+-- a number alone was answered
+pub replied_number : {d d' : Desk} {line : Line} {v : ℕ} {b : Bool} {r : Reply} {out out' : List ℕ} → Said d line d' (number_line v) (numbered v) → b ≡ begins line (numbered v) → r.answer ≡ numbered v → r.begins ≡ b → Put out 0 (number_line v) out' r.length → Replied d line d' r out out'
+replied_number {d} {d'} {line} {v} s e a b p =
+    record { text = number_line v; said = subst (λ (n : Answer). Said d line d' (number_line v) n) (sym a) s; begun = b ∙ e ∙ ap (begins line) (sym a); put = p }
 
 -- the same line by another name
-pub replied_as : {d : Desk} {line line' : Line} {r : Reply} {store' out out' : List ℕ} → line ≡ line' → Replied d line' r store' out out' → Replied d line r store' out out'
-replied_as {d} {r = r} {store'} {out} {out'} e p = subst (λ (l : Line). Replied d l r store' out out') (sym e) p
-
--- a number alone was answered, beside this tuner
-pub record Says (t' : Tuner) (v : ℕ) (b : Bool) (r : Reply) (out out' : List ℕ) : Type 0 where
-  pub tuner : r.tuner ≡ t'
-  pub answer : r.answer ≡ numbered v
-  pub begun : r.begins ≡ b
-  pub put : Put out 0 (number_line v) out' r.length
-
--- as the answer to a line
-pub replied_number : {d : Desk} {line : Line} {t' : Tuner} {v : ℕ} {b : Bool} {r : Reply} {store' out out' : List ℕ} → Said d line (desk t' store') (number_line v) (numbered v) → b ≡ begins line (numbered v) → Says t' v b r out out' → Replied d line r store' out out'
-replied_number {d} {line} {v = v} {store' = store'} s e p =
-    record {
-      text = number_line v;
-      said = subst₂ (λ (u : Tuner) (a : Answer). Said d line (desk u store') (number_line v) a) (sym p.tuner) (sym p.answer) s;
-      begun = p.begun ∙ e ∙ ap (begins line) (sym p.answer);
-      put = p.put;
-    }
-
--- other settings were asked for, and their number was answered
-pub record ChangeReplied (t : Tuner) (s : Settings) (r : Reply) (out out' : List ℕ) : Type 0 where
-  pub after : Tuner
-  pub number : ℕ
-  pub changed : Changed t s after number
-  pub says : Says after number false r out out'
+pub replied_as : {d d' : Desk} {line line' : Line} {r : Reply} {out out' : List ℕ} → line ≡ line' → Replied d line' d' r out out' → Replied d line d' r out out'
+replied_as {d} {d'} {r = r} {out} {out'} e p = subst (λ (l : Line). Replied d l d' r out out') (sym e) p

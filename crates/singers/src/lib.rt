@@ -2,14 +2,16 @@
 
 #![tactic(auto)]
 
-ghost use Rattle.std.specs.Prelude.{◌≡◌, ◌≤◌, ◌<◌, pos, length, get_or};
+ghost use Rattle.std.specs.Prelude.{◌≡◌, ℕ, ◌≤◌, ◌<◌, pos, length, get_or};
 ghost use Rattle.whole.specs.Tests.{Decides};
 ghost use Rattle.rules.specs.Rules.{longest_block, kept_samples};
 ghost use Rattle.rules.specs.Facts.{SampleRate};
+ghost use Rattle.refusals.specs.Refusals.{number_of};
 ghost use Rattle.voices.specs.Singing.{TrackedAll};
-ghost use Rattle.singers.specs.Singers.{VoiceIn, VoicesIn, outs, room_with, least_room, written_by, all_written, kept_interval, all_in_range, intervals_number, level_voice, chosen_voices, level_voices};
+ghost use Rattle.singers.specs.Singers.{VoiceIn, VoicesIn, outs, room_with, least_room, written_by, all_written, kept_interval, intervals_number, level_voice, chosen_voices, level_voices};
 ghost use Rattle.singers.specs.Voicing.{SangBy, AllSang};
 
+use refusals::Refusal;
 use rules::{FARTHEST, KEPT_SAMPLES, LONGEST_BLOCK};
 use voices::UNISON;
 
@@ -20,7 +22,7 @@ const WIDEST: u32 = 2 * UNISON;
 const NO_INTERVAL: u32 = WIDEST + 1;
 
 // So many voices may be chosen.
-const MOST_VOICES: u64 = 3;
+const MOST_VOICES: usize = 3;
 
 // A voice: its interval, how far its position lies behind the input, and its last output.
 #[repr(C)]
@@ -45,40 +47,24 @@ pub struct Voices {
 fn voice_right(j: u64, chosen: u64, v: Voice) -> bool
     ensures { Decides result (j < chosen → VoiceIn v) }
 {
-    if chosen <= j {
-        return true;
-    }
-    if v.interval > WIDEST {
-        return false;
-    }
-    v.behind <= FARTHEST
+    chosen <= j || (v.interval <= WIDEST && v.behind <= FARTHEST)
 }
 
 pub fn voices_right(vs: Voices) -> bool
     ensures { Decides result (VoicesIn vs) }
 {
-    if vs.count > MOST_VOICES {
-        return false;
-    }
-    if !voice_right(0, vs.count, vs.first) {
-        return false;
-    }
-    if !voice_right(1, vs.count, vs.second) {
-        return false;
-    }
-    voice_right(2, vs.count, vs.third)
+    vs.count <= MOST_VOICES as u64
+        && voice_right(0, vs.count, vs.first)
+        && voice_right(1, vs.count, vs.second)
+        && voice_right(2, vs.count, vs.third)
 }
 
 // The lesser of this room and that of a voice's output, where the voice is chosen.
+#[tactic(auto, unfolding(crate::specs::Singers::room_with))]
 fn room_with(j: u64, chosen: u64, places: usize, room: usize) -> usize
     ensures { result ≡ room_with j chosen places room }
 {
-    if j < chosen {
-        if places < room {
-            return places;
-        }
-    }
-    room
+    if j < chosen { places.min(room) } else { room }
 }
 
 // The least room of the lead's output and the chosen voices'.
@@ -101,7 +87,7 @@ fn sung(
     s: &[i16; KEPT_SAMPLES],
     n: usize,
 ) -> Voice
-    requires { (j < chosen → VoiceIn v) × SampleRate hertz × TrackedAll n periods.now notes.now × (length s.now ≡ kept_samples) × (n ≤ longest_block) }
+    requires { (j < chosen → VoiceIn v) × SampleRate hertz × TrackedAll n periods.now notes.now × (n ≤ longest_block) }
     ensures { SangBy j chosen hertz periods.now notes.now s.now n v result }
 {
     if chosen <= j {
@@ -119,11 +105,7 @@ fn sung(
         n,
         &mut out,
     );
-    Voice {
-        interval: v.interval,
-        behind: behind,
-        out: out,
-    }
+    Voice { behind, out, ..v }
 }
 
 // Each voice that is chosen sings, by itself.
@@ -135,28 +117,25 @@ pub fn all_sung(
     s: &[i16; KEPT_SAMPLES],
     n: usize,
 ) -> Voices
-    requires { VoicesIn vs × SampleRate hertz × TrackedAll n periods.now notes.now × (length s.now ≡ kept_samples) × (n ≤ longest_block) }
+    requires { VoicesIn vs × SampleRate hertz × TrackedAll n periods.now notes.now × (n ≤ longest_block) }
     ensures { AllSang hertz periods.now notes.now s.now n vs result }
 {
-    let first = sung(0, vs.count, vs.first, hertz, periods, notes, s, n);
-    let second = sung(1, vs.count, vs.second, hertz, periods, notes, s, n);
-    let third = sung(2, vs.count, vs.third, hertz, periods, notes, s, n);
     Voices {
-        count: vs.count,
-        first: first,
-        second: second,
-        third: third,
+        first: sung(0, vs.count, vs.first, hertz, periods, notes, s, n),
+        second: sung(1, vs.count, vs.second, hertz, periods, notes, s, n),
+        third: sung(2, vs.count, vs.third, hertz, periods, notes, s, n),
+        ..vs
     }
 }
 
 // The output that a chosen voice keeps is written.
+#[tactic(auto, unfolding(crate::specs::Singers::written_by))]
 fn give(j: u64, chosen: u64, v: Voice, n: usize, out: &mut [i16])
     requires { (n ≤ longest_block) × (j < chosen → n ≤ length out.old) }
     ensures { out.new ≡ written_by j chosen n v out.old }
 {
     if j < chosen {
-        let kept = v.out;
-        copying::give(&kept, out, n);
+        copying::give(&v.out, out, n);
     }
 }
 
@@ -171,52 +150,45 @@ pub fn give_all(vs: Voices, n: usize, first: &mut [i16], second: &mut [i16], thi
 }
 
 // An interval in semitones as it is kept.
+#[tactic(auto, unfolding(crate::specs::Singers::kept_interval))]
 pub fn kept_interval(z: i32) -> u32
     ensures { result ≡ kept_interval z }
 {
-    if z < -12 {
-        return NO_INTERVAL;
+    if z < -12 || 12 < z {
+        NO_INTERVAL
+    } else {
+        (12 + z) as u32
     }
-    if 12 < z {
-        return NO_INTERVAL;
-    }
-    (12 + z) as u32
 }
 
 fn all_in_range(intervals: &[i32]) -> bool
-    ensures { result ≡ all_in_range intervals.now }
+    ensures { Decides result ((i : ℕ) → i < length intervals.now → kept_interval (get_or intervals.now i (pos 0)) ≤ 24) }
 {
-    let mut i: usize = 0;
-    while i < intervals.len() {
-        if kept_interval(intervals[i]) > WIDEST {
-            return false;
-        }
-        i += 1;
-    }
-    true
+    intervals.iter().all(|z| kept_interval(*z) <= WIDEST)
 }
 
-// The number that intervals are answered: 18, then 19; 0 where they are taken.
-pub fn intervals_number(intervals: &[i32]) -> u32
-    ensures { result ≡ intervals_number intervals.now }
+// Whether these intervals may be chosen: the range is tested first, then how many there are.
+pub fn check_intervals(intervals: &[i32]) -> Result<(), Refusal>
+    ensures { number_of result ≡ intervals_number intervals.now }
 {
     if !all_in_range(intervals) {
-        return 18;
+        return Err(Refusal::IntervalOutOfRange);
     }
-    if intervals.len() > 3 {
-        return 19;
+    if intervals.len() > MOST_VOICES {
+        return Err(Refusal::TooManyVoices);
     }
-    0
+    Ok(())
 }
 
 // A voice level with the input, that kept no output.
+#[tactic(auto, unfolding(crate::specs::Singers::level_voice))]
 fn level_voice(interval: u32) -> Voice
     ensures { result ≡ level_voice interval }
 {
     Voice {
-        interval: interval,
+        interval,
         behind: 0,
-        out: [0i16; LONGEST_BLOCK],
+        out: [0; LONGEST_BLOCK],
     }
 }
 
@@ -224,37 +196,33 @@ fn level_voice(interval: u32) -> Voice
 fn chosen_voice(intervals: &[i32], j: usize) -> Voice
     ensures { result ≡ level_voice (kept_interval (get_or intervals.now j (pos 0))) }
 {
-    if j < intervals.len() {
-        return level_voice(kept_interval(intervals[j]));
+    match intervals.get(j) {
+        Some(z) => level_voice(kept_interval(*z)),
+        None => level_voice(UNISON),
     }
-    level_voice(UNISON)
 }
 
+#[tactic(auto, unfolding(crate::specs::Singers::chosen_voices))]
 pub fn chosen_voices(intervals: &[i32]) -> Voices
     ensures { result ≡ chosen_voices intervals.now }
 {
-    let first = chosen_voice(intervals, 0);
-    let second = chosen_voice(intervals, 1);
-    let third = chosen_voice(intervals, 2);
     Voices {
         count: intervals.len() as u64,
-        first: first,
-        second: second,
-        third: third,
+        first: chosen_voice(intervals, 0),
+        second: chosen_voice(intervals, 1),
+        third: chosen_voice(intervals, 2),
     }
 }
 
 // The same voices, each level.
+#[tactic(auto, unfolding(crate::specs::Singers::level_voices))]
 pub fn level_voices(vs: Voices) -> Voices
     ensures { result ≡ level_voices vs }
 {
-    let first = level_voice(vs.first.interval);
-    let second = level_voice(vs.second.interval);
-    let third = level_voice(vs.third.interval);
     Voices {
-        count: vs.count,
-        first: first,
-        second: second,
-        third: third,
+        first: level_voice(vs.first.interval),
+        second: level_voice(vs.second.interval),
+        third: level_voice(vs.third.interval),
+        ..vs
     }
 }

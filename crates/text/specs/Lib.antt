@@ -1,5 +1,4 @@
 pub mod Fields
-pub mod Long
 pub mod Places
 pub mod ReadBack
 pub mod Reading

@@ -1,15 +1,14 @@
 -- Places in a text: where a byte stands first, and text that is put at a place.
-use Rattle.std.specs.Prelude.{◌≡◌, refl, Bool, cond, List, [], ◌∷◌, ◌++◌, ℕ, suc, ◌+◌, ◌≤◌, ◌<◌, length, get_or, take, drop, set}
-use Rattle.std.proofs.Common.{sym, ap, ◌∙◌, subst, append_assoc, append-nil, add-zero, add-one, arith, length-append, length-drop, take-append-drop, take_at, drop-drop, length-take-le, take-suc}
-use Rattle.std.proofs.Math.Option.{Option, none, some}
-use Rattle.std.proofs.Math.Decide.{ℕ_discrete}
+use Rattle.std.specs.Prelude.{◌≡◌, refl, not, ◌==◌, Some, None, List, [], ◌∷◌, ◌++◌, ℕ, suc, ◌+◌, ◌-◌, ◌≤◌, ◌<◌, length, get_or, take, drop, set}
+use Rattle.std.proofs.Common.{sym, ap, ◌∙◌, append_assoc, append-nil, add-zero, add-one, arith, length-append, length-drop, take-append-drop, take_at, drop-drop, length-take-le, take-suc, get_or-drop, eq-eqb, eqb-true}
+use Rattle.std.specs.List.{position, position_or_len}
+use Rattle.std.proofs.lemmas.List.Quantifiers.{position-Some}
+use Rattle.std.proofs.lemmas.List.Sums.{prefix_len_passes}
+use Rattle.std.proofs.lemmas.Bool.{false≢true}
+use Rattle.std.proofs.lemmas.Bool.Decides.{nat_tests}
 use Rattle.std.proofs.Math.Seq.{drop-append-add, append_snoc}
 use Rattle.std.proofs.lemmas.List.{set_split, set_at}
 use Rattle.text.specs.Text.{put, Put}
-
--- a value, where ok
-abbrev pub optional : {A : Type 0} → Bool → A → Option A
-optional ok v = cond ok (some v) none
 
 -- the first place from `from` on where b stands, or the length
 pub record First (a : List ℕ) (from b r : ℕ) : Type 0 where
@@ -17,6 +16,31 @@ pub record First (a : List ℕ) (from b r : ℕ) : Type 0 where
   pub within : r ≤ length a
   pub none_before : (k : ℕ) → from ≤ k → k < r → get_or a k 0 ≡ b → ⊥
   pub stands : r < length a → get_or a r 0 ≡ b
+
+-- as `position` finds it in what stands from there on
+module _ (a : List ℕ) (from b : ℕ) (h : from ≤ length a) where
+  pub first_at : (k : ℕ) → position (λ (x : ℕ). x == b) (drop from a) ≡ Some k → First a from b (from + k)
+  first_at k e =
+      let p = position-Some (λ (x : ℕ). x == b) (drop from a) k 0 e in
+      record {
+        after = omega arith;
+        within = omega (arith, p.0, length-drop from a);
+        none_before = λ j l m z. let w : from + (j - from) ≡ j = omega arith in false≢true (sym (p.2 (j - from) (omega arith)) ∙ eq-eqb _ b (get_or-drop from a (j - from) 0 ∙ ap (λ (n : ℕ). get_or a n 0) w ∙ z));
+        stands = λ l. sym (get_or-drop from a k 0) ∙ eqb-true _ b p.1;
+      }
+
+  pub first_nowhere : position (λ (x : ℕ). x == b) (drop from a) ≡ None → First a from b (length a)
+  first_nowhere e =
+      let all : length (drop from a) ≤ position_or_len (λ (x : ℕ). x == b) (drop from a) = grind (arith, nat_tests) in
+      record {
+        after = h;
+        within = omega arith;
+        none_before = λ j l m z.
+            let w : from + (j - from) ≡ j = omega arith in
+            let p = prefix_len_passes (λ (x : ℕ). not (x == b)) (drop from a) (j - from) 0 (omega (arith, all, length-drop from a)) in
+            false≢true (ap not (sym (eq-eqb _ b (get_or-drop from a (j - from) 0 ∙ ap (λ (n : ℕ). get_or a n 0) w ∙ z))) ∙ p);
+        stands = λ l. absurd (omega arith);
+      }
 
 -- ---- text put at a place
 
@@ -83,11 +107,3 @@ put_byte {s} {at} b {t} h q = put_then (record { text = put_one s at b h; next =
 -- a byte was put after a text
 pub put-end : {s : List ℕ} {at : ℕ} {t s' : List ℕ} {r : ℕ} (b : ℕ) → Put s at t s' r → at + length t < length s → Put s at (t ++ (b ∷ [])) (set s' r b) (r + 1)
 put-end {s' = s'} {r} b p h = put_then p (record { text = put_one s' r b (omega (arith, p.next, put-length p (omega arith))); next = refl }) (omega arith)
-
--- what holds at each place passed, and at the next, holds at each one passed then
-pub passed-more : {P : ℕ → Type 0} {from : ℕ} (i : ℕ) → ((k : ℕ) → from ≤ k → k < i → P k) → P i → (k : ℕ) → from ≤ k → k < i + 1 → P k
-passed-more {P} i before here k h l = by_place (ℕ_discrete k i)
-  where
-    by_place : Dec (k ≡ i) → P k
-    by_place (yes e) = subst P (sym e) here
-    by_place (no n) = before k h (omega arith)

@@ -1,14 +1,14 @@
 -- Laws of numbers that are written digit by digit, from the last on.
-use Rattle.std.specs.Prelude.{◌≡◌, refl, ltb, ℤ, pos, negsuc, length, get_or, take}
+use Rattle.std.specs.Prelude.{◌≡◌, refl, ltb, Option, Some, None, IfSome, IfNone, unwrap_or, ℤ, pos, negsuc, length, get_or, take}
 use Rattle.std.proofs.Math.Path.{sym, ap}
-use Rattle.std.proofs.Common.{◌∙◌, subst, add-zero, add-one, length-append, take-suc, length-take-le}
+use Rattle.std.proofs.Common.{◌∙◌, subst, add-zero, add-one, length-append, take-suc, length-take-le, pow-suc, lt-ltb, le-ltb, min, ◌^◌}
 use mathlib.Core.List.{List, [], ◌∷◌, ◌++◌, append-nil, append_assoc}
 use Prim.Native.Nat.{ℕ, zero, suc, ◌+◌, ◌*◌, ◌/◌, ◌%◌, ◌≤◌, ◌<◌}
 use native.Mathlib.Omega.{arith}
 use Rattle.std.proofs.Math.ListN.{set}
 use Rattle.std.proofs.Math.Seq.{append_snoc}
-use Rattle.whole.specs.Tests.{cond_case}
-use Rattle.text.specs.Text.{digits, places, decimal, signed, sample_fields, put, Put}
+use Rattle.whole.specs.Tests.{cond_case, cond_yes, cond_no}
+use Rattle.text.specs.Text.{digits, places_within, decimal, long_decimal, signed, sample_fields, put, Put}
 use Rattle.text.specs.Places.{put-none, put-before, put_then}
 
 pub digits-length : (k n : ℕ) → length (digits k n) ≡ k
@@ -44,20 +44,43 @@ module _ {s : List ℕ} {at n k : ℕ} where
   spelt p = p.text ∙ (λ i. put s (add-zero at i) (p.so_far i))
 
 -- ---- how many
-pub places-few : (n : ℕ) → places n ≤ 5
-unfolding places
-places-few n =
-    cond_case (ltb n 10) 1 _ (λ (k : ℕ). k ≤ 5) (λ e. omega arith)
-    (λ e. cond_case (ltb n 100) 2 _ (λ (k : ℕ). k ≤ 5) (λ e. omega arith)
-    (λ e. cond_case (ltb n 1000) 3 _ (λ (k : ℕ). k ≤ 5) (λ e. omega arith)
-    (λ e. cond_case (ltb n 10000) 4 5 (λ (k : ℕ). k ≤ 5) (λ e. omega arith) (λ e. omega arith))))
+pub places_few : (k n : ℕ) → places_within k n ≤ suc k
+unfolding places_within
+places_few zero n = omega arith
+places_few (suc k) n = cond_case (ltb n 10) 1 (suc (places_within k (n / 10))) (λ (m : ℕ). m ≤ suc (suc k)) (λ e. omega arith) (λ e. omega (arith, places_few k (n / 10)))
 
-pub decimal-length : (n : ℕ) → length (decimal n) ≡ places n
+pub decimal-length : (n : ℕ) → length (decimal n) ≡ places_within 4 n
 unfolding decimal
-decimal-length n = digits-length (places n) n
+decimal-length n = digits-length (places_within 4 n) n
 
 pub decimal-short : (n : ℕ) → length (decimal n) ≤ 5
-decimal-short n = omega (arith, decimal-length n, places-few n)
+decimal-short n = omega (arith, decimal-length n, places_few 4 n)
+
+pub long-length : (n : ℕ) → length (long_decimal n) ≡ places_within 19 n
+unfolding long_decimal
+long-length n = digits-length (places_within 19 n) n
+
+pub long-short : (n : ℕ) → length (long_decimal n) ≤ 20
+long-short n = omega (arith, long-length n, places_few 19 n)
+
+-- by the logarithm: 10 ^ m is the largest power that is not above the number
+some_power : (m : ℕ) → 0 < 10 ^ m
+some_power zero = omega arith
+some_power (suc m) = omega (arith, pow-suc 10 m, some_power m)
+
+pub places-log : (k n m : ℕ) → n < 10 * 10 ^ m → (0 < m → 10 ^ m ≤ n) → places_within k n ≡ min (suc k) (1 + m)
+unfolding places_within
+places-log zero n m h l = omega arith
+places-log (suc k) n zero h l = cond_yes 1 (suc (places_within k (n / 10))) (lt-ltb n 10 (omega arith)) ∙ omega arith
+places-log (suc k) n (suc m) h l =
+    let p = pow-suc 10 m in
+    let q = l (omega arith) in
+    cond_no 1 (suc (places_within k (n / 10))) (le-ltb n 10 (omega (arith, some_power m)))
+    ∙ omega (arith, places-log k (n / 10) m (omega arith) (λ z. omega arith))
+
+pub places_from_log : (k n : ℕ) (o : Option ℕ) → IfNone o (n ≡ 0) → IfSome o (λ (m : ℕ). 10 ^ m ≤ n) → IfSome o (λ (m : ℕ). n < 10 * 10 ^ m) → places_within k n ≡ min (suc k) (1 + unwrap_or o 0)
+places_from_log k n None z l h = places-log k n 0 (omega (arith, z)) (λ p. absurd (omega arith))
+places_from_log k n (Some m) z l h = places-log k n m h (λ p. l)
 
 pub signed-short : (x : ℤ) → length (signed x) ≤ 6
 unfolding signed

@@ -1,6 +1,5 @@
 -- Lines as text, in document 01's words: fields parted by one tab, decimal numbers as they are read and as they are printed, text put at a place. Definitions only.
-use Rattle.std.specs.Prelude.{◌≡◌, Bool, cond, ◌&&◌, List, [], ◌∷◌, ◌++◌, ℕ, zero, suc, ◌+◌, ◌-◌, ◌*◌, ◌/◌, ◌%◌, leb, ltb, eqb, ℤ, pos, negsuc, neg_ℤ, length, take, drop}
-use Rattle.std.proofs.Math.Option.{Option, none, some, map, bind}
+use Rattle.std.specs.Prelude.{◌≡◌, Bool, cond, ◌&&◌, List, [], ◌∷◌, ◌++◌, ℕ, zero, suc, ◌+◌, ◌-◌, ◌*◌, ◌/◌, ◌%◌, leb, ltb, eqb, ℤ, pos, negsuc, neg_ℤ, length, take, drop, Option, Some, None, option_map, option_and_then}
 
 -- ---- fields
 
@@ -21,22 +20,22 @@ is_digit b = leb 48 b && leb b 57
 
 -- a digit more after the number v: none where the byte is no digit or the number is over `most`
 unfoldable pub one_more : ℕ → ℕ → ℕ → Option ℕ
-one_more most v b = let n = 10 * v + (b - 48) in cond (is_digit b && leb n most) (some n) none
+one_more most v b = let n = 10 * v + (b - 48) in cond (is_digit b && leb n most) (Some n) None
 
 -- the digits of a number after what was read of it
 unfoldable pub more_digits : ℕ → List ℕ → Option ℕ → Option ℕ
 more_digits most [] read = read
-more_digits most (b ∷ bs) read = more_digits most bs (bind read (λ (v : ℕ). one_more most v b))
+more_digits most (b ∷ bs) read = more_digits most bs (option_and_then (λ (v : ℕ). one_more most v b) read)
 
 -- a whole number, at most `most`: digits, at least one; leading zeros are allowed
 unfoldable pub number : ℕ → List ℕ → Option ℕ
-number most [] = none
-number most (b ∷ bs) = more_digits most (b ∷ bs) (some 0)
+number most [] = None
+number most (b ∷ bs) = more_digits most (b ∷ bs) (Some 0)
 
 -- a sample: 16 bits, minus allowed
 unfoldable pub sample : List ℕ → Option ℤ
-sample [] = none
-sample (b ∷ bs) = cond (eqb b 45) (map (λ (n : ℕ). neg_ℤ (pos n)) (number 32768 bs)) (map (λ (n : ℕ). pos n) (number 32767 (b ∷ bs)))
+sample [] = None
+sample (b ∷ bs) = cond (eqb b 45) (option_map (λ (n : ℕ). neg_ℤ (pos n)) (number 32768 bs)) (option_map (λ (n : ℕ). pos n) (number 32767 (b ∷ bs)))
 
 -- ---- numbers printed
 
@@ -45,18 +44,14 @@ unfoldable pub digits : ℕ → ℕ → List ℕ
 digits zero n = []
 digits (suc k) n = digits k (n / 10) ++ ((48 + n % 10) ∷ [])
 
--- how many digits a number below 100,000 has
-unfoldable pub places : ℕ → ℕ
-places n = cond (ltb n 10) 1 (cond (ltb n 100) 2 (cond (ltb n 1000) 3 (cond (ltb n 10000) 4 5)))
-
--- a number below 100,000 in decimal
-unfoldable pub decimal : ℕ → List ℕ
-decimal n = digits (places n) n
-
--- how many digits a number has that has at most k + 1
+-- how many digits a number has, k + 1 at most
 unfoldable pub places_within : ℕ → ℕ → ℕ
 places_within zero n = 1
 places_within (suc k) n = cond (ltb n 10) 1 (suc (places_within k (n / 10)))
+
+-- a number below 100,000 in decimal
+unfoldable pub decimal : ℕ → List ℕ
+decimal n = digits (places_within 4 n) n
 
 -- a number of at most 20 digits in decimal
 unfoldable pub long_decimal : ℕ → List ℕ

@@ -2,180 +2,108 @@
 
 #![tactic(auto)]
 
-ghost use Rattle.std.specs.Prelude.{◌≡◌, false, ◌∷◌, pos, neg_ℤ, nat_abs, ◌+◌, ◌*◌, ◌%◌, ◌≤◌, ◌<◌, length, take};
-ghost use Rattle.whole.specs.Tests.{Decides};
-ghost use Rattle.text.specs.Text.{one_more, number, sample, places, digits, decimal, places_within, long_decimal, signed, sample_fields, put, Put};
-ghost use Rattle.text.specs.Places.{First, optional};
-
-// A number, where ok.
-#[derive(Clone, Copy)]
-pub struct Number {
-    pub ok: bool,
-    pub value: u32,
-}
-
-// A sample, where ok.
-#[derive(Clone, Copy)]
-pub struct Sample {
-    pub ok: bool,
-    pub value: i16,
-}
+ghost use Rattle.std.specs.Prelude.{◌≡◌, List, [], ◌∷◌, ◌++◌, ℕ, ◌+◌, ◌-◌, ◌*◌, ◌≤◌, ◌<◌, length, IfSome};
+ghost use Rattle.text.specs.Text.{fields, one_more, number, sample, places_within, digits, decimal, long_decimal, signed, sample_fields, put, Put};
+ghost use Rattle.std.specs.Iterator.{YieldsFirstRef, item_count};
+ghost use Rattle.text.specs.Places.{First};
+ghost use Rattle.text.specs.Fields.{left};
 
 // The first place from `from` on where the byte b stands; the length where it stands nowhere.
 pub fn first(a: &[u8], from: usize, b: u8) -> usize
     requires { from ≤ length a.now }
     ensures { First a.now from b result }
 {
-    let mut i = from;
-    while i < a.len() {
-        if a[i] == b {
-            return i;
-        }
-        i += 1;
+    match a[from..].iter().position(|x| *x == b) {
+        Some(k) => from + k,
+        None => a.len(),
     }
-    i
 }
 
-// Two texts are the same.
-pub fn same(a: &[u8], b: &[u8]) -> bool
-    ensures { Decides result (a.now ≡ b.now) }
-{
-    if a.len() != b.len() {
-        return false;
-    }
-    let mut i: usize = 0;
-    while i < a.len() {
-        if a[i] != b[i] {
-            return false;
-        }
-        i += 1;
-    }
-    true
+// The fields of a line that are left, parted by one tab.
+#[derive(Drop)]
+pub struct Fields<'a> {
+    rest: Option<&'a [u8]>,
 }
 
-fn no_number() -> Number
-    ensures { result ≡ record { ok = false; value = 0 } }
-{
-    Number {
-        ok: false,
-        value: 0,
+impl<'a> Fields<'a> {
+    // Those of a line.
+    pub fn new(line: &'a [u8]) -> Fields<'a>
+        ensures { left result ≡ fields line.now }
+    {
+        Fields { rest: Some(line) }
+    }
+}
+
+impl<'a> Iterator for Fields<'a> {
+    type Item = &'a [u8];
+
+    ghost next_gives = { YieldsFirstRef left };
+
+    ghost remaining = { item_count left };
+
+    fn next(&mut self) -> Option<&'a [u8]> {
+        let rest = self.rest?;
+        let end = first(rest, 0, b'\t');
+        self.rest = rest.get(end + 1..);
+        Some(&rest[..end])
     }
 }
 
 // A digit more after the number v.
-fn one_more(v: u32, b: u8, most: u32) -> Number
-    ensures { (optional result.ok result.value ≡ one_more most v b) × (result.value ≤ most) }
+#[tactic(auto, using(std::proofs::lemmas::Bool::Decides::nat_tests), unfolding(crate::specs::Text::one_more))]
+fn one_more(v: u32, b: u8, most: u32) -> Option<u32>
+    ensures value { result ≡ one_more most v b }
+    ensures small { IfSome result (λ n. n ≤ most) }
 {
-    if b < 48 {
-        return no_number();
+    if !b.is_ascii_digit() {
+        return None;
     }
-    if b > 57 {
-        return no_number();
+    let n = 10 * u64::from(v) + u64::from(b - b'0');
+    if n > u64::from(most) {
+        return None;
     }
-    let n = 10 * (v as u64) + ((b - 48) as u64);
-    if n > most as u64 {
-        return no_number();
-    }
-    Number {
-        ok: true,
-        value: n as u32,
-    }
+    Some(n as u32)
 }
 
 // A whole number, at most `most`.
-pub fn read_number(f: &[u8], most: u32) -> Number
-    ensures { (optional result.ok result.value ≡ number most f.now) × (result.value ≤ most) }
+pub fn read_number(f: &[u8], most: u32) -> Option<u32>
+    ensures value { result ≡ number most f.now }
+    ensures small { IfSome result (λ n. n ≤ most) }
 {
-    if f.len() == 0 {
-        return no_number();
+    if f.is_empty() {
+        return None;
     }
-    let mut v: u32 = 0;
-    let mut i: usize = 0;
-    while i < f.len() {
-        let d = one_more(v, f[i], most);
-        if !d.ok {
-            return no_number();
-        }
-        v = d.value;
-        i += 1;
+    let mut v = 0;
+    for b in f {
+        v = one_more(v, *b, most)?;
     }
-    Number { ok: true, value: v }
-}
-
-fn no_sample() -> Sample
-    ensures { result ≡ record { ok = false; value = pos 0 } }
-{
-    Sample {
-        ok: false,
-        value: 0,
-    }
-}
-
-// The number n below 0.
-fn below(n: u32) -> i16
-    requires { n ≤ 32768 }
-    ensures { result ≡ neg_ℤ (pos n) }
-{
-    (0 - n as i32) as i16
-}
-
-fn above(n: u32) -> i16
-    requires { n ≤ 32767 }
-    ensures { result ≡ pos n }
-{
-    n as i16
+    Some(v)
 }
 
 // A sample: 16 bits, minus allowed.
-pub fn read_sample(f: &[u8]) -> Sample
-    ensures { optional result.ok result.value ≡ sample f.now }
+pub fn read_sample(f: &[u8]) -> Option<i16>
+    ensures { result ≡ sample f.now }
 {
-    if f.len() == 0 {
-        return no_sample();
-    }
-    if f[0] == 45 {
-        let d = read_number(&f[1..], 32768);
-        if !d.ok {
-            return no_sample();
+    match f.strip_prefix(b"-") {
+        Some(digits) => {
+            let n = read_number(digits, 32768)?;
+            Some(-(n as i32) as i16)
         }
-        return Sample {
-            ok: true,
-            value: below(d.value),
-        };
-    }
-    let d = read_number(f, 32767);
-    if !d.ok {
-        return no_sample();
-    }
-    Sample {
-        ok: true,
-        value: above(d.value),
+        None => {
+            let n = read_number(f, 32767)?;
+            Some(n as i16)
+        }
     }
 }
 
-// How many digits a number below 100,000 has.
-fn places(n: u32) -> usize
-    ensures { (result ≡ places n) × (result ≤ 5) }
+// How many digits a number has, counted up to `most`.
+fn places(n: u64, most: usize) -> usize
+    requires { 0 < most }
+    ensures value { result ≡ places_within (most - 1) n }
+    ensures few { result ≤ most }
 {
-    if n < 10 {
-        return 1;
-    }
-    if n < 100 {
-        return 2;
-    }
-    if n < 1000 {
-        return 3;
-    }
-    if n < 10000 {
-        return 4;
-    }
-    5
-}
-
-fn digit(n: u64) -> u8
-    ensures { result ≡ 48 + n % 10 }
-{
-    48 + (n % 10) as u8
+    let more = n.checked_ilog10().unwrap_or(0) as usize;
+    most.min(1 + more)
 }
 
 // Writes the last k digits of n from a place on.
@@ -184,105 +112,98 @@ fn spell(out: &mut [u8], at: usize, n: u64, k: usize)
     ensures { out.new ≡ put out.old at (digits k n) }
 {
     let mut rest = n;
-    let mut i = k;
-    while i > 0 {
-        i -= 1;
-        out[at + i] = digit(rest);
+    for i in (at..at + k).rev() {
+        out[i] = b'0' + (rest % 10) as u8;
         rest /= 10;
     }
 }
 
-// Writes a number below 100,000, and answers the place after it.
-pub fn put_number(out: &mut [u8], at: usize, n: u32) -> usize
-    requires { at + 5 ≤ length out.old }
-    ensures { Put out.old at (decimal n) out.new result }
-{
-    let k = places(n);
-    spell(out, at, n as u64, k);
-    at + k
+// What is written in decimal: its text, and the room that it may need.
+pub trait Decimal {
+    ghost text: { Self → List ℕ };
+
+    ghost room: { ℕ };
+
+    // Writes it at a place, and answers the place after it.
+    fn put(self, out: &mut [u8], at: usize) -> usize
+        requires { at + room ≤ length out.old }
+        ensures put { Put out.old at (text self) out.new result }
+        ensures within { result ≤ at + room };
 }
 
-// Writes a tab and a number below 100,000.
-pub fn put_field(out: &mut [u8], at: usize, n: u32) -> usize
-    requires { at + 6 ≤ length out.old }
-    ensures { Put out.old at (9 ∷ decimal n) out.new result }
-{
-    out[at] = 9;
-    put_number(out, at + 1, n)
-}
+// A number below 100,000.
+impl Decimal for u32 {
+    ghost text = { decimal };
 
-// How many digits a number has.
-fn long_places(n: u64) -> usize
-    ensures { (result ≡ places_within 19 n) × (result ≤ 20) }
-{
-    let mut rest = n;
-    let mut k: usize = 1;
-    while rest > 9 {
-        rest /= 10;
-        k += 1;
+    ghost room = { 5 };
+
+    fn put(self, out: &mut [u8], at: usize) -> usize {
+        let n = u64::from(self);
+        let k = places(n, 5);
+        spell(out, at, n, k);
+        at + k
     }
-    k
 }
 
-// Writes any number, and answers the place after it.
-pub fn put_long(out: &mut [u8], at: usize, n: u64) -> usize
-    requires { at + 20 ≤ length out.old }
-    ensures { Put out.old at (long_decimal n) out.new result }
-{
-    let k = long_places(n);
-    spell(out, at, n, k);
-    at + k
-}
+// Any number.
+impl Decimal for u64 {
+    ghost text = { long_decimal };
 
-// Writes a tab and any number.
-pub fn put_long_field(out: &mut [u8], at: usize, n: u64) -> usize
-    requires { at + 21 ≤ length out.old }
-    ensures { Put out.old at (9 ∷ long_decimal n) out.new result }
-{
-    out[at] = 9;
-    put_long(out, at + 1, n)
-}
+    ghost room = { 20 };
 
-// A sample without its sign.
-fn size(x: i16) -> u32
-    ensures { result ≡ nat_abs x }
-{
-    let v = x as i32;
-    if v < 0 { (0 - v) as u32 } else { v as u32 }
-}
-
-// Writes a sample.
-fn put_signed(out: &mut [u8], at: usize, x: i16) -> usize
-    requires { at + 6 ≤ length out.old }
-    ensures { Put out.old at (signed x) out.new result }
-{
-    let n = size(x);
-    if x < 0 {
-        out[at] = 45;
-        return put_number(out, at + 1, n);
+    fn put(self, out: &mut [u8], at: usize) -> usize {
+        let k = places(self, 20);
+        spell(out, at, self, k);
+        at + k
     }
-    put_number(out, at, n)
 }
 
-// Writes a tab and a sample.
-fn put_sample(out: &mut [u8], at: usize, x: i16) -> usize
-    requires { at + 7 ≤ length out.old }
-    ensures { Put out.old at (9 ∷ signed x) out.new result }
+// A sample.
+impl Decimal for i16 {
+    ghost text = { signed };
+
+    ghost room = { 6 };
+
+    fn put(self, out: &mut [u8], at: usize) -> usize {
+        let size = u32::from(self.unsigned_abs());
+        if self < 0 {
+            out[at] = b'-';
+            return size.put(out, at + 1);
+        }
+        size.put(out, at)
+    }
+}
+
+// Writes a tab and a number.
+pub fn put_field<N: Decimal>(out: &mut [u8], at: usize, n: N) -> usize
+    requires { at + 1 + N.room ≤ length out.old }
+    ensures put { Put out.old at (9 ∷ N.text n) out.new result }
+    ensures within { result ≤ at + 1 + N.room }
 {
-    out[at] = 9;
-    put_signed(out, at + 1, x)
+    out[at] = b'\t';
+    n.put(out, at + 1)
 }
 
-// Writes the first n samples, a tab before each.
-pub fn put_samples(out: &mut [u8], at: usize, xs: &[i16], n: usize) -> usize
-    requires { (n ≤ length xs.now) × (at + 7 * n ≤ length out.old) }
-    ensures { Put out.old at (sample_fields (take n xs.now)) out.new result }
+// Writes a number and the line's end.
+pub fn put_line<N: Decimal>(out: &mut [u8], at: usize, n: N) -> usize
+    requires { at + N.room + 1 ≤ length out.old }
+    ensures put { Put out.old at (N.text n ++ (10 ∷ [])) out.new result }
+    ensures within { result ≤ at + N.room + 1 }
+{
+    let end = n.put(out, at);
+    out[end] = b'\n';
+    end + 1
+}
+
+// Writes samples, a tab before each.
+pub fn put_samples(out: &mut [u8], at: usize, xs: &[i16]) -> usize
+    requires { at + 7 * length xs.now ≤ length out.old }
+    ensures put { Put out.old at (sample_fields xs.now) out.new result }
+    ensures within { result ≤ at + 7 * length xs.now }
 {
     let mut to = at;
-    let mut i: usize = 0;
-    while i < n {
-        to = put_sample(out, to, xs[i]);
-        i += 1;
+    for x in xs {
+        to = put_field(out, to, *x);
     }
     to
 }

@@ -23,13 +23,17 @@ use Rattle.steps.specs.declared.Progress.{Progress}
 use Rattle.steps.specs.Running.{take_so_far, Tones, Ready, Ran, Ended}
 use Rattle.steps.specs.Going.{first}
 use Rattle.record.specs.Records.{sound_of, made, heard_after}
-use Rattle.record.specs.Parts.{Stores}
 use Rattle.record.specs.Kept.{same-sound, newest-right, made-length, after-eighths}
 use Rattle.tuner.specs.declared.Tuner.{Tuner}
-use Rattle.tuner.specs.Tuners.{take_of, force_of, heard_by, Good}
+use Rattle.tuner.specs.Tuners.{take_of, force_of, Good}
 use Rattle.tuner.specs.Afters.{Led, begins_at}
 
-module _ (t : Tuner) (g : Good t) (st : Stores (heard_by t)) {xs s y : List ℤ} (j : Joined t.heard xs 2276 s) (k : Joined t.eighths [] 288 y) where
+-- how long the two stores of samples are
+pub record StoresLong (t : Tuner) : Type 0 where
+  pub store : length t.heard ≡ 1764
+  pub eighths : length t.eighths ≡ 224
+
+module _ (t : Tuner) (g : Good t) (st : StoresLong t) {xs s y : List ℤ} (j : Joined t.heard xs 2276 s) (k : Joined t.eighths [] 288 y) where
   sound-before : ago s 1764 ≡ sound_of t.heard
   sound-before = ap (ago s) (sym st.store) ∙ joined_old j
 

@@ -1,7 +1,7 @@
 -- Laws of the outputs: the least room is the room of each that is asked for, and what is written is written one by one.
 use Rattle.std.specs.Prelude.{◌≡◌, List, [], ◌∷◌, ◌++◌, ℤ, pos, ◌-ℤ◌, length, take, drop}
 use Rattle.std.proofs.Math.Path.{refl}
-use Rattle.std.proofs.Common.{sym, ap, subst, ◌∙◌, arith, length-append, length-take, length-drop, take-take, drop-drop}
+use Rattle.std.proofs.Common.{sym, ap, subst, ◌∙◌, arith, length-append, length-drop, take-take, drop-drop}
 use Prim.Native.Nat.{ℕ, zero, suc, ◌+◌, ◌-◌, ◌*◌, ◌≤◌, ◌<◌}
 use Rattle.std.proofs.lemmas.List.{length-replicate}
 use Rattle.rules.specs.Rules.{longest_block, input_at}
@@ -74,13 +74,10 @@ room_after t outs os n chosen long e f r =
     subst (λ (m : ℕ). Roomy m (parts (1 + chosen) outs) os) (sym e) (subst (λ (m : ℕ). Roomy n (parts (1 + m) outs) os) (sym f) (roomy_same n (1 + t.numbers.chosen) t.outs outs os r))
 
 -- a voice's part of what is kept
-pub voice_part : (kept : List ℤ) (j n : ℕ) → length kept ≡ 2048 → j < 3 → n ≤ 512 → (n ≤ length (take (length kept - 512 * (j + 1)) (drop (512 * (j + 1)) kept)))
-    × (take n (take (length kept - 512 * (j + 1)) (drop (512 * (j + 1)) kept)) ≡ take n (drop (512 * (1 + j)) kept))
-voice_part kept j n e h l =
-    let here : 512 * (j + 1) ≡ 512 * (1 + j) = omega arith in (
-      omega (arith, length-take (length kept - 512 * (j + 1)) (drop (512 * (j + 1)) kept), length-drop (512 * (j + 1)) kept),
-      take-take n (length kept - 512 * (j + 1)) (drop (512 * (j + 1)) kept) (omega arith) ∙ ap (λ (m : ℕ). take n (drop m kept)) here,
-    )
+pub voice_part : (kept : List ℤ) (j n : ℕ) → j < 3 → n ≤ 512 → take n (take (2048 - 512 * (j + 1)) (drop (512 * (j + 1)) kept)) ≡ take n (drop (512 * (1 + j)) kept)
+voice_part kept j n h l =
+    let here : 512 * (j + 1) ≡ 512 * (1 + j) = omega arith in
+    take-take n (2048 - 512 * (j + 1)) (drop (512 * (j + 1)) kept) (omega arith) ∙ ap (λ (m : ℕ). take n (drop m kept)) here
 
 pub least-room : (t : Tuner) (a b c d : List ℤ) → t.numbers.chosen ≤ 3 → LeastRoom t (four a b c d) (least_room t.numbers.chosen (length a) (length b) (length c) (length d))
 least-room t a b c d h = record { fits = λ n. fits-four a b c d t.outs n t.numbers.chosen h; least = λ n. least-four a b c d t.outs n t.numbers.chosen h }

@@ -1,10 +1,14 @@
 -- Laws of a start, a change, a reset and the meter: their numbers test by test, and that no second answer can meet their promises.
-use Rattle.std.specs.Prelude.{◌≡◌, refl, Bool, true, false, cond, ◌||◌, List, ℕ, ◌≤◌, ◌<◌, eqb, ltb, ℤ, length}
+use Rattle.std.specs.Prelude.{◌≡◌, refl, Result, Ok, Err, is_ok, Bool, true, false, cond, ◌||◌, List, ℕ, ◌≤◌, ◌<◌, eqb, ltb, ℤ, length}
 use Rattle.std.proofs.Common.{sym, ap, subst, ◌∙◌, arith, eq-eqb, ne_eqb, eqb-true, lt-ltb, ltb-true}
 use Rattle.std.proofs.lemmas.Bool.{eqb-false}
-use Rattle.whole.specs.Tests.{Decides, by, cond_yes, cond_no}
+use Rattle.whole.specs.Tests.{Decides, by, cond_yes, cond_no, yes_and_no}
+use Rattle.refusals.specs.declared.Refusal.{Refusal}
+use Rattle.refusals.specs.declared.Refusal.TheVariants.{RecordOutOfRange}
+use Rattle.refusals.specs.Refusals.{refusal_number, number_of}
+use Rattle.answers.proofs.Turns.{refused-above}
 use Rattle.rules.specs.declared.Settings.{Settings}
-use Rattle.rules.specs.Rules.{start_number, refuse}
+use Rattle.rules.specs.Rules.{start_number}
 use Rattle.lists.specs.Lists.{room}
 use Rattle.meters.specs.declared.Meter.{Meter}
 use Rattle.singers.specs.Singers.{intervals_number}
@@ -51,6 +55,11 @@ module _ (hertz : ℕ) (s : Settings) (listed : ℕ) (zs : List ℤ) (n : ℕ) w
   pub number-few : begin_number hertz s listed zs n ≡ 0 → length zs ≤ 3
   number-few e = (number-says zs (number-zero e).1).1
 
+-- what is not refused is answered 0
+pub ok_number : (r : Result Unit Refusal) → is_ok r ≡ true → number_of r ≡ 0
+ok_number (Ok _) e = refl
+ok_number (Err _) e = absurd (yes_and_no e refl)
+
 -- ---- no second answer
 
 pub started_one : {hertz : ℕ} {s : Settings} {listed : ℕ} {zs : List ℤ} {store : List ℕ} {t₁ t₂ : Tuner} {v₁ v₂ : ℕ} → Started hertz s listed zs store t₁ v₁ → Started hertz s listed zs store t₂ v₂ → (t₁ ≡ t₂) × (v₁ ≡ v₂)
@@ -84,17 +93,12 @@ module _ {own : ℕ} {t : Tuner} where
   pub done-taken : {taken t' : Tuner} → Good t → own ≡ 0 → t' ≡ taken → Done own t taken t' 0
   done-taken {taken} g e f = record { number = subst (λ (v : ℕ). NineThen own t v) e (record-good g); tuner = f }
 
-  -- where the record was tested, the number judged by that test
-  nine_then : {b : Bool} {v : ℕ} → Decides b (Good t) → v ≡ refuse 9 b own → NineThen own t v
-  nine_then {b} d e =
-      by b (λ y. subst (λ (w : ℕ). NineThen own t w) (sym (e ∙ cond_yes own 9 y)) (record-good (d.yes y)))
-      (λ n. subst (λ (w : ℕ). NineThen own t w) (sym (e ∙ cond_no own 9 n)) (record_out_of_range (d.no n)))
+  -- by the refusal of a record that was tested, and by the call's own
+  pub done-untested : {taken : Tuner} {e : Refusal} → (e ≡ RecordOutOfRange) × (Good t → ⊥) → Done own t taken t (refusal_number e)
+  done-untested {taken} p = subst (λ (e : Refusal). Done own t taken t (refusal_number e)) (sym p.0) (done-nine p.1)
 
-  pub judged_not : {taken : Tuner} {b : Bool} {v : ℕ} → Decides b (Good t) → v ≡ refuse 9 b own → (v ≡ 0 → ⊥) → Done own t taken t v
-  judged_not d e h = done_not (nine_then d e) h
-
-  pub judged-taken : {taken t' : Tuner} {b : Bool} {v : ℕ} → Decides b (Good t) → v ≡ refuse 9 b own → v ≡ 0 → t' ≡ taken → Done own t taken t' 0
-  judged-taken d e z f = record { number = subst (λ (w : ℕ). NineThen own t w) z (nine_then d e); tuner = f }
+  pub done-own : {taken : Tuner} (e : Refusal) → Good t → refusal_number e ≡ own → Done own t taken t (refusal_number e)
+  done-own {taken} e g f = done_refused g f (λ z. let h = refused-above e in omega arith)
 
 pub metered_one : {t : Tuner} {r r' : Meter} → Metered t r → Metered t r' → r ≡ r'
 metered_one (record_out_of_range n e) (record_out_of_range n' e') = e ∙ sym e'

@@ -12,7 +12,6 @@ use Rattle.rules.specs.Facts.{ForceIn}
 use Rattle.rules.proofs.Blocks.{given-length}
 use Rattle.rules.proofs.Position.{behind_in_bounds, tone-rate}
 use Rattle.rules.specs.Sane.{Sane}
-use Rattle.ages.specs.Ages.{Samples}
 use Rattle.copying.specs.Copies.{Joined}
 use Rattle.steps.specs.declared.Progress.{Progress}
 use Rattle.steps.specs.Running.{Tones, given, tones_given, Long512, Begins}
@@ -27,14 +26,12 @@ use Rattle.reports.specs.Reports.{figures_of}
 use Rattle.reports.specs.Counting.{one_pitched, pitched_in, distance_in}
 use Rattle.reports.proofs.Counting.{pitched-more, none-pitched, block-counted}
 use Rattle.record.specs.declared.Heard.{Heard}
-use Rattle.record.specs.Parts.{Stores}
-use Rattle.record.specs.Kept.{stores-after as still-long}
 use Rattle.tuner.specs.declared.Numbers.{Numbers}
 use Rattle.tuner.specs.declared.Tuner.{Tuner}
-use Rattle.tuner.specs.Tuners.{take_of, force_of, voice_at, heard_by, Good, kept_places, kept_out, last_of, stands_at, voice_beside, voice_out, outs_beside, list_after, after_block}
+use Rattle.tuner.specs.Tuners.{take_of, force_of, voice_at, Good, kept_places, kept_out, last_of, stands_at, voice_beside, voice_out, outs_beside, list_after, after_block}
 use Rattle.tuner.specs.Parted.{tuner_of}
 use Rattle.tuner.specs.Afters.{begins_at, Led}
-use Rattle.tuner.proofs.Afters.{begin_long, begin_ready, begin_take, block-is, led-is}
+use Rattle.tuner.proofs.Afters.{StoresLong, begin_long, begin_ready, begin_take, block-is, led-is}
 use Rattle.tuner.specs.Following.{Goes, SungTo, listed_of}
 use Rattle.tuner.proofs.Outputs.{glided-long}
 use Rattle.tuner.specs.Beside.{ToldEach}
@@ -60,7 +57,7 @@ pitched-counted ps (suc n) h =
     omega (arith, more, pitched-counted ps n (omega arith), one_of (get_or ps n 0))
 
 -- ---- from a good tuner to the tuner that a block leaves
-module _ (t : Tuner) (g : Good t) (st : Stores (heard_by t)) {xs s y : List ℤ} (j : Joined t.heard xs 2276 s) (k : Joined t.eighths [] 288 y) where
+module _ (t : Tuner) (g : Good t) (st : StoresLong t) {xs s y : List ℤ} (j : Joined t.heard xs 2276 s) (k : Joined t.eighths [] 288 y) where
   good-force : ForceIn (force_of t)
   good-force = record { settings = g.lead.settings; key = g.lead.keyboard.key; hertz = g.lead.hertz }
 
@@ -139,9 +136,6 @@ module _ (t : Tuner) (g : Good t) (st : Stores (heard_by t)) {xs s y : List ℤ}
       led =
           let rd = ready-left going fits f.glided in
           led-is t g st j k few rd.eighths.long rd (ran going fits f.glided begins) (ended-left going fits f.glided) refl a b f.pitch
-
-      pub stores-after : Samples heard' → Samples eighths' → Stores heard_now
-      stores-after u v = still-long xs st led.heard-is u v
 
       -- the figures
       pitched-is : pitched_in (take (length xs) ts.periods) ≡ (figures_of gave).pitched

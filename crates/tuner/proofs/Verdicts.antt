@@ -2,15 +2,17 @@
 use Rattle.std.specs.Prelude.{◌≡◌, refl, cond, List, ℕ, zero, suc, ◌+◌, ◌-◌, ◌≤◌, eqb, leb, ℤ, length}
 use Rattle.std.proofs.Math.Path.{sym, ap, subst}
 use Rattle.std.proofs.Common.{◌∙◌, arith, leb-true, length-drop}
-use Rattle.whole.specs.Tests.{by, cond_no}
+use Rattle.std.proofs.lemmas.Bool.{eqb-false}
+use Rattle.whole.specs.Tests.{by, cond_yes, cond_no}
 use Rattle.answers.specs.Numbering.{Numbered, neither, other, again, full, new}
 use Rattle.answers.specs.Paths.{Step, isn't, is, step-one}
 use Rattle.tuner.specs.declared.Numbers.{Numbers}
 use Rattle.tuner.specs.declared.Tuner.{Tuner}
 use Rattle.tuner.specs.declared.Answer.{Answer}
-use Rattle.tuner.specs.Tuners.{kept_outs, written, IsLast, last_samples, next_number, Fits, Verdict, record_out_of_range, block_empty, block_over_512, output_short, number-neither, other-samples, given-again, take-full, taken, after_block, list_after, plain, counted, answer_by, Took, with_numbers}
+use Rattle.tuner.specs.Tuners.{kept_outs, Roomy, written, IsLast, last_samples, next_number, Fits, Verdict, record_out_of_range, block_empty, block_over_512, output_short, number-neither, other-samples, given-again, take-full, taken, after_block, list_after, plain, counted, answer_by, Took, with_numbers}
 use Rattle.tuner.specs.Following.{given_by}
 use Rattle.tuner.specs.Verdicts.{Before}
+use Rattle.tuner.proofs.Outputs.{room_after}
 
 module _ {t : Tuner} {k : ℕ} {xs : List ℤ} {os : List (List ℤ)} where
   pub by_number : {v : ℕ} → Fits t xs os → Numbered t.numbers.count t.numbers.last.number t.numbers.last.length t.heard k xs v → Verdict t k xs os v
@@ -138,3 +140,23 @@ pub one_left : (v : ℕ) → (v ≡ 0 → ⊥) → v ≤ 1 → v ≡ 1
 one_left zero n h = absurd (n refl)
 one_left (suc zero) n h = refl
 one_left (suc (suc v)) n h = absurd (omega arith)
+
+-- ---- what a block that is taken or given again leaves fits, and is as long as the block
+
+pub record LeftFits (t' : Tuner) (xs : List ℤ) (os : List (List ℤ)) : Type 0 where
+  pub few : t'.numbers.chosen ≤ 3
+  pub long : t'.numbers.last.length ≡ length xs
+  pub most : length xs ≤ 512
+  pub room : Roomy t'.numbers.last.length (kept_outs t') os
+
+pub left-fits : {t t' : Tuner} {k : ℕ} {xs : List ℤ} {os : List (List ℤ)} (store : List ℕ) {v : ℕ} → Verdict t k xs os v → length t.heard ≡ 1764 → v ≤ 1 → t' ≡ cond (eqb v 0) (after_block t k xs store) t → LeftFits t' xs os
+left-fits {t} {t'} {k} {xs} {os} store {v} p h l e =
+    let f = verdict-fits p l in
+    let fits : t'.numbers.last.length ≡ length xs → t'.numbers.chosen ≡ t.numbers.chosen → LeftFits t' xs os =
+    λ long many. record { few = omega (arith, many, f.good.voices.few); long = long; most = f.most; room = room_after t t'.outs os (length xs) t'.numbers.chosen t'.numbers.last.length long many f.room } in
+    by (eqb v 0)
+    (λ y. let here = e ∙ cond_yes (after_block t k xs store) t y in
+    let after = after_last t k xs store in
+    fits (ap (λ (u : Tuner). u.numbers.last.length) here ∙ after.0) (ap (λ (u : Tuner). u.numbers.chosen) here ∙ after.1))
+    (λ n. let here = e ∙ cond_no (after_block t k xs store) t n in
+    fits (ap (λ (u : Tuner). u.numbers.last.length) here ∙ again-long p (one_left v (eqb-false v 0 n) l) h f.good.lead.last.length) (ap (λ (u : Tuner). u.numbers.chosen) here))

@@ -1,6 +1,6 @@
 -- The lead's parts that a block leaves, from what the fold over its samples leaves.
 -- The fold begins with the take that the tuner holds. What it then stores is what was kept and what came, so that what is kept of it is what the rules keep.
-use Rattle.std.specs.Prelude.{◌≡◌, ℕ, ◌-◌, ℤ, ◌-ℤ◌}
+use Rattle.std.specs.Prelude.{◌≡◌, ℕ, ℤ, ◌-ℤ◌}
 use mathlib.Core.List.{List}
 use Rattle.std.proofs.Math.IntN.{nat_abs}
 use Rattle.std.proofs.Math.ListN.{length}

@@ -1,6 +1,8 @@
 -- The tuner: a lead, the list of its take and up to three voices, in one record. When that is good, what a start and a block make of it, and what each call answers and leaves. Definitions only.
-use Rattle.std.specs.Prelude.{◌≡◌, Bool, cond, ◌||◌, ℕ, zero, suc, ◌+◌, ◌-◌, ◌*◌, ◌%◌, ◌≤◌, ◌<◌, leb, ltb, eqb, ℤ, pos, nat_abs, ◌-ℤ◌, length, take, drop, get_or, replicate}
+use Rattle.std.specs.Prelude.{◌≡◌, Bool, Result, MatchResult, cond, ◌||◌, ℕ, zero, suc, ◌+◌, ◌-◌, ◌*◌, ◌%◌, ◌≤◌, ◌<◌, leb, ltb, eqb, ℤ, pos, nat_abs, ◌-ℤ◌, length, take, drop, get_or, replicate}
 use mathlib.Core.List.{List, [], ◌∷◌, ◌++◌, map, flatten}
+use Rattle.refusals.specs.declared.Refusal.{Refusal}
+use Rattle.refusals.specs.declared.Refusal.TheVariants.{RecordOutOfRange}
 use Rattle.rules.specs.declared.Settings.{Settings}
 use Rattle.rules.specs.declared.InForce.{InForce}
 use Rattle.rules.specs.Rules.{Take, Given, input_at, farthest, refuse, settings_number, start_number, defaults, cd_rate, after, gives, samples_out, take_limit, longest_block, kept_samples, kept_eighths, eighth_lags}
@@ -301,6 +303,10 @@ pub record Started (hertz : ℕ) (s : Settings) (listed : ℕ) (zs : List ℤ) (
 pub data NineThen (own : ℕ) (t : Tuner) : ℕ → Type 0 where
   record_out_of_range : (Good t → ⊥) → NineThen own t 9
   record-good : Good t → NineThen own t own
+
+-- a record is tested before anything else
+abbrev pub Tested : Tuner → Result Unit Refusal → Type 0
+Tested t r = MatchResult r (λ _. Good t) (λ e. (e ≡ RecordOutOfRange) × (Good t → ⊥))
 
 -- a call with its own number, answered v: 0 is taken, any other leaves the tuner
 pub record Done (own : ℕ) (t taken t' : Tuner) (v : ℕ) : Type 0 where

@@ -1,6 +1,6 @@
 -- Laws of the number that answers a block: no second number, and what follows from one.
-use Rattle.std.specs.Prelude.{◌≡◌, List, ℕ, ◌-◌, ◌≤◌, ◌<◌, ℤ, length}
-use Rattle.answers.specs.Paths.{Step, is}
+use Rattle.std.specs.Prelude.{◌≡◌, List, ℕ, ◌≤◌, ◌<◌, ℤ, length}
+use Rattle.answers.specs.Paths.{Step}
 use Rattle.tuner.specs.declared.Tuner.{Tuner}
 use Rattle.tuner.specs.Tuners.{Good, kept_outs, Roomy}
 

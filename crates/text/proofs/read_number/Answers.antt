@@ -1,41 +1,27 @@
-use native.Mathlib.Omega.{arith}
-use mathlib.Core.Path.{refl, sym, ◌∙◌}
-use Prim.Native.Nat.{◌<◌}
-use borrow.Author.Tests.{not-true, not-false}
-use lib.ListN.{length}
-use Rattle.text.specs.Reading.{digit_read, no_digit, number_digits, number_empty, digits-end, none_of}
+-- `text::read_number` meets its contract: each digit read leaves the rest of the field, and one that is none leaves no number.
+use Rattle.std.proofs.Common.{arith, sym, ◌∙◌, eqb-true}
+use Rattle.text.specs.Reading.{digit_read, no_digit, number_digits, number_empty, digits-end}
 use Rattle.text.proofs.read_number.Goals as goal
 
-pub returns-then-f-eq0 : goal.returns-then-f-eq0
-returns-then-f-eq0 c = none_of c.no_number.ensures (number_empty _ c.args.f.now c.if-f-eq0.true)
+pub returns-then-is_empty-clause-value : goal.returns-then-is_empty-clause-value
+returns-then-is_empty-clause-value c = let e = c.if-is_empty.ensures in sym (number_empty _ c.args.f.now (eqb-true _ _ (sym e)))
 
-pub loop-i-init : goal.loop-i-init
-loop-i-init c = (omega arith, omega arith, omega arith, refl)
-
-pub returns-then-not-d : goal.returns-then-not-d
-returns-then-not-d c =
-    let q = c in
-    let l = q.loop-i in
-    let a = q.args in
-    none_of c.no_number-then-not-d.ensures
-    (number_digits a.most a.f.now l.invariant.1
-    ∙ sym l.invariant.3
-    ∙ no_digit a.most a.f.now l.i l.v (omega arith) q.one_more-d.result.ok q.one_more-d.result.value q.one_more-d.ensures.0 (not-true _ c.if-not-d.true))
-
-pub loop-i-preserved : goal.loop-i-preserved
-loop-i-preserved c =
-    let q = c in
-    let l = q.loop-i in
-    let a = q.args in
-    let h : l.i < length a.f.now = omega arith in (
-      omega arith,
-      omega arith,
-      q.one_more-d.ensures.1,
-      digit_read a.most a.f.now l.i l.v h q.one_more-d.result.ok q.one_more-d.result.value q.one_more-d.ensures.0 (not-false _ c.if-not-d.false) ∙ l.invariant.3,
-    )
-
-pub returns : goal.returns
-returns c =
-    let l = c.loop-i in
+pub returns-in_err-v-clause-value : goal.returns-in_err-v-clause-value
+returns-in_err-v-clause-value c =
     let a = c.args in
-    (sym (number_digits a.most a.f.now l.invariant.1 ∙ sym l.invariant.3 ∙ digits-end a.most a.f.now l.i l.v (omega arith)), l.invariant.2)
+    let i = c.loop-b.invariant in
+    let e = c.in_err-v.ensures in
+    c.from_residual.ensures ∙ sym (number_digits a.most a.f.now i.0 ∙ sym i.2 ∙ no_digit a.most a.f.now c.loop-b.b-index c.loop-b.v (omega arith) e.value)
+
+pub loop-b-preserved : goal.loop-b-preserved
+loop-b-preserved c =
+    let a = c.args in
+    let i = c.loop-b.invariant in
+    let e = c.in_ok-v.ensures in
+    (i.0, e.small, digit_read a.most a.f.now c.loop-b.b-index c.loop-b.v (omega arith) c.in_ok-v.v e.value ∙ i.2)
+
+pub returns-clause-value : goal.returns-clause-value
+returns-clause-value c =
+    let a = c.args in
+    let l = c.loop-b in
+    sym (number_digits a.most a.f.now l.invariant.0 ∙ sym l.invariant.2 ∙ digits-end a.most a.f.now l.b-index l.v (omega arith))

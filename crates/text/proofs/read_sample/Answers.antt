@@ -1,62 +1,31 @@
 -- `text::read_sample` meets its contract: the number after a minus, or the whole field.
-use native.Mathlib.Omega.{arith}
-use mathlib.Core.Path.{◌≡◌, sym, ap, ◌∙◌, subst}
-use mathlib.Core.Bool.{Bool}
-use mathlib.Core.Option.{Option, some}
-use borrow.Author.Tests.{not-true, not-false}
-use lib.IntN.{ℤ, pos, neg_ℤ}
-use mir.Syntax.{w16}
-use mir.Val.{SFits, to_z, of_z}
+use Rattle.std.proofs.Common.{arith, sym, ap, ◌∙◌, pos, neg_ℤ, ℕ, w16}
+use Rattle.std.specs.Prelude.{Some, option_map}
 use mir.Facts.{to_z-of_z}
-use Rattle.text.specs.declared.Sample.{Sample}
-use Rattle.text.specs.Places.{optional}
-use Rattle.text.specs.Reading.{sample_empty, minus-sample, plain-sample}
-use Rattle.text.specs.Signs.{below-fits}
+use Rattle.text.specs.Text.{number}
+use Rattle.text.specs.Reading.{minus-sample, without_minus}
+use Rattle.text.specs.Signs.{read_below}
 use Rattle.text.proofs.read_sample.Goals as goal
 
-abbrev answer : Sample → Option ℤ
-answer r = optional r.ok r.value
+pub returns-in_err-n-in-Some : goal.returns-in_err-n-in-Some
+returns-in_err-n-in-Some c =
+    let s = c.in-Some.ensures.cases in
+    c.from_residual.ensures ∙ sym (minus-sample c.args.f.now s.0 ∙ ap (option_map (λ (n : ℕ). neg_ℤ (pos n))) (ap (number 32768) (sym s.1) ∙ sym c.in_err-n-in-Some.ensures.value))
 
-held : {z r : ℤ} → r ≡ z → SFits w16 z → to_z w16 (of_z w16 r) ≡ z
-held {z} {r} e f = to_z-of_z (subst (SFits w16) (sym e) f) ∙ e
+pub returns-in_ok-n-in-Some : goal.returns-in_ok-n-in-Some
+returns-in_ok-n-in-Some c =
+    let s = c.in-Some.ensures.cases in
+    let e = c.in_ok-n-in-Some.ensures in
+    ap Some (read_below c.in_ok-n-in-Some.n e.small) ∙ sym (minus-sample c.args.f.now s.0 ∙ ap (option_map (λ (n : ℕ). neg_ℤ (pos n))) (ap (number 32768) (sym s.1) ∙ sym e.value))
 
-pub returns-then-f-eq0 : goal.returns-then-f-eq0
-returns-then-f-eq0 c = ap answer c.no_sample.ensures ∙ sym (sample_empty c.args.f.now c.if-f-eq0.true)
+pub returns-in_err-n-in-None : goal.returns-in_err-n-in-None
+returns-in_err-n-in-None c =
+    let s = c.in-None.ensures.cases in
+    c.from_residual-in_err-n-in-None.ensures ∙ sym (without_minus c.args.f.now s ∙ ap (option_map (λ (n : ℕ). pos n)) (sym c.in_err-n-in-None.ensures.value))
 
-pub returns-then-not-d : goal.returns-then-not-d
-returns-then-not-d c =
-    let d = c in
-    let a = d.args in
-    ap answer c.no_sample-then-not-d.ensures
-    ∙ sym
-    (minus-sample a.f.now d.read_number-d.result.ok d.read_number-d.result.value (omega arith) d.if-f-eq45.true d.read_number-d.ensures.0
-    ∙ ap (λ (b : Bool). optional b (neg_ℤ (pos d.read_number-d.result.value))) (not-true d.read_number-d.result.ok c.if-not-d.true))
-
-pub returns-then-f-eq45 : goal.returns-then-f-eq45
-returns-then-f-eq45 c =
-    let d = c in
-    let a = d.args in
-    let n = d.read_number-d.result.value in
-    ap some (held c.below.ensures (below-fits n d.read_number-d.ensures.1))
-    ∙ sym
-    (minus-sample a.f.now d.read_number-d.result.ok n (omega arith) d.if-f-eq45.true d.read_number-d.ensures.0
-    ∙ ap (λ (b : Bool). optional b (neg_ℤ (pos n))) (not-false d.read_number-d.result.ok c.if-not-d.false))
-
-pub returns-then-not-d-2 : goal.returns-then-not-d-2
-returns-then-not-d-2 c =
-    let d = c in
-    let a = d.args in
-    ap answer c.no_sample-then-not-d-2.ensures
-    ∙ sym
-    (plain-sample a.f.now d.read_number-d-2.result.ok d.read_number-d-2.result.value (omega arith) d.if-f-eq45.false d.read_number-d-2.ensures.0
-    ∙ ap (λ (b : Bool). optional b (pos d.read_number-d-2.result.value)) (not-true d.read_number-d-2.result.ok c.if-not-d-2.true))
-
-pub returns : goal.returns
-returns c =
-    let d = c in
-    let a = d.args in
-    let n = d.read_number-d-2.result.value in
-    ap some (held c.above.ensures (record { sfits = omega (arith, d.read_number-d-2.ensures.1) }))
-    ∙ sym
-    (plain-sample a.f.now d.read_number-d-2.result.ok n (omega arith) d.if-f-eq45.false d.read_number-d-2.ensures.0
-    ∙ ap (λ (b : Bool). optional b (pos n)) (not-false d.read_number-d-2.result.ok c.if-not-d-2.false))
+pub returns-in_ok-n-in-None : goal.returns-in_ok-n-in-None
+returns-in_ok-n-in-None c =
+    let s = c.in-None.ensures.cases in
+    let n = c.in_ok-n-in-None.n in
+    let e = c.in_ok-n-in-None.ensures in
+    ap Some (to_z-of_z {w = w16} {z = pos n} (record { sfits = omega (arith, e.small) })) ∙ sym (without_minus c.args.f.now s ∙ ap (option_map (λ (n : ℕ). pos n)) (sym e.value))

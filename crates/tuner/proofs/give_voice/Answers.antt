@@ -9,15 +9,12 @@ use Rattle.tuner.specs.Following.{written_by}
 use Rattle.tuner.proofs.Outputs.{voice_part}
 use Rattle.tuner.proofs.give_voice.Goals as goal
 
-pub give-requires : goal.give-requires
-give-requires c = let a = c.args in ((voice_part a.kept.now a.j a.b c.requires.1 c.requires.0 c.requires.2).0, c.requires.3 c.if-j-chosen.true)
-
 pub returns-then-j-chosen : goal.returns-then-j-chosen
 unfolding written_by
 returns-then-j-chosen c =
     let a = c.args in
     c.give.ensures
-    ∙ ap (λ (l : List ℤ). l ++ drop a.b a.out.now) (voice_part a.kept.now a.j a.b c.requires.1 c.requires.0 c.requires.2).1
+    ∙ ap (λ (l : List ℤ). l ++ drop a.b a.out.now) (voice_part a.kept.now a.j a.b c.requires.0 c.requires.1)
     ∙ sym (cond_yes _ a.out.now (lt-ltb a.j a.chosen c.if-j-chosen.true))
 
 pub returns-else-j-chosen : goal.returns-else-j-chosen

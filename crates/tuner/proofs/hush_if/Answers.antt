@@ -4,5 +4,8 @@ use native.Mathlib.Omega.{arith}
 use Rattle.lists.proofs.Hushes.{hushed-none}
 use Rattle.tuner.proofs.hush_if.Goals as goal
 
-pub returns-then-b-pitched : goal.returns-then-b-pitched
-returns-then-b-pitched c = let a = c.args in let p = c.requires in sym (hushed-none a.b a.periods.now a.notes.now (omega (arith, p.0, p.2)) (omega (arith, p.0, p.1)) (omega (arith, p.3, c.if-b-pitched.true)))
+pub returns-else-pitched-b : goal.returns-else-pitched-b
+returns-else-pitched-b c =
+    let a = c.args in
+    let p = c.requires in
+    sym (hushed-none a.b a.periods.now a.notes.now (omega (arith, p.0, c.told-periods)) (omega (arith, p.0, c.told-notes)) (omega (arith, p.1, c.if-pitched-b.false)))

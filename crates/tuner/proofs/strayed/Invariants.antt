@@ -1,12 +1,7 @@
--- `tuner::strayed` meets its contract: after i turns the first i samples are added up.
-use mathlib.Core.Path.{◌≡◌}
-use Prim.Native.Nat.{◌-◌, ◌*◌, ◌≤◌}
-use lib.ListN.{take}
+-- After some turns the rates so far are added up.
+use Rattle.std.specs.Prelude.{◌≡◌, ◌*◌, ◌≤◌, take}
 use Rattle.reports.specs.Counting.{distance_in}
 use Rattle.tuner.proofs.strayed.Given as goal
 
-abbrev pub invariant-loop-i : goal.invariant-loop-i
-invariant-loop-i l = (l.i ≤ l.n) × (l.sum ≡ distance_in (take l.i l.rates)) × (l.sum ≤ 65536 * l.i)
-
-abbrev pub decreases-loop-i : goal.decreases-loop-i
-decreases-loop-i l = l.n - l.i
+abbrev pub invariant-loop-rate : goal.invariant-loop-rate
+invariant-loop-rate l = (l.sum ≡ distance_in (take l.rate-index l.rates)) × (l.sum ≤ 65536 * l.rate-index)

@@ -1,15 +1,16 @@
--- `tuner::Tuner::midi` meets its contract: the call over its own arrays.
-use mathlib.Core.Path.{sym, subst}
-use Rattle.tuner.specs.declared.Tuner.{Tuner}
-use Rattle.tuner.specs.Tuners.{Keyed}
-use Rattle.tuner.proofs.Fields.{stores}
+-- `tuner::Tuner::midi` meets its contract: the record is tested, and a good one gets the keyboard as the bytes leave it.
+use mathlib.Core.Path.{refl, ap}
+use Rattle.keyboard.specs.declared.Keyboard.{Keyboard}
+use Rattle.tuner.specs.Tuners.{with_numbers, with_keys}
+use Rattle.std.proofs.lemmas.Result.{err_from_is_err_and}
+use Rattle.tuner.proofs.Starts.{done-untested, done-taken}
 use Rattle.tuner.proofs.Tuner.midi.Goals as goal
 
-pub midi_lent-d-requires : goal.midi_lent-d-requires
-midi_lent-d-requires c = stores c.args.self _ c.well_formed.0
+pub returns-in_err-test : goal.returns-in_err-test
+returns-in_err-test c = let p = err_from_is_err_and c.from_residual.result c.from_residual.ensures.1 in rw (p.1, p.2) (done-untested c.in_err-test.ensures)
 
 pub returns : goal.returns
+unfolding with_keys
 returns c =
-    let t = c.args.self in
-    let d = c.midi_lent-d in
-    subst (λ (u : Tuner). Keyed t c.args.bytes.now u d.result.number) (sym c.with.ensures) (d.ensures t.outs)
+    let t = c.args.self.now in
+    done-taken c.in_ok-test.ensures refl (ap (λ (k : Keyboard). with_numbers t (with_keys t.numbers t.numbers.settings k)) c.played-n.ensures)
