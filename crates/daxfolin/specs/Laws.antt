@@ -1,7 +1,6 @@
 -- Laws of lines served batch after batch, and of turns one after the other.
-use Rattle.std.specs.Prelude.{◌≡◌, refl, Bool, true, false, List, [], ◌∷◌, ◌++◌, ℕ, ◌+◌, ◌-◌, ◌≤◌, ltb, length, take, drop}
-use Rattle.std.proofs.Common.{sym, ap, ◌∙◌, subst, subst₂, arith, ltb-false, length-append, length-take, length-drop, take_all, take-add, drop-drop, length-take-le}
-use Rattle.whole.specs.Tests.{yes_and_no}
+use Rattle.std.specs.Prelude.{◌≡◌, refl, List, [], ◌∷◌, ◌++◌, ℕ, ◌+◌, ◌-◌, ◌≤◌, length, take, drop}
+use Rattle.std.proofs.Common.{sym, ap, ◌∙◌, subst, subst₂, arith, length-append, length-take, length-drop, take_all, take-add, length-take-le}
 use Rattle.tuner.specs.declared.Tuner.{Tuner}
 use Rattle.tuner.specs.Tuners.{default_tuner}
 use Rattle.text.specs.Places.{put-none}
@@ -10,7 +9,7 @@ use Rattle.tuner.specs.declared.Answer.{Answer}
 use Rattle.lines.specs.Laws.{no-places}
 use Rattle.lines.specs.Lines.{Desk, desk, Answered, answered, no_room, NoEnd, AllSaid, no_line, line-more, AnsweredAll}
 use Rattle.lines.specs.Serving.{held_of, AllServed, no_read, one-read, nothing-held, last_line}
-use Rattle.daxfolin.specs.Turns.{Kept, bare, Serves, Turned, nothing_read, read_once, Working, Finishes}
+use Rattle.daxfolin.specs.Turns.{Kept, bare, Serves, Turned, AsBefore, nothing_read, read_once, Working, Finishes}
 
 -- ---- lines
 
@@ -30,20 +29,16 @@ module _ {store store' : List ℕ} (e : store ≡ []) (same : length store' ≡ 
   pub line-bare : {t t' : Tuner} {a : Answer} {line out out' : List ℕ} {n : ℕ} → Answered (desk t store) line out (desk t' store') a n out' → Answered (bare t) line out (bare t') a n out'
   line-bare {t} {t'} {a} {line} {out} {out'} {n} p = subst₂ (λ (s s' : List ℕ). Answered (desk t s) line out (desk t' s') a n out') e still_empty p
 
--- ---- batches of lines, one after the other: `moved` says whether the last one answered any
-pub record ServedSoFar (t : Tuner) (input : List ℕ) (u : Tuner) (at : ℕ) (moved : Bool) : Type 0 where
+-- ---- batches of lines, one after the other
+pub record ServedSoFar (t : Tuner) (input : List ℕ) (u : Tuner) (at : ℕ) : Type 0 where
   pub within : at ≤ length input
   pub text : List ℕ
   pub said : AllSaid (bare t) (take at input) (bare u) text
-  pub rest : moved ≡ false → NoEnd (drop at input)
 
-pub none-served : {t : Tuner} {input : List ℕ} → ServedSoFar t input t 0 true
-none-served = record { within = omega arith; text = []; said = no_line; rest = λ e. absurd (yes_and_no refl e) }
+pub none-served : {t : Tuner} {input : List ℕ} → ServedSoFar t input t 0
+none-served = record { within = omega arith; text = []; said = no_line }
 
-pub all-served : {t u : Tuner} {input : List ℕ} {at : ℕ} {moved : Bool} → ServedSoFar t input u at moved → moved ≡ false → Serves t input u at
-all-served s e = record { text = s.text; served = record { within = s.within; said = s.said; rest = s.rest e } }
-
-module _ {t u : Tuner} {input : List ℕ} {at : ℕ} {moved : Bool} (s : ServedSoFar t input u at moved) where
+module _ {t u : Tuner} {input : List ℕ} {at : ℕ} (s : ServedSoFar t input u at) where
   abbrev pub left : List ℕ
   left = take (length input - at) (drop at input)
 
@@ -51,22 +46,27 @@ module _ {t u : Tuner} {input : List ℕ} {at : ℕ} {moved : Bool} (s : ServedS
   left_is = take_all (length input - at) (drop at input) (omega (arith, length-drop at input))
 
   module _ {out out' : List ℕ} {v : Tuner} {r n : ℕ} (a : AnsweredAll (bare u) left out (bare v) r n out') where
-    pub served-within : at + r ≤ length input
-    served-within = omega (arith, s.within, a.within, ap length left_is, length-drop at input)
-
-    -- where no line was answered there is room for an answer, so that no line ends
-    stopped : 4096 ≤ length out → ltb 0 r ≡ false → NoEnd (drop (at + r) input)
-    stopped room e =
-        let none = nothing_said a.said (omega (arith, length-take-le r left a.within, ltb-false 0 r e)) in
-        subst (λ (l : List ℕ). NoEnd l) (ap (drop r) left_is ∙ drop-drop r at input) (room-left a (omega (arith, a.put.next)))
-
-    pub served-more : 4096 ≤ length out → ServedSoFar t input v (at + r) (ltb 0 r)
-    served-more room =
+    pub served-more : ServedSoFar t input v (at + r)
+    served-more =
         record {
-          within = served-within;
+          within = omega (arith, s.within, a.within, ap length left_is, length-drop at input);
           text = s.text ++ a.text;
           said = subst (λ (l : List ℕ). AllSaid (bare t) l (bare v) (s.text ++ a.text)) (ap (λ (l : List ℕ). take at input ++ take r l) left_is ∙ sym (take-add at r input)) (all_said_then s.said a.said);
-          rest = stopped room;
+        }
+
+    -- where no line was answered there is room for an answer, so that no line ends
+    pub all-served : 4096 ≤ length out → r ≡ 0 → Serves t input v at
+    unfolding served-more
+    all-served room e =
+        let same : at + r ≡ at = omega arith in
+        let none = nothing_said a.said (omega (arith, length-take-le r left a.within)) in
+        record {
+          text = s.text ++ a.text;
+          served = record {
+            within = s.within;
+            said = subst (λ (k : ℕ). AllSaid (bare t) (take k input) (bare v) (s.text ++ a.text)) same served-more.said;
+            rest = subst (λ (l : List ℕ). NoEnd l) (ap (λ (k : ℕ). drop k left) e ∙ left_is) (room-left a (omega (arith, a.put.next)));
+          };
         }
 
 -- ---- turns, one after the other
@@ -82,12 +82,18 @@ read-answered {t} {t'} {buf} held new {at} s k =
     (ap (λ (l : List ℕ). held_of (drop at l)) (sym e) ∙ sym k.bytes)
     (read_once (take new (drop held buf)) (subst (λ (l : List ℕ). AllServed (bare t) l (bare t') at s.text) e s.served))
 
+pub as_before : {t t' : Tuner} (held buf' : List ℕ) → t' ≡ t → take (length held) buf' ≡ held → AsBefore t held t' buf'
+as_before {t} held buf' e f = subst₂ (λ (u : Tuner) (h : List ℕ). Turned t held [] u h) (sym e) (sym f) nothing_read
+
 pub none_read : Working default_tuner []
 none_read = record { reads = []; text = []; so_far = no_read }
 
 pub one_turn_more : {t t' : Tuner} {held held' : List ℕ} {reads : List (List ℕ)} → Working t held → Turned t held reads t' held' → Working t' held'
 one_turn_more w nothing_read = w
 one_turn_more w (read_once new {text = more} s) = record { reads = w.reads ++ (new ∷ []); text = w.text ++ more; so_far = one-read new w.so_far s }
+
+pub still_working : {t t' : Tuner} (buf buf' : List ℕ) (held : ℕ) → held ≤ length buf → Working t (take held buf) → AsBefore t (take held buf) t' buf' → Working t' (take held buf')
+still_working {t' = t'} buf buf' held h w b = subst (λ (n : ℕ). Working t' (take n buf')) (length-take-le held buf h) (one_turn_more w b)
 
 -- ---- the end of the input
 pub nothing_to_finish : {t : Tuner} (held : List ℕ) {out : List ℕ} → length held ≡ 0 → Finishes t held out 0 out

@@ -1,11 +1,13 @@
 -- What the steps of the line program promise, by the definitions of `Serving`. Its tuner keeps no list, and the store that it lends is empty. Definitions only.
-use Rattle.std.specs.Prelude.{◌≡◌, cond, List, [], ◌∷◌, ◌++◌, ℕ, ◌≤◌, length, take, drop}
+use Rattle.std.specs.Prelude.{◌≡◌, List, [], ◌∷◌, ◌++◌, ℕ, ◌≤◌, length, take, drop, Ok, MatchOption, MatchResult}
+use Rattle.std.specs.declared.option.Option.{Option}
+use Rattle.std.specs.declared.result.Result.{Result}
+use Rattle.streams.specs.declared.Failed.{Failed}
 use Rattle.tuner.specs.declared.Tuner.{Tuner}
 use Rattle.tuner.specs.Tuners.{default_tuner}
 use Rattle.text.specs.Text.{Put}
 use Rattle.lines.specs.Lines.{Desk, desk}
 use Rattle.lines.specs.Serving.{held_of, AllServed, Reads, Ended}
-use Rattle.daxfolin.specs.declared.Turn.{Turn}
 
 -- the buffer's first r bytes are what is held of those from `from` to `to`
 pub record Kept (buf : List ℕ) (from to r : ℕ) (buf' : List ℕ) : Type 0 where
@@ -26,16 +28,17 @@ pub data Turned (t : Tuner) (held : List ℕ) : List (List ℕ) → Tuner → Li
   nothing_read : Turned t held [] t held
   read_once : (new : List ℕ) {at : ℕ} {t' : Tuner} {text : List ℕ} → AllServed (bare t) (held ++ new) (bare t') at text → Turned t held (new ∷ []) t' (held_of (drop at (held ++ new)))
 
--- what was read is answered; or a write failed, so that there is no more to read, and all is as it was
-pub record Answers (t : Tuner) (held new : List ℕ) (r : Turn) (buf' : List ℕ) : Type 0 where
-  pub few : r.held ≤ 8193
-  pub turned : Turned t held (cond r.more (new ∷ []) []) r.tuner (take r.held buf')
+-- all is as it was
+abbrev pub AsBefore : Tuner → List ℕ → Tuner → List ℕ → Type 0
+AsBefore t held t' buf' = Turned t held [] t' (take (length held) buf')
 
--- one turn, whatever came of the read
-pub record OneTurn (t : Tuner) (held : List ℕ) (r : Turn) (buf' : List ℕ) : Type 0 where
-  pub few : r.held ≤ 8193
-  pub reads : List (List ℕ)
-  pub turned : Turned t held reads r.tuner (take r.held buf')
+-- what was read is answered, and at most 8,193 bytes are held; or a write failed, and all is as it was
+abbrev pub Answers : Tuner → (held new : List ℕ) → Result ℕ Failed → Tuner → List ℕ → Type 0
+Answers t held new r t' buf' = MatchResult r (λ n. (n ≤ 8193) × Turned t held (new ∷ []) t' (take n buf')) (λ e. AsBefore t held t' buf')
+
+-- one turn, whatever came of the read: some bytes were read and answered; or the input ended, or something failed, and all is as it was
+abbrev pub OneTurn : Tuner → (held : List ℕ) → Result (Option ℕ) Failed → Tuner → List ℕ → Type 0
+OneTurn t held r t' buf' = MatchResult r (λ o. MatchOption o (AsBefore t held t' buf') (λ n. (new : List ℕ) × Answers t held new (Ok n) t' buf')) (λ e. AsBefore t held t' buf')
 
 -- what the program has before each turn: the tuner and the bytes held that its reads so far leave
 pub record Working (t : Tuner) (held : List ℕ) : Type 0 where

@@ -2,70 +2,41 @@
 // the program ends at a read or a write that fails, and says on standard error what failed.
 #![tactic(auto)]
 
-ghost use Rattle.std.specs.Prelude.{◌+◌, ◌≤◌, ◌<◌, length, take, drop, ◌≡◌, true};
+ghost use Rattle.std.specs.Prelude.{◌≡◌, ◌+◌, ◌≤◌, ◌<◌, length, take, drop, MatchResult};
 ghost use Rattle.daxfolin.specs.Turns.{Kept, Serves, Answers, OneTurn, Working, Finishes};
 
 use std::io::{Read, Write};
 use std::os::fd::AsFd;
 use std::rt::{Clock, Files};
+use streams::Failed;
 use tuner::Tuner;
 
-// The tuner, how many bytes of a line without its end are held, whether to read on, and whether the input came to its end: neither where
-// something failed.
-#[derive(Clone, Copy)]
-struct Turn {
-    tuner: Tuner,
-    held: usize,
-    more: bool,
-    ended: bool,
-}
+const INPUT: &str = "daxfolin: standard input";
+const OUTPUT: &str = "daxfolin: standard output";
 
-// The tuner, the place after the last line that was answered, and whether all answers were written.
-#[derive(Clone, Copy)]
-struct Served {
-    tuner: Tuner,
-    at: usize,
-    written: bool,
-}
-
-// Writes all bytes, and says whether it did.
-fn write_out<W: Write, R: Clock + Eprint>(rt: &R, output: &mut W, bytes: &[u8]) -> bool {
-    streams::write_out(rt, output, bytes, b"daxfolin: standard output")
-}
-
-// Answers all lines that end within the input, and writes the answers. The program's tuner keeps no list, so that an empty store is lent.
+// Answers all lines that end within the input, writes the answers, and gives the place after the last line. Where a write fails the tuner is
+// as it was. The program's tuner keeps no list, so that an empty store is lent.
 fn serve<W: Write, R: Clock + Eprint>(
     rt: &R,
     output: &mut W,
-    t: Tuner,
+    t: &mut Tuner,
     input: &[u8],
     out: &mut [u8],
-) -> Served
+) -> Result<usize, Failed>
     requires { 4096 ≤ length out.old }
-    ensures { result.written ≡ true → Serves t input.now result.tuner result.at }
+    ensures { MatchResult result (λ at. Serves t.old input.now t.new at) (λ _. t.new ≡ t.old) }
 {
-    let mut u = t;
-    let mut at: usize = 0;
-    let mut moved = true;
+    let mut u = *t;
+    let mut at = 0;
     let mut store = [0u32; 0];
-    while moved {
-        let r = lines::answer_lines(u, &input[at..], out, &mut store);
-        let n = r.length;
-        if !write_out(rt, output, &out[..n]) {
-            return Served {
-                tuner: t,
-                at: 0,
-                written: false,
-            };
+    loop {
+        let r = lines::answer_lines(&mut u, &input[at..], out, &mut store);
+        streams::write_out(rt, output, &out[..r.length], OUTPUT)?;
+        if r.at == 0 {
+            *t = u;
+            return Ok(at);
         }
-        u = r.tuner;
-        moved = 0 < r.at;
         at += r.at;
-    }
-    Served {
-        tuner: u,
-        at: at,
-        written: true,
     }
 }
 
@@ -74,92 +45,54 @@ fn keep(buf: &mut [u8], from: usize, to: usize) -> usize
     requires { (from ≤ to) × (to ≤ length buf.old) }
     ensures { Kept buf.old from to result buf.new }
 {
-    let rest = to - from;
-    let n = if rest < 8193 { rest } else { 8193 };
-    let mut i: usize = 0;
-    while i < n {
-        let b = buf[from + i];
-        buf[i] = b;
-        i += 1;
-    }
+    let n = (to - from).min(8193);
+    buf.copy_within(from..from + n, 0);
     n
 }
 
-// Answers what was read after the bytes that are held, and holds what is left.
+// Answers the bytes up to a place, of which some were held, and answers how many are then held.
 fn answer_read<W: Write, R: Clock + Eprint>(
     rt: &R,
     output: &mut W,
-    t: Tuner,
+    t: &mut Tuner,
     buf: &mut [u8],
     held: usize,
     read: usize,
     out: &mut [u8],
-) -> Turn
+) -> Result<usize, Failed>
     requires { (held + read ≤ length buf.old) × (held ≤ 8193) × (4096 ≤ length out.old) }
-    ensures { Answers t (take held buf.old) (take read (drop held buf.old)) result buf.new }
+    ensures { Answers t.old (take held buf.old) (take read (drop held buf.old)) result t.new buf.new }
 {
     let to = held + read;
-    let s = serve(rt, output, t, &buf[..to], out);
-    if !s.written {
-        return Turn {
-            tuner: t,
-            held: held,
-            more: false,
-            ended: false,
-        };
-    }
-    let k = keep(buf, s.at, to);
-    let u = s.tuner;
-    Turn {
-        tuner: u,
-        held: k,
-        more: true,
-        ended: false,
-    }
+    let at = serve(rt, output, t, &buf[..to], out)?;
+    Ok(keep(buf, at, to))
 }
 
-// Reads once, after the bytes that are held, and answers.
+// Reads once, after the bytes that are held, and answers: how many bytes are then held, or nothing where the input ended.
 fn one_turn<I: Read, W: Write, R: Clock + Eprint>(
     rt: &R,
     input: &mut I,
     output: &mut W,
-    t: Tuner,
+    t: &mut Tuner,
     buf: &mut [u8],
     held: usize,
     out: &mut [u8],
-) -> Turn
+) -> Result<Option<usize>, Failed>
     requires { (held ≤ 8193) × (8193 < length buf.old) × (4096 ≤ length out.old) }
-    ensures { OneTurn t (take held buf.old) result buf.new }
+    ensures { OneTurn t.old (take held buf.old) result t.new buf.new }
 {
-    match input.read(&mut buf[held..]) {
-        Err(error) => {
-            let again = streams::try_again(rt, &error);
-            if !again {
-                streams::fail(rt, b"daxfolin: standard input", &error);
-            }
-            Turn {
-                tuner: t,
-                held: held,
-                more: again,
-                ended: false,
-            }
-        }
-        Ok(0) => Turn {
-            tuner: t,
-            held: held,
-            more: false,
-            ended: true,
-        },
-        Ok(n) => answer_read(rt, output, t, buf, held, n, out),
+    match streams::read(rt, input, &mut buf[held..], INPUT)? {
+        0 => Ok(None),
+        n => Ok(Some(answer_read(rt, output, t, buf, held, n, out)?)),
     }
 }
 
 // What the end of the input answers: a last line may lack its end.
-fn last_line(t: Tuner, held: &[u8], out: &mut [u8]) -> usize
+fn last_line(t: &mut Tuner, held: &[u8], out: &mut [u8]) -> usize
     requires { 4096 ≤ length out.old }
-    ensures { Finishes t held.now out.old result out.new }
+    ensures { Finishes t.old held.now out.old result out.new }
 {
-    if held.len() == 0 {
+    if held.is_empty() {
         return 0;
     }
     let mut store = [0u32; 0];
@@ -171,17 +104,18 @@ fn last_line(t: Tuner, held: &[u8], out: &mut [u8]) -> usize
 fn finish<W: Write + AsFd, R: Clock + Eprint + Files>(
     rt: &R,
     output: &mut W,
-    t: Tuner,
+    t: &mut Tuner,
     held: &[u8],
     out: &mut [u8],
 )
-    requires { Working t held.now × (4096 ≤ length out.old) }
+    requires { Working t.old held.now × (4096 ≤ length out.old) }
 {
     let n = last_line(t, held, out);
-    streams::write_last(rt, output, &out[..n], b"daxfolin: standard output");
+    streams::write_last(rt, output, &out[..n], OUTPUT);
 }
 
 // Reads, answers and writes until the input ends, or a read or a write fails. A proved loop ends: no run uses up the turns.
+// Stays: the report's loop has this shape over other values, and one for both, with its trait and laws, would be longer than the two.
 fn run<I: Read, W: Write + AsFd, R: Clock + Eprint + Files>(
     rt: &R,
     input: &mut I,
@@ -191,19 +125,14 @@ fn run<I: Read, W: Write + AsFd, R: Clock + Eprint + Files>(
 )
     requires { (8193 < length buf.old) × (4096 ≤ length out.old) }
 {
-    let mut t = lines::opening();
-    let mut held: usize = 0;
-    let mut ended = false;
-    let mut turns = u64::MAX;
-    while turns > 0 {
-        let r = one_turn(rt, input, output, t, buf, held, out);
-        t = r.tuner;
-        held = r.held;
-        ended = r.ended;
-        turns = if r.more { turns - 1 } else { 0 };
-    }
-    if ended {
-        finish(rt, output, t, &buf[..held], out);
+    let mut t = Tuner::default();
+    let mut held = 0;
+    for _ in 0..u64::MAX {
+        match one_turn(rt, input, output, &mut t, buf, held, out) {
+            Ok(Some(n)) => held = n,
+            Ok(None) => return finish(rt, output, &mut t, &buf[..held], out),
+            Err(Failed) => return,
+        }
     }
 }
 

@@ -13,7 +13,7 @@ use Rattle.reports.proofs.Counting.{within_none, figures-none}
 use Rattle.reporting.specs.declared.Reporting.{Reporting}
 use Rattle.reporting.specs.Reporting.{Takes, takes_after, Through, Reported, no_more, last_line, one_byte, line-ends, Report}
 use Rattle.reporting.specs.Keeping.{reporting, Keeps, few, LineReported, SoFar}
-use Rattle.reporting.specs.Steps.{held_after}
+use Rattle.reporting.specs.Held.{held_after}
 
 -- ---- no second report
 
@@ -140,59 +140,47 @@ hold_full line held b h l = sym (cond_no _ _ (le-ltb (length (take held line)) 8
 
 -- ---- a piece of the input, byte by byte
 
--- the lent bytes, the report, and how many bytes are held
+-- the bytes that are held, the output and the report
 pub record State : Type 0 where
-  pub line : List ℕ
+  pub held : List ℕ
   pub out : List ℕ
   pub report : Reporting
-  pub held : ℕ
 
 abbrev SoFarIn : List ℕ → State → Type 0
-SoFarIn input s = SoFar input s.report (take s.held s.line) s.out
+SoFarIn input s = SoFar input s.report s.held s.out
 
 -- one byte
 pub record Stepped (b : ℕ) (s s' : State) : Type 0 where
-  pub few : s'.held ≤ 8193
-  pub line : length s'.line ≡ length s.line
   pub out : length s'.out ≡ length s.out
   pub goes : (before : List ℕ) → SoFarIn before s → SoFarIn (before ++ (b ∷ [])) s'
 
-module _ {b : ℕ} {line out : List ℕ} {q : Reporting} {n : ℕ} where
-  pub stepped_line : {out' : List ℕ} {q' : Reporting} → b ≡ 10 → length out' ≡ length out → ((takes : Takes) → Keeps q out takes → LineReported q.tuner (take n line) takes q' out')
-      → Stepped b (record { line = line; out = out; report = q; held = n }) (record { line = line; out = out'; report = q'; held = 0 })
+module _ {b : ℕ} {held out : List ℕ} {q : Reporting} where
+  pub stepped_line : {out' : List ℕ} {q' : Reporting} → b ≡ 10 → length out' ≡ length out → ((takes : Takes) → Keeps q out takes → LineReported q.tuner held takes q' out')
+      → Stepped b (record { held = held; out = out; report = q }) (record { held = []; out = out'; report = q' })
   stepped_line {out'} {q'} e same l =
       record {
-        few = omega arith;
-        line = refl;
         out = same;
         goes = λ before s. subst (λ (x : ℕ). SoFar (before ++ (x ∷ [])) q' [] out') (sym e) (line-ended s (l s.takes s.keeps));
       }
 
-  pub stepped-byte : {line' : List ℕ} {n' : ℕ} → (b ≡ 10 → ⊥) → length line' ≡ length line → n' ≤ 8193 → take n' line' ≡ held_after (take n line) b
-      → Stepped b (record { line = line; out = out; report = q; held = n }) (record { line = line'; out = out; report = q; held = n' })
-  stepped-byte other same short e =
+  pub stepped-byte : {held' : List ℕ} → (b ≡ 10 → ⊥) → held' ≡ held_after held b → Stepped b (record { held = held; out = out; report = q }) (record { held = held'; out = out; report = q })
+  stepped-byte other e =
       record {
-        few = short;
-        line = same;
         out = refl;
         goes = λ before s.
             subst (λ (h : List ℕ). SoFar (before ++ (b ∷ [])) q h out) (sym e)
-            (cond_case (ltb (length (take n line)) 8193) (take n line ++ (b ∷ [])) (take n line) (λ (h : List ℕ). SoFar (before ++ (b ∷ [])) q h out)
+            (cond_case (ltb (length held) 8193) (held ++ (b ∷ [])) held (λ (h : List ℕ). SoFar (before ++ (b ∷ [])) q h out)
             (λ z. byte-held s b other)
-            (λ z. byte-passed s b other (omega (arith, ltb-false (length (take n line)) 8193 z))));
+            (λ z. byte-passed s b other (omega (arith, ltb-false (length held) 8193 z))));
       }
 
 -- after the first i bytes of a piece
 pub record Going (input : List ℕ) (i : ℕ) (s₀ s : State) : Type 0 where
-  pub within : i ≤ length input
-  pub few : s.held ≤ 8193
-  pub line : length s.line ≡ length s₀.line
   pub out : length s.out ≡ length s₀.out
   pub so_far : (before : List ℕ) → SoFarIn before s₀ → SoFarIn (before ++ take i input) s
 
-pub going_none : (input : List ℕ) {s : State} → s.held ≤ 8193 → Going input 0 s s
-going_none input {s} h =
-    record { within = omega arith; few = h; line = refl; out = refl; so_far = λ before p. subst (λ (l : List ℕ). SoFarIn l s) (sym (append-nil before)) p }
+pub going_none : (input : List ℕ) {s : State} → Going input 0 s s
+going_none input {s} = record { out = refl; so_far = λ before p. subst (λ (l : List ℕ). SoFarIn l s) (sym (append-nil before)) p }
 
 piece_more : (before input : List ℕ) (i : ℕ) → i < length input → before ++ take (i + 1) input ≡ (before ++ take i input) ++ (get_or input i 0 ∷ [])
 piece_more before input i h = ap (λ (l : List ℕ). before ++ l) (ap (λ (n : ℕ). take n input) (add-one i) ∙ take-suc input i 0 h) ∙ sym (append_assoc before (take i input) (get_or input i 0 ∷ []))
@@ -200,9 +188,6 @@ piece_more before input i h = ap (λ (l : List ℕ). before ++ l) (ap (λ (n : �
 pub going_more : {input : List ℕ} {i : ℕ} {s₀ s s' : State} → i < length input → Going input i s₀ s → Stepped (get_or input i 0) s s' → Going input (i + 1) s₀ s'
 going_more {input} {i} {s' = s'} h g t =
     record {
-      within = omega arith;
-      few = t.few;
-      line = t.line ∙ g.line;
       out = t.out ∙ g.out;
       so_far = λ before p. subst (λ (l : List ℕ). SoFarIn l s') (sym (piece_more before input i h)) (t.goes (before ++ take i input) (g.so_far before p));
     }

@@ -29,6 +29,10 @@ use Rattle.reporting.specs.Counts.{On, counted_of, said-counts}
 abbrev pub reporting : Tuner → ℕ → Figures → Figures → ℕ → Reporting
 reporting t n now before length = record { tuner = t; takes = n; now = now; before = before; length = length }
 
+-- with another tuner
+abbrev pub with_tuner : Tuner → Reporting → Reporting
+with_tuner t r = reporting t r.takes r.now r.before r.length
+
 -- at most 1,000 takes: the newest, and those before it
 pub record Few (r : Reporting) (out : List ℕ) (newest : List Given) (older : Takes) : Type 0 where
   pub takes : r.takes ≡ suc (length older)
@@ -71,6 +75,10 @@ keeps-room (few h k) h' =
 keeps-room (many e h) h' = absurd (omega arith)
 
 -- ---- a take begins
+
+-- the figures of a take without samples
+pub none_is : (f : Figures) → (f.samples ≡ 0) × ((f.pitched ≡ 0) × ((f.repeated ≡ 0) × ((f.dropped ≡ 0) × (f.sum ≡ 0)))) → f ≡ no_figures
+none_is f (a, (b, (c, (d, e)))) = λ i. record { samples = a i; pitched = b i; repeated = c i; dropped = d i; sum = e i }
 
 -- a text after what stands at the front
 put_front : {out text out' : List ℕ} {at n : ℕ} → at ≤ length out → Put out at text out' n → take n out' ≡ take at out ++ text
@@ -140,31 +148,31 @@ pub record LineReported (t : Tuner) (line : List ℕ) (takes : Takes) (q : Repor
   pub keeps : Keeps q out (takes_after t (read line) answer takes)
 
 -- it was answered, and whether a take began
-pub record LineSaid (t : Tuner) (line : List ℕ) (d : Reply) : Type 0 where
+pub record LineSaid (t : Tuner) (line : List ℕ) (u : Tuner) (d : Reply) : Type 0 where
   pub text : List ℕ
-  pub said : Said (desk t []) (read line) (desk d.tuner []) text d.answer
+  pub said : Said (desk t []) (read line) (desk u []) text d.answer
   pub begun : d.begins ≡ begins (read line) d.answer
 
 -- an empty store stays empty
-pub line-said : {t : Tuner} {line out out' store : List ℕ} {d : Reply} → length store ≡ 0 → 4096 ≤ length out → Answered (desk t []) line out (desk d.tuner store) d.answer d.length out' → d.begins ≡ begins (read line) d.answer → LineSaid t line d
-line-said {t} {line} {store = store} {d = d} e room (answered {text = text} r s p) b =
-    record { text = text; said = subst (λ (l : List ℕ). Said (desk t []) (read line) (desk d.tuner l) text d.answer) (no-places store e) s; begun = b }
+pub line-said : {t : Tuner} {line out out' store : List ℕ} {u : Tuner} {d : Reply} → length store ≡ 0 → 4096 ≤ length out → Answered (desk t []) line out (desk u store) d.answer d.length out' → d.begins ≡ begins (read line) d.answer → LineSaid t line u d
+line-said {t} {line} {store = store} {u = u} {d = d} e room (answered {text = text} r s p) b =
+    record { text = text; said = subst (λ (l : List ℕ). Said (desk t []) (read line) (desk u l) text d.answer) (no-places store e) s; begun = b }
 line-said e room (no_room r z v n o) b = absurd (omega arith)
 
-module _ {t : Tuner} (line : List ℕ) {d : Reply} (p : LineSaid t line d) where
-  line-is : {takes : Takes} {q : Reporting} {out : List ℕ} → q.tuner ≡ d.tuner → Keeps q out (takes_after t (read line) d.answer takes) → LineReported t line takes q out
-  line-is same k = record { text = p.text; answer = d.answer; said = subst (λ (u : Tuner). Said (desk t []) (read line) (desk u []) p.text d.answer) (sym same) p.said; keeps = k }
+module _ {t : Tuner} (line : List ℕ) {u : Tuner} {d : Reply} (p : LineSaid t line u d) where
+  line-is : {takes : Takes} {q : Reporting} {out : List ℕ} → q.tuner ≡ u → Keeps q out (takes_after t (read line) d.answer takes) → LineReported t line takes q out
+  line-is same k = record { text = p.text; answer = d.answer; said = subst (λ (v : Tuner). Said (desk t []) (read line) (desk v []) p.text d.answer) (sym same) p.said; keeps = k }
 
-  pub begun-count : d.begins ≡ true → d.tuner.numbers.count ≡ 0
+  pub begun-count : d.begins ≡ true → u.numbers.count ≡ 0
   begun-count e = (said-counts p.said).from-none (sym p.begun ∙ e)
 
-  pub line-begun : {takes : Takes} {q : Reporting} {out : List ℕ} → d.begins ≡ true → q.tuner ≡ d.tuner → Keeps q out ([] ∷ takes) → LineReported t line takes q out
+  pub line-begun : {takes : Takes} {q : Reporting} {out : List ℕ} → d.begins ≡ true → q.tuner ≡ u → Keeps q out ([] ∷ takes) → LineReported t line takes q out
   line-begun {takes} {q} {out} e same k = line-is same (subst (Keeps q out) (sym (cond_yes ([] ∷ takes) (with_given (brought_by t (read line) d.answer) takes) (sym p.begun ∙ e))) k)
 
-  pub line_on : d.begins ≡ false → On t d.tuner (brought_by t (read line) d.answer) (counted_of d.answer)
+  pub line_on : d.begins ≡ false → On t u (brought_by t (read line) d.answer) (counted_of d.answer)
   line_on e = (said-counts p.said).on (sym p.begun ∙ e)
 
-  pub line_went_on : {takes : Takes} {q : Reporting} {out : List ℕ} → d.begins ≡ false → q.tuner ≡ d.tuner → Keeps q out (with_given (brought_by t (read line) d.answer) takes) → LineReported t line takes q out
+  pub line_went_on : {takes : Takes} {q : Reporting} {out : List ℕ} → d.begins ≡ false → q.tuner ≡ u → Keeps q out (with_given (brought_by t (read line) d.answer) takes) → LineReported t line takes q out
   line_went_on {takes} {q} {out} e same k = line-is same (subst (Keeps q out) (sym (cond_no ([] ∷ takes) (with_given (brought_by t (read line) d.answer) takes) (sym p.begun ∙ e))) k)
 
 -- ---- the end: the report is written

@@ -1,8 +1,9 @@
 -- What the steps of a report promise.
-use Rattle.std.specs.Prelude.{◌≡◌, cond, List, [], ◌∷◌, ◌++◌, ℕ, ltb, length}
+use Rattle.std.specs.Prelude.{◌≡◌, List, ℕ, take}
 use Rattle.rules.specs.Rules.{Given}
 use Rattle.tuner.specs.declared.Tuner.{Tuner}
 use Rattle.reports.specs.declared.Figures.{Figures}
+use Rattle.reporting.specs.declared.line.Line.{Line}
 use Rattle.reporting.specs.declared.Reporting.{Reporting}
 use Rattle.reporting.specs.Reporting.{Takes, with_given}
 use Rattle.reporting.specs.Counts.{On}
@@ -13,6 +14,6 @@ pub record GoesOn (r : Reporting) (u : Tuner) (f : Figures) (q : Reporting) : Ty
   pub tuner : q.tuner ≡ u
   pub keeps : (out : List ℕ) (takes : Takes) (gs : List Given) → On r.tuner u gs f → Keeps r out takes → Keeps q out (with_given gs takes)
 
--- what is held with one byte more: of a line that is too long, one byte too many is enough
-abbrev pub held_after : List ℕ → ℕ → List ℕ
-held_after held b = cond (ltb (length held) 8193) (held ++ (b ∷ [])) held
+-- the bytes of a line that are held
+abbrev pub held_in : Line → List ℕ
+held_in l = take l.held l.bytes

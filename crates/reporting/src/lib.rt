@@ -3,12 +3,17 @@
 #![tactic(auto)]
 
 ghost use Rattle.std.specs.Prelude.{◌≡◌, List, [], ◌∷◌, ◌++◌, ℕ, ◌≤◌, length, take};
+ghost use Rattle.tuner.specs.declared.Tuner.{Tuner};
 ghost use Rattle.reports.specs.Reports.{report_of};
 ghost use Rattle.reports.specs.Counting.{Within, most};
 ghost use Rattle.reporting.specs.Reporting.{Takes, Report};
-ghost use Rattle.reporting.specs.Keeping.{Keeps, Kept, LineReported, SoFar};
+ghost use Rattle.reporting.specs.Keeping.{Keeps, Kept, LineReported, SoFar, with_tuner};
 ghost use Rattle.reporting.specs.Counts.{counted_of};
-ghost use Rattle.reporting.specs.Steps.{GoesOn, held_after};
+ghost use Rattle.reporting.specs.Steps.{GoesOn, held_in};
+
+mod line;
+
+pub use line::Line;
 
 use reports::Figures;
 use tuner::{Answer, Tuner};
@@ -24,176 +29,114 @@ pub struct Reporting {
     pub length: usize,
 }
 
-// A report so far, and how many bytes of a line without its end are held.
-#[derive(Clone, Copy)]
-pub struct Reads {
-    pub reporting: Reporting,
-    pub held: usize,
-}
-
-// The opening is a take.
-pub fn begin() -> Reporting
-    ensures { (out : List ℕ) → SoFar [] result [] out }
-{
-    let t = lines::opening();
-    let now = reports::none();
-    let before = reports::none();
-    Reporting {
-        tuner: t,
-        takes: 1,
-        now: now,
-        before: before,
-        length: 0,
-    }
-}
-
-// A take begins: the line of the one before it is written, unless there are too many.
-fn begin_take(r: Reporting, u: Tuner, out: &mut [u8]) -> Reporting
-    requires { Kept r out.old × (147147 ≤ length out.old) × (u.numbers.count ≡ 0) }
-    ensures { (result.tuner ≡ u) × ((takes : Takes) → Keeps r out.old takes → Keeps result out.new ([] ∷ takes)) }
-{
-    let before = r.before;
-    let now = r.now;
-    if r.takes >= 1000 {
-        return Reporting {
-            tuner: u,
-            takes: 1001,
-            now: now,
-            before: before,
-            length: r.length,
-        };
-    }
-    let n = reports::put_line(out, r.length, now);
-    let total = reports::add(before, now);
-    let none = reports::none();
-    Reporting {
-        tuner: u,
-        takes: r.takes + 1,
-        now: none,
-        before: total,
-        length: n,
-    }
-}
-
-// The newest take goes on with a block of these figures, unless there are too many.
-fn go_on(r: Reporting, u: Tuner, f: Figures) -> Reporting
-    requires { (r.takes ≤ 1000 → Within most r.now) × Within most f }
-    ensures { GoesOn r u f result }
-{
-    let before = r.before;
-    let now = r.now;
-    if r.takes > 1000 {
-        return Reporting {
-            tuner: u,
-            takes: r.takes,
-            now: now,
-            before: before,
-            length: r.length,
-        };
-    }
-    let sum = reports::add(now, f);
-    Reporting {
-        tuner: u,
-        takes: r.takes,
-        now: sum,
-        before: before,
-        length: r.length,
-    }
-}
-
 // What an answer counts: nothing where it is refused or given again.
 fn counted(a: Answer) -> Figures
     ensures { result ≡ counted_of a }
 {
     if a.number != 0 {
-        return reports::none();
+        return Figures::default();
     }
     Figures {
-        samples: a.written as u64,
-        pitched: a.pitched as u64,
-        repeated: a.repeated as u64,
-        dropped: a.dropped as u64,
-        sum: a.strayed as u64,
+        samples: u64::from(a.written),
+        pitched: u64::from(a.pitched),
+        repeated: u64::from(a.repeated),
+        dropped: u64::from(a.dropped),
+        sum: u64::from(a.strayed),
     }
 }
 
-// One line, given without its end: the line program answers it, and what it answers is not printed.
-fn report_line(r: Reporting, line: &[u8], out: &mut [u8]) -> Reporting
-    requires { Kept r out.old × (147147 ≤ length out.old) }
-    ensures { (takes : Takes) → Keeps r out.old takes → LineReported r.tuner line.now takes result out.new }
-{
-    let t = r.tuner;
-    let mut said = [0u8; 4096];
-    let mut store = [0u32; 0];
-    let d = lines::answer_line(t, line, &mut said, &mut store);
-    let u = d.tuner;
-    if d.begins {
-        return begin_take(r, u, out);
-    }
-    let a = d.answer;
-    let f = counted(a);
-    go_on(r, u, f)
-}
-
-// Holds a byte of a line. Of a line that is too long one byte too many is enough.
-fn hold(line: &mut [u8], held: usize, b: u8) -> usize
-    requires { (held ≤ 8193) × (8193 ≤ length line.old) }
-    ensures { (result ≤ 8193) × (take result line.new ≡ held_after (take held line.old) b) }
-{
-    if held < 8193 {
-        line[held] = b;
-        return held + 1;
-    }
-    held
-}
-
-// A piece of the input, after the bytes that are held.
-pub fn read_on(r: Reporting, line: &mut [u8], held: usize, input: &[u8], out: &mut [u8]) -> Reads
-    requires { ((before : List ℕ) × SoFar before r (take held line.old) out.old) × (held ≤ 8193) × (8193 ≤ length line.old) × (147147 ≤ length out.old) }
-    ensures { (result.held ≤ 8193) × ((before : List ℕ) → SoFar before r (take held line.old) out.old → SoFar (before ++ input.now) result.reporting (take result.held line.new) out.new) }
-{
-    let mut q = r;
-    let mut n = held;
-    let mut i: usize = 0;
-    while i < input.len() {
-        let b = input[i];
-        if b == 10 {
-            q = report_line(q, &line[..n], out);
-            n = 0;
-        } else {
-            n = hold(line, n, b);
+impl Reporting {
+    // The opening is a take.
+    pub fn begin() -> Reporting
+        ensures { (out : List ℕ) → SoFar [] result [] out }
+    {
+        Reporting {
+            tuner: Tuner::default(),
+            takes: 1,
+            now: Figures::default(),
+            before: Figures::default(),
+            length: 0,
         }
-        i += 1;
     }
-    Reads {
-        reporting: q,
-        held: n,
-    }
-}
 
-// The lines of the takes and the total, or 28 alone.
-fn write_report(r: Reporting, out: &mut [u8]) -> usize
-    requires { Kept r out.old × (147147 ≤ length out.old) }
-    ensures { (result ≤ length out.new) × ((takes : Takes) → Keeps r out.old takes → take result out.new ≡ report_of takes) }
-{
-    if r.takes > 1000 {
-        return reports::put_too_many(out);
+    // A take began, and the tuner before that is not known here: the line of the one before it is written, unless there are too many.
+    fn begin_take(&mut self, out: &mut [u8])
+        requires { ((t : Tuner) × Kept (with_tuner t self.old) out.old) × (147147 ≤ length out.old) × (self.old.tuner.numbers.count ≡ 0) }
+        ensures { (self.new.tuner ≡ self.old.tuner) × ((t : Tuner) (takes : Takes) → Keeps (with_tuner t self.old) out.old takes → Keeps self.new out.new ([] ∷ takes)) }
+    {
+        if self.takes >= 1000 {
+            self.takes = 1001;
+            return;
+        }
+        self.length = self.now.put_line(out, self.length);
+        self.before = self.before + self.now;
+        self.now = Figures::default();
+        self.takes += 1;
     }
-    let before = r.before;
-    let now = r.now;
-    let n = reports::put_line(out, r.length, now);
-    let total = reports::add(before, now);
-    reports::put_line(out, n, total)
-}
 
-// The end of the input, where a last line may lack its end: writes the report, and answers how many bytes it has.
-pub fn finish(r: Reporting, held: &[u8], out: &mut [u8]) -> usize
-    requires { ((input : List ℕ) × SoFar input r held.now out.old) × (147147 ≤ length out.old) }
-    ensures { (result ≤ length out.new) × ((input : List ℕ) → SoFar input r held.now out.old → Report input (take result out.new)) }
-{
-    if held.len() == 0 {
-        return write_report(r, out);
+    // The newest take went on with a block of these figures, which count unless there are too many takes.
+    fn go_on(&mut self, f: Figures)
+        requires { (self.old.takes ≤ 1000 → Within most self.old.now) × Within most f }
+        ensures { (t : Tuner) → GoesOn (with_tuner t self.old) self.old.tuner f self.new }
+    {
+        if self.takes <= 1000 {
+            self.now = self.now + f;
+        }
     }
-    let q = report_line(r, held, out);
-    write_report(q, out)
+
+    // One line, given without its end: the line program answers it, and what it answers is not printed.
+    fn report_line(&mut self, line: &[u8], out: &mut [u8])
+        requires { Kept self.old out.old × (147147 ≤ length out.old) }
+        ensures { (takes : Takes) → Keeps self.old out.old takes → LineReported self.old.tuner line.now takes self.new out.new }
+    {
+        let mut said = [0u8; 4096];
+        let mut store = [0u32; 0];
+        let reply = lines::answer_line(&mut self.tuner, line, &mut said, &mut store);
+        if reply.begins {
+            self.begin_take(out);
+        } else {
+            self.go_on(counted(reply.answer));
+        }
+    }
+
+    // A piece of the input, after the bytes that are held.
+    pub fn read_on(&mut self, line: &mut Line, input: &[u8], out: &mut [u8])
+        requires { ((before : List ℕ) × SoFar before self.old (held_in line.old) out.old) × (147147 ≤ length out.old) }
+        ensures { (before : List ℕ) → SoFar before self.old (held_in line.old) out.old → SoFar (before ++ input.now) self.new (held_in line.new) out.new }
+    {
+        for b in input {
+            if *b == b'\n' {
+                self.report_line(line.as_slice(), out);
+                line.clear();
+            } else {
+                line.push(*b);
+            }
+        }
+    }
+
+    // The lines of the takes and the total, or 28 alone.
+    fn write_report(&self, out: &mut [u8]) -> usize
+        requires { Kept self.now out.old × (147147 ≤ length out.old) }
+        ensures { (result ≤ length out.new) × ((takes : Takes) → Keeps self.entry.now out.old takes → take result out.new ≡ report_of takes) }
+    {
+        if self.takes > 1000 {
+            return reports::put_too_many(out);
+        }
+        let at = self.now.put_line(out, self.length);
+        let total = self.before + self.now;
+        total.put_line(out, at)
+    }
+
+    // The end of the input, where a last line may lack its end: writes the report, and answers how many bytes it has.
+    pub fn finish(&mut self, line: &Line, out: &mut [u8]) -> usize
+        requires { ((input : List ℕ) × SoFar input self.old (held_in line.now) out.old) × (147147 ≤ length out.old) }
+        ensures { (result ≤ length out.new) × ((input : List ℕ) → SoFar input self.old (held_in line.now) out.old → Report input (take result out.new)) }
+    {
+        let rest = line.as_slice();
+        if rest.is_empty() {
+            return self.write_report(out);
+        }
+        self.report_line(rest, out);
+        self.write_report(out)
+    }
 }

@@ -1,110 +1,108 @@
 // Standard input and output of the programs: calls that are tried again, and all bytes written. What the system does with them no contract can say; a
-// writer that knows its bytes has them all.
+// reader or a writer that knows its bytes has them all.
 #![tactic(auto)]
 
-ghost use Rattle.std.specs.Prelude.{◌≡◌, ℕ, take, true};
-ghost use Rattle.std.specs.Io.KnownBytes.{Appends};
+ghost use Rattle.std.specs.Prelude.{OnOk, ℕ, take};
+ghost use Rattle.std.specs.Io.{ReadsAtMost};
+ghost use Rattle.std.specs.Io.KnownBytes.{Appends, ReadConsumes};
 
-use std::fmt::{self, Display, Formatter};
 use std::fs::{OpenFile, OpenOptions};
-use std::io::{self, Cursor, ErrorKind, Write};
+use std::io::{self, Cursor, ErrorKind, Read, Write};
 use std::os::fd::AsFd;
 use std::rt::{Clock, Files};
 use std::time::Duration;
 use std::{fs, str, thread};
 
-// A text that is kept as bytes.
-#[derive(Clone, Copy)]
-struct Text<'a>(&'a [u8]);
-
-impl Display for Text<'_> {
-    fn fmt<W: fmt::Write>(&self, f: &mut Formatter<W>) -> fmt::Result {
-        match str::from_utf8(self.0) {
-            Ok(text) => f.write_str(text),
-            Err(_) => f.write_str("?"),
-        }
-    }
-}
+// A read or a write failed, and standard error has what failed.
+#[derive(Clone, Copy, Debug)]
+pub struct Failed;
 
 // Waits for a thousandth of a second.
 fn pause(rt: &impl Clock) {
     thread::sleep(rt, Duration::from_millis(1));
 }
 
-// Whether the call that failed so is to be tried again: a signal came, or nothing is ready yet, and then after a pause.
-pub fn try_again(rt: &impl Clock, error: &io::Error) -> bool {
-    match error.kind() {
-        ErrorKind::Interrupted => true,
-        ErrorKind::WouldBlock => {
-            pause(rt);
-            true
-        }
-        _ => false,
-    }
-}
-
 // Says something of a stream on standard error. Where that fails there is nowhere left to say it.
-fn say(rt: &impl Eprint, name: &[u8], what: &str) {
-    let name = Text(name);
+fn say(rt: &impl Eprint, name: &str, what: &str) {
     let _ = eprintln!(rt; "{name}: {what}");
 }
 
 // The system's words for an error, without its number.
 fn words(text: &str) -> &str {
-    match text.split_once(" (os error ") {
-        Some((words, _)) => words,
-        None => text,
-    }
+    text.split_once(" (os error ")
+        .map_or(text, |(words, _)| words)
 }
 
 // Says what failed, in the system's words.
-pub fn fail(rt: &impl Eprint, name: &[u8], error: &io::Error) {
+fn fail(rt: &impl Eprint, name: &str, error: &io::Error) -> Failed {
     let mut bytes = [0u8; 256];
     let mut all = Cursor::new(&mut bytes[..]);
     let _ = write!(all, "{error}");
     let n = (all.position() as usize).min(256);
     let text = str::from_utf8(&bytes[..n]).unwrap_or("?");
     say(rt, name, words(text));
+    Failed
 }
 
 // Says that an output takes no byte: such a write has no error of its own.
-fn takes_nothing(rt: &impl Eprint, name: &[u8]) {
+fn takes_nothing(rt: &impl Eprint, name: &str) -> Failed {
     say(rt, name, "it takes no byte");
+    Failed
 }
 
-// Writes all bytes, each once, and says whether it did; standard error has the name where it did not. A write that takes no byte is a
-// failed one, so that it is not tried for ever. A proved loop ends: no run uses up the tries.
+// Whether the call that failed so is to be tried again: a signal came, or nothing is ready yet, and then after a pause.
+fn try_again<R: Clock + Eprint>(rt: &R, name: &str, error: &io::Error) -> Result<(), Failed> {
+    match error.kind() {
+        ErrorKind::Interrupted => Ok(()),
+        ErrorKind::WouldBlock => {
+            pause(rt);
+            Ok(())
+        }
+        _ => Err(fail(rt, name, error)),
+    }
+}
+
+// Reads some bytes, none at the end of the input. A proved loop ends: no run uses up the tries.
+pub fn read<I: Read, R: Clock + Eprint>(
+    rt: &R,
+    input: &mut I,
+    buf: &mut [u8],
+    name: &str,
+) -> Result<usize, Failed>
+    ensures bound { ReadsAtMost result buf.new }
+    ensures bytes { ReadConsumes (I.remaining input.old) (I.remaining input.new) result buf.new }
+{
+    for _ in 0..u64::MAX {
+        match input.read(buf) {
+            Ok(n) => return Ok(n),
+            Err(error) => try_again(rt, name, &error)?,
+        }
+    }
+    Err(Failed)
+}
+
+// Writes all bytes, each once. A write that takes no byte is a failed one, so that it is not tried for ever. No run uses up the tries.
 pub fn write_out<W: Write, R: Clock + Eprint>(
     rt: &R,
     output: &mut W,
     bytes: &[u8],
-    name: &[u8],
-) -> bool
-    ensures all { result ≡ true → Appends (W.contents output.old) (W.contents output.new) bytes.now }
+    name: &str,
+) -> Result<(), Failed>
+    ensures all { OnOk result (Appends (W.contents output.old) (W.contents output.new) bytes.now) }
     ensures front { (n : ℕ) × Appends (W.contents output.old) (W.contents output.new) (take n bytes.now) }
 {
     let mut rest = bytes;
-    let mut tries = u64::MAX;
-    while tries > 0 {
+    for _ in 0..u64::MAX {
         if rest.is_empty() {
-            return true;
+            return Ok(());
         }
         match output.write(rest) {
-            Ok(0) => {
-                takes_nothing(rt, name);
-                return false;
-            }
+            Ok(0) => return Err(takes_nothing(rt, name)),
             Ok(n) => rest = &rest[n..],
-            Err(error) => {
-                if !try_again(rt, &error) {
-                    fail(rt, name, &error);
-                    return false;
-                }
-            }
+            Err(error) => try_again(rt, name, &error)?,
         }
-        tries -= 1;
     }
-    false
+    Err(Failed)
 }
 
 // Where standard output is found as a file.
@@ -123,8 +121,11 @@ fn settled<W: AsFd, R: Files>(rt: &R, output: &W) -> io::Result<()> {
 // Where a file has no disk to be brought to, that is no failure.
 fn synced<F: OpenFile>(file: &F) -> io::Result<()> {
     match file.sync_data() {
-        Err(error) if error.kind() == ErrorKind::InvalidInput => Ok(()),
-        Err(error) if error.kind() == ErrorKind::Unsupported => Ok(()),
+        Err(error)
+            if matches!(
+                error.kind(),
+                ErrorKind::InvalidInput | ErrorKind::Unsupported
+            ) => { Ok(()) }
         done => done,
     }
 }
@@ -143,11 +144,11 @@ pub fn write_last<W: Write + AsFd, R: Clock + Eprint + Files>(
     rt: &R,
     output: &mut W,
     bytes: &[u8],
-    name: &[u8],
+    name: &str,
 ) {
-    if write_out(rt, output, bytes, name) {
-        if let Err(error) = settled(rt, output) {
-            fail(rt, name, &error);
-        }
+    if write_out(rt, output, bytes, name).is_ok()
+        && let Err(error) = settled(rt, output)
+    {
+        fail(rt, name, &error);
     }
 }

@@ -1,22 +1,32 @@
--- `daxfolin::keep` meets its contract: each byte is read before it is written over.
-use Rattle.std.proofs.Common.{refl, take, drop, arith}
-use lib.ListN.{length-take}
-use lib.Seq.{length-slice}
-use Rattle.daxfolin.proofs.Moving.{one_more_lem}
+-- What is left stands at the front: all of it, or its first 8,193 bytes.
+use Rattle.std.proofs.Common.{◌≡◌, ◌+◌, ◌-◌, ◌<◌, ◌≤◌, ℕ, List, min, take, drop, length, sym, ap, ◌∙◌, arith, take_all, length-take, length-take-le, length-drop}
+use Rattle.std.proofs.Math.Decide.{dec_lt}
+use Rattle.std.proofs.lemmas.List.{take-take, drop-take}
+use Rattle.std.proofs.lemmas.List.Edits.{take-paste}
+use lib.Seq.{paste}
+use Rattle.lines.specs.Serving.{held_of}
+use Rattle.daxfolin.specs.Turns.{Kept}
 use Rattle.daxfolin.proofs.keep.Goals as goal
-use Rattle.daxfolin.proofs.keep.Goals.{then-rest-lt8193, else-rest-lt8193}
 
-pub loop-i-init : goal.loop-i-init
-loop-i-init c =
-    let a = c.args in
-    let e = length-take 8193 (drop a.from (take a.to a.buf.now)) in
-    let f = length-slice a.from a.to a.buf.now c.requires.1 in (
-      omega arith,
-      elim c.if-rest-lt8193.branch [ then-rest-lt8193 w ↦ omega (arith, e, f) | else-rest-lt8193 w ↦ omega (arith, e, f) ],
-      record { same = refl; front = refl; rest = refl },
-    )
+module _ (buf : List ℕ) (from to n : ℕ) (h : from ≤ to) (l : to ≤ length buf) (e : n ≡ min (to - from) 8193) where
+  held_is : held_of (drop from (take to buf)) ≡ take n (drop from buf)
+  held_is = ap (λ k. take 8193 (drop from (take k buf))) all ∙ ap (take 8193) (drop-take from (to - from) buf) ∙ by_length (dec_lt (to - from) 8193)
+    where
+      all : to ≡ from + (to - from)
+      all = omega arith
 
-pub loop-i-preserved : goal.loop-i-preserved
-loop-i-preserved c =
-    let l = c.loop-i in
-    (omega arith, l.invariant.1, one_more_lem c.args.buf.now c.args.from c.args.to c.requires.0 c.requires.1 l.invariant.2 (omega (arith, c.loop-i-test.true, l.invariant.1)))
+      by_length : Dec (to - from < 8193) → take 8193 (take (to - from) (drop from buf)) ≡ take n (drop from buf)
+      by_length (yes k) = let same : to - from ≡ n = omega arith in take_all 8193 (take (to - from) (drop from buf)) (omega (arith, length-take (to - from) (drop from buf))) ∙ ap (λ k. take k (drop from buf)) same
+      by_length (no k) = let same : 8193 ≡ n = omega arith in take-take 8193 (to - from) (drop from buf) (omega arith) ∙ ap (λ k. take k (drop from buf)) same
+
+  kept : {buf' : List ℕ} → buf' ≡ paste buf 0 (drop from buf) (from + n - from) → Kept buf from to n buf'
+  kept p =
+      let same : from + n - from ≡ n = omega arith in
+      let front : 0 + n ≡ n = omega arith in
+      record {
+        many = sym (ap length held_is ∙ length-take-le n (drop from buf) (omega (arith, length-drop from buf)));
+        bytes = ap (take n) (p ∙ ap (paste buf 0 (drop from buf)) same) ∙ ap (λ k. take k (paste buf 0 (drop from buf) n)) (sym front) ∙ take-paste buf 0 (drop from buf) n (omega arith) (omega (arith, length-drop from buf)) ∙ sym held_is;
+      }
+
+pub returns : goal.returns
+returns c = kept c.args.buf.now c.args.from c.args.to _ c.requires.0 c.requires.1 (omega arith) c.copy_within.ensures.after

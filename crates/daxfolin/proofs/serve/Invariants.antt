@@ -1,10 +1,15 @@
 -- Each batch adds its lines to those said before, and each turn but the last moves on.
-use Rattle.std.proofs.Common.{◌+◌, ◌-◌, ◌≡◌, [], length, cond}
+use Rattle.std.proofs.Common.{◌-◌, ◌≡◌, [], length}
 use Rattle.daxfolin.specs.Laws.{ServedSoFar}
 use Rattle.daxfolin.proofs.serve.Given as goal
 
-abbrev pub invariant-loop-moved : goal.invariant-loop-moved
-invariant-loop-moved g l = ServedSoFar l.t l.input l.u l.at l.moved × (length l.out ≡ length l.fn.out) × (l.store ≡ [])
+abbrev pub invariant-loop-u : goal.invariant-loop-u
+invariant-loop-u g l = record {
+  served : ServedSoFar l.fn.t l.input l.u l.at;
+  same : l.t ≡ l.fn.t;
+  room : length l.out ≡ length l.fn.out;
+  store : l.store ≡ [];
+}
 
-abbrev pub decreases-loop-moved : goal.decreases-loop-moved
-decreases-loop-moved g l = length l.input - l.at + cond l.moved 1 0
+abbrev pub decreases-loop-u : goal.decreases-loop-u
+decreases-loop-u g l = length l.input - l.at
