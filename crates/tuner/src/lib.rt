@@ -23,7 +23,10 @@ ghost use Rattle.tuner.specs.Following.{RatesUpto, no_out, SangBeside, AllSung, 
 ghost use Rattle.tuner.specs.Tuners.{layout_number, kept_places, VoiceIn, VoicesIn, parts, kept_outs, Roomy, written, plain, answer_by, list_after, after_block, Took, Good, level_voice, chosen_voices};
 ghost use Rattle.tuner.specs.Tuners.{fresh_numbers, silent_tuner, fresh_tuner, default_tuner, kept_list, store_fits, begin_number, Started, with_settings, with_bytes, begun_again, Changed, Keyed, Reset, Metered, Tested};
 
+mod by_value;
+
 use answers::Turn;
+pub use by_value::{Done, Taken, start};
 use keyboard::Keyboard;
 use lists::Listing;
 use meters::Meter;
