@@ -234,7 +234,7 @@ fn hush_if(notes: &mut [u32; LONGEST_BLOCK], periods: &[u32; LONGEST_BLOCK], b: 
     ensures { notes.new ≡ hushed b periods.now notes.old }
 {
     if pitched < b as u32 {
-        lists::hush(notes, periods, b);
+        lists::hush(&mut notes[..b], &periods[..b]);
     }
 }
 
@@ -257,7 +257,7 @@ fn listed(
         return list;
     }
     hush_if(notes, periods, b, pitched);
-    lists::more(list, lists::sung(tone), notes, b, count, store)
+    lists::more(list, lists::sung(tone), &notes[..b], count, store)
 }
 
 // A voice sings beside b samples that stand after the first 1764 of s; its output goes to its part of what is kept.
@@ -389,7 +389,7 @@ impl Numbers {
             b,
             &mut outs[..LONGEST_BLOCK],
         );
-        let pitched = b as u32 - lists::count_of(&ts.periods, b, 0);
+        let pitched = b as u32 - lists::count_of(&ts.periods[..b], 0);
         all_sung(
             self.chosen,
             &mut self.voices,
@@ -427,7 +427,7 @@ impl Numbers {
 
 impl Tuner {
     // A block is taken by a good record.
-    pub fn take(&mut self, number: u16, samples: &[i16], store: &mut [u32])
+    fn take(&mut self, number: u16, samples: &[i16], store: &mut [u32])
         requires good { Good self.old }
         requires fits { (0 < length samples.now) × (length samples.now ≤ longest_block) × (self.old.numbers.count + length samples.now ≤ take_limit) }
         ensures tuner { self.new ≡ after_block self.old number samples.now store.old }
@@ -539,7 +539,7 @@ impl Tuner {
     }
 
     // A block is taken where that is the verdict; any other verdict leaves record and store as they were.
-    fn take_by(
+    pub fn take_by(
         &mut self,
         verdict: Result<Turn, Refusal>,
         number: u16,

@@ -1,22 +1,22 @@
 -- `tuner::Numbers::follow` meets its contract: each follower from the same tones.
 use mathlib.Core.Path.{◌≡◌}
-use Prim.Native.Nat.{◌-◌}
+use Prim.Native.Nat.{◌-◌, ◌≤◌}
 use native.Mathlib.Omega.{arith}
-use lib.ListN.{take}
-use Rattle.lists.proofs.Counting.{counted-within}
+use lib.ListN.{length, take}
+use Rattle.lists.proofs.Counting.{counted-front, counted-within}
 use Rattle.reports.specs.Counting.{pitched_in}
 use Rattle.tuner.specs.Taking.{numbers_with}
 use Rattle.tuner.proofs.Taking.{pitched-counted}
 use Rattle.tuner.proofs.Numbers.follow.Goals as goal
 
 pub overflow_sub-pitched : goal.overflow_sub-pitched
-overflow_sub-pitched c = let a = c.args in omega (arith, c.count_of.ensures, counted-within 0 a.ts.now.periods a.b)
+overflow_sub-pitched c = let a = c.args in let p = c.requires in omega (arith, c.count_of.ensures, counted-front 0 a.ts.now.periods a.b (omega (arith, p.few, p.long.periods)), counted-within 0 a.ts.now.periods a.b)
 
 pub listed-self-requires : goal.listed-self-requires
 listed-self-requires c =
     let a = c.args in
     let p = c.requires in
-    (p.few, p.count, p.list, omega (arith, c.count_of.ensures, counted-within 0 a.ts.now.periods a.b))
+    (p.few, p.count, p.list, omega (arith, c.count_of.ensures, counted-front 0 a.ts.now.periods a.b (omega (arith, p.few, p.long.periods)), counted-within 0 a.ts.now.periods a.b))
 
 pub returns : goal.returns
 returns c =
@@ -29,7 +29,7 @@ returns c =
     let on = c.listed-self in
     let w = c.settled-self in
     let many = c.count_of in
-    let pitched : a.b - many.result ≡ pitched_in (take a.b ts.periods) = omega (arith, many.ensures, pitched-counted ts.periods a.b (omega (arith, p.few, p.long.periods))) in
+    let pitched : a.b - many.result ≡ pitched_in (take a.b ts.periods) = (let fits : a.b ≤ length ts.periods = omega (arith, p.few, p.long.periods) in omega (arith, many.ensures, counted-front 0 ts.periods a.b fits, pitched-counted ts.periods a.b fits)) in
     record {
       lead = d.result;
       out = d.new.out;
