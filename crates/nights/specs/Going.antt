@@ -1,31 +1,22 @@
 -- How far a night has come: what its loop and its parts promise, and that in the end it is the single calls one by one.
-use Rattle.std.specs.Prelude.{Bool, true, false, Result, Ok, Err, ◌≡◌, ℕ, zero, suc, ◌+◌, ◌-◌, ◌*◌, ◌<◌, ◌≤◌, min, cond, ◌⊎◌, List, [], ◌∷◌, ◌++◌, map, length, take, drop, ℤ, ◌==◌, ◌≢◌, nat_le, nat_lt, refl}
-use Rattle.std.proofs.Common.{inl, inr, sym, ap, ◌∙◌, append_assoc, append-nil, arith, leb-true, leb-false, take-append-drop, length-append, length-drop, length-take, drop_of_length-le, take-add, take_all, take_at, drop_at, drop-drop, length-take-le}
+use Rattle.std.specs.Prelude.{◌≡◌, ℕ, zero, suc, ◌+◌, ◌-◌, ◌*◌, ◌<◌, ◌≤◌, min, cond, ◌⊎◌, List, [], ◌∷◌, ◌++◌, map, length, take, drop, ℤ, ◌==◌, ◌≢◌, nat_le, refl}
+use Rattle.std.proofs.Common.{sym, ap, ◌∙◌, append_assoc, append-nil, arith, leb-true, leb-false, take-append-drop, length-append, length-drop, length-take, drop_of_length-le, take-add, take_all, take_at, drop_at, drop-drop, length-take-le}
 use Rattle.std.proofs.Math.Path.{subst, transport}
-use Rattle.std.proofs.lemmas.Bool.{eqb-false}
 use Rattle.whole.specs.Tests.{by, cond_case}
-use Rattle.core.specs.Result.{result_eq}
-use borrow.Author.Tests.{ne_eqb}
 use Rattle.rules.specs.Rules.{longest_block}
 use Rattle.refusals.specs.declared.Refusal.{Refusal}
 use Rattle.refusals.specs.Refusals.{refusal_number}
-use Rattle.refusals.specs.contracts.RefusalPartialEq.TheImpl as refusal
-use Rattle.answers.specs.declared.Turn.{Turn}
-use Rattle.answers.specs.declared.Turn.TheVariants.{Taken, GivenAgain}
-use Rattle.answers.specs.contracts.TurnPartialEq.TheImpl as turn
-use Rattle.answers.specs.Numbering.{judged_number}
-use Rattle.record.specs.Parts.{Stores}
 use Rattle.record.specs.Records.{heard_after}
 use Rattle.tuner.specs.declared.Numbers.{Numbers}
 use Rattle.tuner.specs.declared.Tuner.{Tuner}
 use Rattle.tuner.specs.declared.Answer.{Answer}
-use Rattle.tuner.specs.Tuners.{heard_by, Good, kept_places, parts, kept_outs, Roomy, Fits, Verdict, record_out_of_range, block_empty, block_over_512, output_short, number-neither, other-samples, given-again, take-full, taken, after_block, list_after, Took, with_numbers}
+use Rattle.tuner.specs.Tuners.{Good, parts, kept_outs, Roomy, Fits, Verdict, record_out_of_range, block_empty, block_over_512, output_short, number-neither, other-samples, given-again, take-full, taken, after_block, Took}
 use Rattle.tuner.specs.Following.{LeastRoom, Judged}
 use Rattle.tuner.proofs.Outputs.{room_after}
-use Rattle.tuner.proofs.Verdicts.{verdict-fits, after_last, again-long, one_left}
-use Rattle.staying.specs.Staying.{Lengths, Stays, took-stays, took_number, took-taken, untaken_unchanged}
+use Rattle.tuner.proofs.Verdicts.{verdict-fits, after_last}
+use Rattle.staying.specs.Staying.{Stays, took-stays, took_number, took-taken, untaken_unchanged}
 use Rattle.nights.specs.declared.NightAnswer.{NightAnswer}
-use Rattle.nights.specs.Night.{first_stretches, stretches, number_after, no_night, added_by, added, before, OneByOne, all_done, and_on, refused, Untouched, Nighted, size_out_of_range}
+use Rattle.nights.specs.Night.{first_stretches, stretches, number_after, no_night, added_by, added, before, OneByOne, all_done, and_on, refused, Nighted, size_out_of_range}
 use Rattle.nights.specs.Night as promise
 
 -- ---- what the parts promise
@@ -37,13 +28,6 @@ pub record Small (n : NightAnswer) : Type 0 where
   pub dropped : n.dropped ≤ 4294967296 * n.taken
   pub pitched : n.pitched ≤ 4294967296 * n.taken
   pub strayed : n.strayed ≤ 4294967296 * n.taken
-
--- tuner and store by the number of a block: 0 alone moves them
-abbrev pub tuner_by : (v : ℕ) → Tuner → (k : ℕ) → List ℤ → List ℕ → Tuner
-tuner_by v t k xs store = cond (v == 0) (after_block t k xs store) t
-
-abbrev pub rows_by : (v : ℕ) → Tuner → List ℤ → List ℕ → List ℕ
-rows_by v t xs store = cond (v == 0) (list_after t xs store).store store
 
 -- outputs as long as others, and the same up to a place
 unfoldable pub Kept : ℕ → List (List ℤ) → List (List ℤ) → Type 0
@@ -64,18 +48,11 @@ pub data Refuses (t : Tuner) (size : ℕ) (xs : List ℤ) (os : List (List ℤ))
   by_four : Good t → 0 < size → size ≤ longest_block → (Roomy (length xs) (kept_outs t) os → ⊥) → Refuses t size xs os 4
   begins : Good t → 0 < size → size ≤ longest_block → Roomy (length xs) (kept_outs t) os → Refuses t size xs os 0
 
--- ---- what a block leaves by its number
+-- ---- what a block leaves
 
 -- as many voices are chosen
-pub chosen_by : (v : ℕ) (t : Tuner) (k : ℕ) (xs : List ℤ) (store : List ℕ) → (tuner_by v t k xs store).numbers.chosen ≡ t.numbers.chosen
+chosen_by : (v : ℕ) (t : Tuner) (k : ℕ) (xs : List ℤ) (store : List ℕ) → (cond (v == 0) (after_block t k xs store) t).numbers.chosen ≡ t.numbers.chosen
 chosen_by v t k xs store = cond_case (v == 0) (after_block t k xs store) t (λ (u : Tuner). u.numbers.chosen ≡ t.numbers.chosen) (λ e. (after_last t k xs store).1) (λ e. refl)
-
--- what is taken or given again is then the last block
-pub last-by : {v : ℕ} {t : Tuner} {k : ℕ} {xs : List ℤ} {os : List (List ℤ)} (store : List ℕ) → Verdict t k xs os v → length t.heard ≡ 1764 → v ≤ 1 → (tuner_by v t k xs store).numbers.last.length ≡ length xs
-last-by {v} {t} {k} {xs} store p long h =
-    cond_case (v == 0) (after_block t k xs store) t (λ (u : Tuner). u.numbers.last.length ≡ length xs)
-    (λ e. (after_last t k xs store).0)
-    (λ e. again-long p (one_left v (eqb-false v 0 e) h) long (verdict-fits p h).good.lead.last.length)
 
 -- ---- the counts
 
@@ -347,28 +324,6 @@ go-ends {t₀} {t} {k₀} {k} {size} {at} {n₀} {n} {xs} {left} {os₀} {os} {s
     (g.whole t n (map (drop at) os) store (rest-many at os)
     (transport (λ i. OneByOne t k n (sym (stretches-none size left none) i) (map (drop at) os) store t n (map (drop at) os) store) all_done))
 
--- ---- the verdict on a block, by its number
-
-pub above_one : (r : Refusal) → 1 < refusal_number r
-above_one r = grind arith
-
--- a block is taken where the number is 0
-pub is_taken : (v : Result Turn Refusal) → result_eq turn.eq-value.it refusal.eq-value.it v (Ok Taken) ≡ (judged_number v == 0)
-is_taken (Ok Taken) = refl
-is_taken (Ok GivenAgain) = refl
-is_taken (Err r) = sym (ne_eqb (refusal_number r) 0 (λ e. omega (arith, above_one r)))
-
--- so it leaves tuner and store by that number
-pub left_by : (t : Tuner) (k : ℕ) (xs : List ℤ) (store : List ℕ) (v : Result Turn Refusal) {b : Bool} {t' : Tuner} {store' : List ℕ} → b ≡ result_eq turn.eq-value.it refusal.eq-value.it v (Ok Taken)
-    → ((b ≡ true) × (t' ≡ after_block t k xs store) × (store' ≡ (list_after t xs store).store)) ⊎ ((b ≡ false) × (t' ≡ t) × (store' ≡ store))
-    → (t' ≡ tuner_by (judged_number v) t k xs store) × (store' ≡ rows_by (judged_number v) t xs store)
-left_by t k xs store v e (inl (so, p, q)) =
-    let z = sym (e ∙ is_taken v) ∙ so in
-    (p ∙ ap (λ (b : Bool). cond b (after_block t k xs store) t) (sym z), q ∙ ap (λ (b : Bool). cond b (list_after t xs store).store store) (sym z))
-left_by t k xs store v e (inr (so, p, q)) =
-    let z = sym (e ∙ is_taken v) ∙ so in
-    (p ∙ ap (λ (b : Bool). cond b (after_block t k xs store) t) (sym z), q ∙ ap (λ (b : Bool). cond b (list_after t xs store).store store) (sym z))
-
 -- ---- a block that has room in each output that is asked for is judged by its own length
 
 -- outputs just as long as the block
@@ -406,6 +361,9 @@ judged-here {t} {k} {xs} {os} j good room =
     judged-alike (fits-exactly (length xs) xs (kept_outs t) (omega arith)) room (j (map (λ (k : List ℤ). xs) (kept_outs t)) (exactly t xs) good)
 
 -- ---- the promise by its number
+
+pub above_one : (r : Refusal) → 1 < refusal_number r
+above_one r = grind arith
 
 module _ {t : Tuner} {k size : ℕ} {xs : List ℤ} {os : List (List ℤ)} {store : List ℕ} where
   -- refused before its first block

@@ -11,7 +11,6 @@ ghost use Rattle.tuner.specs.Tuners.{kept_outs, Roomy, Took};
 ghost use Rattle.nights.specs.Night.{no_night, added, stretches, OneByOne, Nighted};
 ghost use Rattle.nights.specs.Going.{Small, Went, Refuses};
 
-use answers::Turn;
 use refusals::Refusal;
 use rules::LONGEST_BLOCK;
 use tuner::{Answer, Numbers, Tuner};
@@ -105,9 +104,7 @@ fn block(
         t.new result (four out.new first.new second.new third.new) store.new }
 {
     let verdict = t.judge(number, samples, samples.len());
-    if verdict == Ok(Turn::Taken) {
-        t.take(number, samples, store);
-    }
+    t.take_by(verdict, number, samples, store);
     t.answer(verdict, out, first, second, third)
 }
 

@@ -430,7 +430,7 @@ impl Numbers {
 
 impl Tuner {
     // A block is taken by a good record.
-    pub fn take(&mut self, number: u16, samples: &[i16], store: &mut [u32])
+    fn take(&mut self, number: u16, samples: &[i16], store: &mut [u32])
         requires good { Good self.old }
         requires fits { (0 < length samples.now) × (length samples.now ≤ longest_block) × (self.old.numbers.count + length samples.now ≤ take_limit) }
         ensures tuner { self.new ≡ after_block self.old number samples.now store.old }
@@ -542,7 +542,7 @@ impl Tuner {
     }
 
     // A block is taken where that is the verdict; any other verdict leaves record and store as they were.
-    fn take_by(
+    pub fn take_by(
         &mut self,
         verdict: Result<Turn, Refusal>,
         number: u16,

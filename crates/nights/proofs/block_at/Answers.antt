@@ -1,5 +1,5 @@
 -- The block goes to what is left of each output.
-use Rattle.std.proofs.Common.{◌≡◌, ℕ, ◌+◌, ◌-◌, ◌≤◌, min, List, ◌++◌, map, length, take, drop, ℤ, sym, refl, ap, ◌∙◌, arith, length-append, length-take, length-drop}
+use Rattle.std.proofs.Common.{◌≡◌, ℕ, ◌+◌, ◌-◌, ◌≤◌, min, List, ◌++◌, map, length, take, drop, ℤ, sym, refl, arith, length-append, length-take, length-drop}
 use mathlib.Core.Path.{transport}
 use Rattle.tuner.specs.Tuners.{kept_outs, Roomy, Took}
 use Rattle.tuner.specs.Following.{four}

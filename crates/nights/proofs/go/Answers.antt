@@ -1,4 +1,4 @@
-use Rattle.std.proofs.Common.{◌≡◌, ℕ, ◌+◌, ◌≤◌, ◌<◌, length, List, ℤ, ◌++◌, sym, ap, subst, ◌∙◌, arith, length-append}
+use Rattle.std.proofs.Common.{◌+◌, length, List, ℤ, sym, ap, subst, ◌∙◌, arith, length-append}
 use Rattle.std.specs.Slice.Iter.{chunks_rest, chunks_size}
 use Rattle.tuner.specs.Following.{four}
 use Rattle.tuner.proofs.Outputs.{each_fits}

@@ -3,7 +3,7 @@ use Rattle.std.proofs.Common.{◌≡◌, ◌+◌, length}
 use Rattle.std.specs.Slice.Iter.{chunks_rest, chunks_size}
 use Rattle.tuner.specs.Following.{four}
 use Rattle.nights.specs.Night.{no_night}
-use Rattle.nights.specs.Going.{Kept, Going}
+use Rattle.nights.specs.Going.{Going}
 use Rattle.nights.proofs.go.Given as goal
 
 abbrev pub invariant-loop-stretch : goal.invariant-loop-stretch

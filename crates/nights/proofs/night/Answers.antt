@@ -1,6 +1,5 @@
 -- Refused before its first block, or block by block.
 use Rattle.std.proofs.Common.{refl, arith, ◌∙◌, ap, ℕ}
-use Rattle.nights.specs.declared.NightAnswer.{NightAnswer}
 use Rattle.nights.specs.Night.{no_night, one_by_one}
 use Rattle.nights.specs.Going.{above_one, night-refused, night-begins}
 use Rattle.nights.proofs.night.Goals as goal
