@@ -1,5 +1,5 @@
 -- `lines::answer_lines` meets its contract: each line's answer is put after those before it.
-use Rattle.std.proofs.Common.{◌<◌, length, arith}
+use Rattle.std.proofs.Common.{◌<◌, length, arith, ◌≤◌, ◌-◌}
 use Rattle.lines.specs.Batch.{none-answered, batch_more}
 use Rattle.lines.proofs.answer_lines.Goals as goal
 
@@ -11,4 +11,5 @@ loop-at-preserved c =
     let b = c.loop-at.invariant.1 in
     let f = c.first-end.ensures in
     let l : c.first-end.result < length c.args.input.now = omega (arith, f.within) in
-    (omega arith, batch_more b f l c.if-out-length-lt-ANSWER_ROOM.false c.answer_line-reply.ensures.answered c.answer_line-reply.auto.out)
+    let room : 4096 ≤ length c.loop-at.out - c.loop-at.length = omega arith in
+    (omega arith, batch_more b f l room c.answer_line-reply.ensures.answered c.answer_line-reply.auto.out)
