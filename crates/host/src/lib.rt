@@ -134,7 +134,7 @@ pub fn daxfolin_block(
     lent.block(number, samples, out, first, second, third, store)
 }
 
-// The block call over a record lent and altered there, with equal answers: what `play` runs.
+// The block call over a record lent and altered there, with equal answers: it copies out, calls the step by value and stores back.
 pub fn block_in_place(
     lent: &mut Tuner,
     number: u16,
@@ -148,7 +148,9 @@ pub fn block_in_place(
     ensures { Took lent.old number samples.now (four out.old first.old second.old third.old) store.old
         lent.new result (four out.new first.new second.new third.new) store.new }
 {
-    daxfolin_block(lent, number, samples, out, first, second, third, store)
+    let taken = lent.block_by_value(number, samples, out, first, second, third, store);
+    *lent = taken.tuner;
+    taken.answer
 }
 
 // A recording's blocks of so many samples, from a block number on, as by the single calls one by one; it stops at the first that is refused.

@@ -235,3 +235,35 @@ pub fn night(
         Err(refusal) => NightAnswer::begin(refusal.number(), &t.numbers),
     }
 }
+
+// What a night leaves, and its answer.
+#[derive(Clone, Copy)]
+pub struct NightTaken {
+    pub tuner: Tuner,
+    pub answer: NightAnswer,
+}
+
+// The same by value: the tuner is handed in, and the new tuner handed back.
+pub fn night_by_value(
+    t: Tuner,
+    number: u16,
+    size: usize,
+    samples: &[i16],
+    out: &mut [i16],
+    first: &mut [i16],
+    second: &mut [i16],
+    third: &mut [i16],
+    store: &mut [u32],
+) -> NightTaken
+    ensures { Nighted t number size samples.now (four out.old first.old second.old third.old) store.old
+        result.tuner result.answer (four out.new first.new second.new third.new) store.new }
+{
+    let mut after = t;
+    let answer = night(
+        &mut after, number, size, samples, out, first, second, third, store,
+    );
+    NightTaken {
+        tuner: after,
+        answer,
+    }
+}

@@ -14,7 +14,7 @@ use refusals::Refusal;
 use rules::{CD_RATE, Settings};
 use std::array;
 use std::io::{self, ErrorKind, Read};
-use tuner::{Answer, Tuner};
+use tuner::{Answer, Done, Tuner};
 
 // ---- a record of the script
 
@@ -86,17 +86,24 @@ fn told(rt: &impl Print, answer: Result<(), Refusal>) -> io::Result<()> {
 
 // ---- the calls
 
+// Keeps the tuner that a call by value hands back, and tells its answer.
+fn done(rt: &impl Print, t: &mut Tuner, done: Done) -> io::Result<()> {
+    *t = done.tuner;
+    told(rt, done.answer)
+}
+
 // A start without a list and without voices.
 fn start(rt: &impl Print, t: &mut Tuner, hertz: u32, s: Settings) -> io::Result<()> {
-    told(rt, t.start(hertz, s, 0, &[], &[]))
+    done(rt, t, tuner::start(hertz, s, 0, &[], &[]))
 }
 
 fn midi(rt: &impl Print, t: &mut Tuner, b: &[u8; 1054]) -> io::Result<()> {
     let n = most(word(b, 4));
-    told(rt, t.midi(&b[28..28 + n]))
+    let keyed = t.midi_by_value(&b[28..28 + n]);
+    done(rt, t, keyed)
 }
 
-// A block that lends nothing but its samples and the lead's output, by the call that the script names: 4 is the tuner's own, 11 the one in place.
+// A block that lends nothing but its samples and the lead's output, by the call that the script names: 4 is by value, 11 over the record lent.
 fn given(
     op: u8,
     t: &mut Tuner,
@@ -112,7 +119,9 @@ fn given(
         t.new result (four out.new first.new second.new third.new) store.new }
 {
     if op == 4 {
-        t.block(number, samples, out, first, second, third, store)
+        let taken = t.block_by_value(number, samples, out, first, second, third, store);
+        *t = taken.tuner;
+        taken.answer
     } else {
         host::block_in_place(t, number, samples, out, first, second, third, store)
     }
@@ -146,8 +155,8 @@ fn night(rt: &impl Print, t: &mut Tuner, b: &[u8; 1054]) -> io::Result<()> {
     let size = long(b, 8) as usize;
     let xs = samples(b);
     let mut out = [7i16; 513];
-    let a = nights::night(
-        t,
+    let taken = nights::night_by_value(
+        *t,
         word(b, 2),
         size,
         &xs[..n],
@@ -157,7 +166,8 @@ fn night(rt: &impl Print, t: &mut Tuner, b: &[u8; 1054]) -> io::Result<()> {
         &mut [],
         &mut [],
     );
-    tell(rt, a)?;
+    *t = taken.tuner;
+    tell(rt, taken.answer)?;
     show_all(rt, &out[..room])
 }
 
@@ -195,8 +205,14 @@ fn play(rt: &impl Print, t: &mut Tuner, b: &[u8; 1054]) -> io::Result<()> {
     match b[0] {
         0 => start(rt, t, long(b, 8), settings(b))?,
         1 => start(rt, t, CD_RATE, record::default_settings())?,
-        2 => told(rt, t.change(settings(b)))?,
-        3 => told(rt, t.reset(&[]))?,
+        2 => {
+            let changed = t.change_by_value(settings(b));
+            done(rt, t, changed)?
+        }
+        3 => {
+            let begun = t.reset_by_value(&[]);
+            done(rt, t, begun)?
+        }
         4 | 11 => block(rt, b[0], t, b)?,
         5 => meter(rt, t)?,
         6 => stretch(rt, b)?,

@@ -63,10 +63,10 @@ impl Tuner {
     pub fn reset_by_value(self, store: &[u32]) -> Done
         ensures { Reset self store.now result.tuner (number_of result.answer) }
     {
-        let mut begun = self;
-        let answer = begun.reset(store);
+        let mut emptied = self;
+        let answer = emptied.reset(store);
         Done {
-            tuner: begun,
+            tuner: emptied,
             answer,
         }
     }
