@@ -1,7 +1,7 @@
 -- The input goes on, byte by byte, and comes to its end; and no second report of an input.
-use Rattle.std.specs.Prelude.{◌≡◌, refl, List, [], ◌∷◌, ◌++◌, ℕ, ◌+◌, ◌≤◌, ◌<◌, ltb, length, take, get_or, set}
-use Rattle.std.proofs.Common.{sym, ap, subst, ◌∙◌, append-nil, append_assoc, add-one, arith, lt-ltb, le-ltb, ltb-false, length-append, take-suc, take_all, take-suc-set, length-take-le}
-use Rattle.whole.specs.Tests.{cond_case, cond_yes, cond_no}
+use Rattle.std.specs.Prelude.{◌≡◌, refl, List, [], ◌∷◌, ◌++◌, ℕ, ◌+◌, ◌≤◌, ◌<◌, ltb, length, take, get_or}
+use Rattle.std.proofs.Common.{sym, ap, subst, ◌∙◌, append-nil, append_assoc, add-one, arith, ltb-false, length-append, take-suc, take_all}
+use Rattle.whole.specs.Tests.{cond_case}
 use Rattle.tuner.specs.declared.Tuner.{Tuner}
 use Rattle.tuner.specs.declared.Answer.{Answer}
 use Rattle.tuner.specs.Tuners.{fresh_numbers, silent_tuner, default_tuner}
@@ -127,16 +127,6 @@ module _ {input : List ℕ} {r : Reporting} {held out : List ℕ} (s : SoFar inp
       go : (h : List ℕ) → (length h ≡ 0 → ⊥) → {t' : Tuner} {x : List ℕ} {a : Answer} → Said (desk r.tuner []) (read h) (desk t' []) x a → Reported r.tuner s.takes h [] (takes_after r.tuner (read h) a s.takes)
       go [] z p = absurd (z refl)
       go (b ∷ h) z p = last_line p
-
--- ---- a byte is held
-pub hold_more : (line : List ℕ) (held b : ℕ) → held < 8193 → 8193 ≤ length line → take (held + 1) (set line held b) ≡ held_after (take held line) b
-hold_more line held b h l =
-    ap (λ (n : ℕ). take n (set line held b)) (add-one held)
-    ∙ take-suc-set line held b (omega arith)
-    ∙ sym (cond_yes _ _ (lt-ltb (length (take held line)) 8193 (omega (arith, length-take-le held line (omega arith)))))
-
-pub hold_full : (line : List ℕ) (held b : ℕ) → 8193 ≤ held → held ≤ length line → take held line ≡ held_after (take held line) b
-hold_full line held b h l = sym (cond_no _ _ (le-ltb (length (take held line)) 8193 (omega (arith, length-take-le held line l))))
 
 -- ---- a piece of the input, byte by byte
 

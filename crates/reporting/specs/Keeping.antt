@@ -194,13 +194,6 @@ module _ {r : Reporting} {out : List ℕ} where
   written-many h (few g k) p = absurd (omega arith)
   written-many h (many {takes = takes} g k) p = put_front (omega arith) p ∙ sym (cond_no _ too_many (lt-leb (length takes) 1000 k))
 
--- a line was put, and where it ends
-pub line-within : {out out' : List ℕ} {at n : ℕ} (f : Figures) → at + 147 ≤ length out → Put out at (figures_line f) out' n → (n ≤ at + 147) × (n ≤ length out') × (length out' ≡ length out)
-line-within f h p =
-    let short = line-short f in
-    let same = put-length p (omega arith) in
-    (omega (arith, p.next), omega (arith, p.next, same), same)
-
 pub too_many_within : {out out' : List ℕ} {n : ℕ} → 6 ≤ length out → Put out 0 too_many out' n → n ≤ length out'
 too_many_within h p =
     let short = decimal-short 28 in

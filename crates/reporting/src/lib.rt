@@ -18,6 +18,9 @@ pub use line::Line;
 use reports::Figures;
 use tuner::{Answer, Tuner};
 
+// More takes are not reported.
+const MOST_TAKES: u32 = 1000;
+
 // The tuner; how many takes began, 1,001 for more than 1,000; the newest one's figures, those of all before it added up, and how many bytes of the output
 // their lines take.
 #[derive(Clone, Copy)]
@@ -64,8 +67,8 @@ impl Reporting {
         requires { ((t : Tuner) × Kept (with_tuner t self.old) out.old) × (147147 ≤ length out.old) × (self.old.tuner.numbers.count ≡ 0) }
         ensures { (self.new.tuner ≡ self.old.tuner) × ((t : Tuner) (takes : Takes) → Keeps (with_tuner t self.old) out.old takes → Keeps self.new out.new ([] ∷ takes)) }
     {
-        if self.takes >= 1000 {
-            self.takes = 1001;
+        if self.takes >= MOST_TAKES {
+            self.takes = MOST_TAKES + 1;
             return;
         }
         self.length = self.now.put_line(out, self.length);
@@ -79,7 +82,7 @@ impl Reporting {
         requires { (self.old.takes ≤ 1000 → Within most self.old.now) × Within most f }
         ensures { (t : Tuner) → GoesOn (with_tuner t self.old) self.old.tuner f self.new }
     {
-        if self.takes <= 1000 {
+        if self.takes <= MOST_TAKES {
             self.now = self.now + f;
         }
     }
@@ -119,7 +122,7 @@ impl Reporting {
         requires { Kept self.now out.old × (147147 ≤ length out.old) }
         ensures { (result ≤ length out.new) × ((takes : Takes) → Keeps self.entry.now out.old takes → take result out.new ≡ report_of takes) }
     {
-        if self.takes > 1000 {
+        if self.takes > MOST_TAKES {
             return reports::put_too_many(out);
         }
         let at = self.now.put_line(out, self.length);

@@ -1,7 +1,6 @@
 -- A last line that lacks its end is a line, and the takes then are those of the whole input.
 use Rattle.std.proofs.Common.{◌≡◌, List, ℕ, length, rules, ap, sym, ◌∙◌, subst}
 use Rattle.reporting.specs.Keeping.{LineReported}
-use Rattle.reporting.specs.Steps.{held_in}
 use Rattle.reporting.specs.Going.{ended-none, ended-line}
 use Rattle.reporting.proofs.Reporting.finish.Goals as goal
 
