@@ -77,8 +77,8 @@ fn track(v: Pitch, f: InForce, s: &[i16]) -> Pitch
     requires { (v.tracking ≡ 1) × PitchRight (past s.now) v × ForceIn f × Ample s.now }
     ensures { Became (past s.now) (tracked f (past s.now) v.tone v.tracker.low v.tracker.last) result }
 {
-    let mut tracker = v.tracker;
-    match tracker.step(f.settings, s) {
+    let (tracker, period) = v.tracker.step(f.settings, s);
+    match period {
         Some(period) => Pitch {
             tracker,
             tone: notes::tune(f, v.tone, period),
@@ -97,9 +97,10 @@ fn followed(v: Pitch, s: &[i16]) -> Pitch
     requires { (v.tracking ≡ 1) × PitchRight (older (past s.now)) v × Ample s.now }
     ensures { (result.tracking ≡ 1) × Became (past s.now) (pitch_of v) result }
 {
-    let mut tracker = v.tracker;
-    tracker.update(s);
-    Pitch { tracker, ..v }
+    Pitch {
+        tracker: v.tracker.update(s),
+        ..v
+    }
 }
 
 // Searching or tracking after sample number n, which stands last.

@@ -127,30 +127,31 @@ impl Tracker {
     }
 
     // One more sample.
-    pub fn update(&mut self, s: &[i16])
-        requires { (lowest_lag ≤ self.old.low) × (self.old.low ≤ highest_lag - 7) × Ample s.now × Right (older (past s.now)) self.old.low 8 self.old.e self.old.h }
-        ensures { Tracks (past s.now) self.old.low self.old.last self.new }
+    pub fn update(mut self, s: &[i16]) -> Tracker
+        requires { (lowest_lag ≤ self.low) × (self.low ≤ highest_lag - 7) × Ample s.now × Right (older (past s.now)) self.low 8 self.e self.h }
+        ensures { Tracks (past s.now) self.low self.last result }
     {
         sums::next_all(&mut self.e, &mut self.h, self.low as usize, s);
+        self
     }
 
-    // A tracking step: the period in 1/256 sample, or none where it is lost.
-    pub fn step(&mut self, g: Settings, s: &[i16]) -> Option<u32>
-        requires { (lowest_lag ≤ self.old.low) × (self.old.low ≤ highest_lag - 7) × (self.old.last ≤ highest_lag) × Modest g × Ample s.now × Right (past s.now) self.old.low 8 self.old.e self.old.h }
-        ensures { Stepped g (past s.now) self.old result self.new }
+    // A tracking step: the tracker after it, and the period in 1/256 sample, or none where it is lost.
+    pub fn step(mut self, g: Settings, s: &[i16]) -> (Tracker, Option<u32>)
+        requires { (lowest_lag ≤ self.low) × (self.low ≤ highest_lag - 7) × (self.last ≤ highest_lag) × Modest g × Ample s.now × Right (past s.now) self.low 8 self.e self.h }
+        ensures { Stepped g (past s.now) self result.1 result.0 }
     {
         let mut d = [0; 8];
         passing::distances(&mut d, &self.e, &self.h);
         let at = least(&d);
         let lag = self.low + at as u32;
         if lost(d[at], self.e[at], g, lag, self.last) {
-            return None;
+            return (self, None);
         }
         let p = period(&d, self.low, at);
         let low = moved_low(self.low, at);
         moved_sums(&mut self.e, &mut self.h, self.low, low, s);
         self.low = low;
         self.last = lag;
-        Some(p)
+        (self, Some(p))
     }
 }

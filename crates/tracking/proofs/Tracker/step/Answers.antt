@@ -15,7 +15,7 @@ use Rattle.tracking.specs.Tracking.{kept, is-best}
 use Rattle.tracking.proofs.Tracker.step.Goals.{After-least-at, Start}
 use Rattle.tracking.proofs.Tracker.step.Goals as goal
 
-sums : (s : Start) → Kept 8 s.args.self.now.e s.args.self.now.h
+sums : (s : Start) → Kept 8 s.args.self.e s.args.self.h
 sums s = kept s.requires.1 s.requires.4 s.requires.5
 
 pub distances-requires : goal.distances-requires
@@ -26,7 +26,7 @@ module _ (c : After-least-at) where
   x = past c.args.s.now
 
   abbrev low : ℕ
-  low = c.args.self.now.low
+  low = c.args.self.low
 
   abbrev d : List ℕ
   d = c.distances.new.d
@@ -40,12 +40,12 @@ module _ (c : After-least-at) where
   at-best : c.least-at.result ≡ best x low
   at-best = is-best measured c.least-at.ensures
 
-  judged : {r : Bool} → ((y : Sound) → get_or d c.least-at.result 0 ≡ D y (low + c.least-at.result) → get_or c.args.self.now.e c.least-at.result 0 ≡ E y (low + c.least-at.result) → r ≡ is_lost c.args.g y (low + c.least-at.result) c.args.self.now.last)
-      → r ≡ is_lost c.args.g x (low + best x low) c.args.self.now.last
+  judged : {r : Bool} → ((y : Sound) → get_or d c.least-at.result 0 ≡ D y (low + c.least-at.result) → get_or c.args.self.e c.least-at.result 0 ≡ E y (low + c.least-at.result) → r ≡ is_lost c.args.g y (low + c.least-at.result) c.args.self.last)
+      → r ≡ is_lost c.args.g x (low + best x low) c.args.self.last
   judged f =
       let i = c.least-at.ensures.inside in
       f x (measured.distance c.least-at.result i) (c.requires.5.energy c.least-at.result i)
-      ∙ ap (λ (at : ℕ). is_lost c.args.g x (low + at) c.args.self.now.last) at-best
+      ∙ ap (λ (at : ℕ). is_lost c.args.g x (low + at) c.args.self.last) at-best
 
 pub lost-requires : goal.lost-requires
 lost-requires c =
