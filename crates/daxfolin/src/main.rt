@@ -12,6 +12,7 @@ use streams::Failed;
 use tuner::Tuner;
 
 const INPUT: &str = "daxfolin: standard input";
+
 const OUTPUT: &str = "daxfolin: standard output";
 
 // Answers all lines that end within the input, writes the answers, and gives the place after the last line. Where a write fails the tuner is

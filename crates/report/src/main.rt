@@ -12,6 +12,7 @@ use std::rt::{Clock, Files};
 use streams::Failed;
 
 const INPUT: &str = "report: standard input";
+
 const OUTPUT: &str = "report: standard output";
 
 // Writes the report of all that was read.

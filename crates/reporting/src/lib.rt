@@ -14,7 +14,6 @@ ghost use Rattle.reporting.specs.Steps.{GoesOn, held_in};
 mod line;
 
 pub use line::Line;
-
 use reports::Figures;
 use tuner::{Answer, Tuner};
 
