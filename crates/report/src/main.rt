@@ -25,7 +25,7 @@ fn finish<W: Write + AsFd, R: Clock + Eprint + Files>(
 )
     requires { Working r.old line.now out.old }
 {
-    let n = r.finish(line, out);
+    let n = r.finish(line.as_slice(), out);
     streams::write_last(rt, output, &out[..n], OUTPUT);
 }
 
