@@ -48,7 +48,8 @@ pub fn give(kept: &[i16], out: &mut [i16], n: usize)
     requires { (n ≤ length kept.now) × (n ≤ length out.old) }
     ensures { out.new ≡ take n kept.now ++ drop n out.old }
 {
-    out[..n].copy_from_slice(&kept[..n]);
+    // Stays: by copy_from_slice the archive for C needs memmove from outside.
+    lay(out, 0, &kept[..n]);
 }
 
 // All of a store is 0.

@@ -11,9 +11,9 @@ use std::rt::{Clock, Files};
 use streams::Failed;
 use tuner::Tuner;
 
-const INPUT: &str = "daxfolin: standard input";
+const INPUT: &[u8] = b"daxfolin: standard input";
 
-const OUTPUT: &str = "daxfolin: standard output";
+const OUTPUT: &[u8] = b"daxfolin: standard output";
 
 // Answers all lines that end within the input, writes the answers, and gives the place after the last line. Where a write fails the tuner is
 // as it was. The program's tuner keeps no list, so that an empty store is lent.

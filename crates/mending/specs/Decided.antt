@@ -1,5 +1,5 @@
 -- What a whole walk to the file's end decides, over what was found. Definitions only.
-use Rattle.std.specs.Prelude.{Bool, cond, ◌||◌, ℕ, ◌+◌, leb, Option, Some, None, is_none, Result, Ok, Err}
+use Rattle.std.specs.Prelude.{Bool, false, cond, ◌||◌, ℕ, ◌+◌, leb, Option, Some, None, is_none, Result, Ok, Err}
 use Rattle.refusals.specs.declared.Refusal.{Refusal}
 use Rattle.refusals.specs.Refusals.{refusal_number}
 use Rattle.riff.specs.declared.Chunk.{Chunk}
@@ -9,14 +9,15 @@ use Rattle.mending.specs.declared.Mending.{Mending}
 use Rattle.mending.specs.declared.Sizes.{Sizes}
 use Rattle.mending.specs.Mendings.{sizes_of, no_mending}
 
--- the eight bytes of a chunk lie before the end
-abbrev pub reached : Chunk → ℕ → Bool
-reached chunk end = leb (chunk.at + 8) end
+-- a chunk was found, and its eight bytes lie before the end
+abbrev pub reached : Option Chunk → ℕ → Bool
+reached None end = false
+reached (Some chunk) end = leb (chunk.at + 8) end
 
 -- the two sizes, or 27 where no data chunk was reached
 abbrev pub sizes_in : (length riff : ℕ) → Option Chunk → Mending
 sizes_in length riff None = no_mending 27
-sizes_in length riff (Some chunk) = cond (reached chunk length) (sizes_of length riff chunk.at chunk.size) (no_mending 27)
+sizes_in length riff (Some chunk) = cond (reached (Some chunk) length) (sizes_of length riff chunk.at chunk.size) (no_mending 27)
 
 -- 29, 26, 27, or the two sizes
 abbrev pub decided : Walk → (hertz : Option ℕ) → (riff length : ℕ) → Mending

@@ -105,11 +105,11 @@ fn riff_size(riff: u32, end: usize, length: usize) -> u32
     }
 }
 
-// The eight bytes of a chunk lie before the end.
-pub fn is_reached(chunk: Chunk, end: usize) -> bool
+// A chunk was found, and its eight bytes lie before the end.
+pub fn is_reached(chunk: Option<Chunk>, end: usize) -> bool
     ensures { result ≡ reached chunk end }
 {
-    8 <= end && chunk.at <= end - 8
+    chunk.is_some_and(|chunk| 8 <= end && chunk.at <= end - 8)
 }
 
 // What is mended in a file of so many bytes, whose data chunk this is.
@@ -145,7 +145,7 @@ pub fn decide(w: Walk, hertz: Option<u32>, riff: u32, length: usize) -> Result<S
         return Err(Refusal::NoGoodFmt);
     }
     match w.data {
-        Some(data) if is_reached(data, length) => Ok(both_sizes(data, riff, length)),
+        Some(data) if is_reached(w.data, length) => Ok(both_sizes(data, riff, length)),
         _ => Err(Refusal::NoDataReached),
     }
 }

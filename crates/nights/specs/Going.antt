@@ -356,9 +356,9 @@ module _ {t : Tuner} {xs : List ℤ} {os os' : List (List ℤ)} (room : Roomy (l
   judged-alike (take-full f n e l) = take-full (fits-alike f) n e l
   judged-alike (taken f n e l) = taken (fits-alike f) n e l
 
-pub judged-here : {t : Tuner} {k : ℕ} {xs : List ℤ} {os : List (List ℤ)} {v : ℕ} → Judged t k xs (length xs) v → Good t → Roomy (length xs) (kept_outs t) os → Verdict t k xs os v
+pub judged-here : {t : Tuner} {k : ℕ} {xs : List ℤ} {os : List (List ℤ)} {v : ℕ} → Judged t.numbers t.heard k xs (length xs) v → Good t → Roomy (length xs) (kept_outs t) os → Verdict t k xs os v
 judged-here {t} {k} {xs} {os} j good room =
-    judged-alike (fits-exactly (length xs) xs (kept_outs t) (omega arith)) room (j (map (λ (k : List ℤ). xs) (kept_outs t)) (exactly t xs) good)
+    judged-alike (fits-exactly (length xs) xs (kept_outs t) (omega arith)) room (j t.energies t.correlations t.eighths t.outs (map (λ (k : List ℤ). xs) (kept_outs t)) (exactly t xs) good)
 
 -- ---- the promise by its number
 

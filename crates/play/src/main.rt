@@ -103,6 +103,23 @@ fn midi(rt: &impl Print, t: &mut Tuner, b: &[u8; 1054]) -> io::Result<()> {
     done(rt, t, keyed)
 }
 
+// The block call over a record lent: the promise of the call by value.
+fn block_lent(
+    lent: &mut Tuner,
+    number: u16,
+    samples: &[i16],
+    out: &mut [i16],
+    first: &mut [i16],
+    second: &mut [i16],
+    third: &mut [i16],
+    store: &mut [u32],
+) -> Answer
+    ensures { Took lent.old number samples.now (four out.old first.old second.old third.old) store.old
+        lent.new result (four out.new first.new second.new third.new) store.new }
+{
+    host::block_in_place(lent, number, samples, out, first, second, third, store)
+}
+
 // A block that lends nothing but its samples and the lead's output, by the call that the script names: 4 is by value, 11 over the record lent.
 fn given(
     op: u8,
@@ -123,7 +140,7 @@ fn given(
         *t = taken.tuner;
         taken.answer
     } else {
-        host::block_in_place(t, number, samples, out, first, second, third, store)
+        block_lent(t, number, samples, out, first, second, third, store)
     }
 }
 

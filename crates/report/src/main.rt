@@ -11,9 +11,9 @@ use std::os::fd::AsFd;
 use std::rt::{Clock, Files};
 use streams::Failed;
 
-const INPUT: &str = "report: standard input";
+const INPUT: &[u8] = b"report: standard input";
 
-const OUTPUT: &str = "report: standard output";
+const OUTPUT: &[u8] = b"report: standard output";
 
 // Writes the report of all that was read.
 fn finish<W: Write + AsFd, R: Clock + Eprint + Files>(
@@ -25,7 +25,7 @@ fn finish<W: Write + AsFd, R: Clock + Eprint + Files>(
 )
     requires { Working r.old line.now out.old }
 {
-    let n = r.finish(line, out);
+    let n = r.finish(line.as_slice(), out);
     streams::write_last(rt, output, &out[..n], OUTPUT);
 }
 

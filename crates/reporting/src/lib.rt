@@ -130,15 +130,14 @@ impl Reporting {
     }
 
     // The end of the input, where a last line may lack its end: writes the report, and answers how many bytes it has.
-    pub fn finish(&mut self, line: &Line, out: &mut [u8]) -> usize
-        requires { ((input : List ℕ) × SoFar input self.old (held_in line.now) out.old) × (147147 ≤ length out.old) }
-        ensures { (result ≤ length out.new) × ((input : List ℕ) → SoFar input self.old (held_in line.now) out.old → Report input (take result out.new)) }
+    pub fn finish(&mut self, held: &[u8], out: &mut [u8]) -> usize
+        requires { ((input : List ℕ) × SoFar input self.old held.now out.old) × (147147 ≤ length out.old) }
+        ensures { (result ≤ length out.new) × ((input : List ℕ) → SoFar input self.old held.now out.old → Report input (take result out.new)) }
     {
-        let rest = line.as_slice();
-        if rest.is_empty() {
+        if held.is_empty() {
             return self.write_report(out);
         }
-        self.report_line(rest, out);
+        self.report_line(held, out);
         self.write_report(out)
     }
 }

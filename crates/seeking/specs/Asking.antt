@@ -94,7 +94,7 @@ module _ (s : Seek) where
   unfolding found_in
   found-refused n = cond_no _ _ (ne_eqb (number_of s) 0 n)
 
-  pub found_take : {c : Chunk} → number_of s ≡ 0 → chunk_in data_name s.data ≡ Some c → reached c s.length ≡ true → found_in s ≡ record { number = 0; hertz = s.hertz; at = body c; count = c.size / 2 }
+  pub found_take : {c : Chunk} → number_of s ≡ 0 → chunk_in data_name s.data ≡ Some c → reached (Some c) s.length ≡ true → found_in s ≡ record { number = 0; hertz = s.hertz; at = body c; count = c.size / 2 }
   unfolding found_in
   found_take {c} e d r = cond_yes _ _ (eq-eqb (number_of s) 0 e) ∙ ap (take_in s) d ∙ cond_yes _ _ r
 

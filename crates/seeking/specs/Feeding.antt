@@ -147,7 +147,7 @@ module _ (file : List ℕ) (mends : ℕ) where
   pub data Stage : (k : ℕ) → Seek → Type 0 where
     heading : {k : ℕ} → 12 ≤ length file → length file < 4 + 8 * k → Stage k (fresh (length file) mends (record { at = 0; count = 12 }))
     walking : {k : ℕ} (w : Walk) → is_wave file ≡ true → Walking file end w → w.at + 8 ≤ end → end < w.at + 8 * k → Stage k (seek_of (length file) mends 0 size 0 w (record { at = w.at; count = 8 }))
-    rating : {k : ℕ} (w : Walk) (fmt : Chunk) → is_wave file ≡ true → Seen end (chunks file end) w → w.fmt ≡ Some fmt → whole_fmt fmt end ≡ true → 1 ≤ k → Stage k (seek_of (length file) mends 0 size 0 w (record { at = body fmt; count = 16 }))
+    rating : {k : ℕ} (w : Walk) (fmt : Chunk) → is_wave file ≡ true → Seen end (chunks file end) w → w.fmt ≡ Some fmt → whole_fmt (Some fmt) end ≡ true → 1 ≤ k → Stage k (seek_of (length file) mends 0 size 0 w (record { at = body fmt; count = 16 }))
     refused : {k : ℕ} → is_wave file ≡ false → Stage k (fresh (length file) mends no_piece)
     ended : {k : ℕ} (w : Walk) (hertz : ℕ) → is_wave file ≡ true → Seen end (chunks file end) w → rate_in hertz ≡ fmt_rate file end w.fmt → Stage k (seek_of (length file) mends 0 size hertz w no_piece)
 
@@ -164,7 +164,7 @@ module _ (file : List ℕ) (mends : ℕ) where
       by_fmt : (o : Option Chunk) → w.fmt ≡ o → Seen end (chunks file end) w → Stage k (s (asks_fmt o end))
       by_fmt None e seen = ended w 0 v seen (sym (ap (fmt_rate file end) e))
       by_fmt (Some fmt) e seen =
-          by (whole_fmt fmt end)
+          by (whole_fmt (Some fmt) end)
           (λ z. subst (Stage k) (ap s (sym (cond_yes (record { at = body fmt; count = 16 }) no_piece z))) (rating w fmt v seen e z l))
           (λ z. subst (Stage k) (ap s (sym (cond_no (record { at = body fmt; count = 16 }) no_piece z))) (ended w 0 v seen (sym (ap (fmt_rate file end) e ∙ cond_no (fields_rate file (body fmt)) None z))))
 
@@ -308,7 +308,7 @@ module _ (file : List ℕ) where
       let z = eqb-true n 0 y in
       let f = judged_data w (rate_in hertz) riff (length file) z in
       let t = take_found survey z f.rate-is f.data_is in
-      let r : reached f.data' (length file) ≡ true = le-leb (body f.data') (length file) (omega (arith, take-inside t refl)) in
+      let r : reached (Some f.data') (length file) ≡ true = le-leb (body f.data') (length file) (omega (arith, take-inside t refl)) in
       let found = found_back data_name w.data (seen_named seen).data' ∙ f.data_is in
       let e = rate_same hertz f.rate f.rate-is in
       subst (TakeIn file) (sym (found_take s (same ∙ z) found r ∙ (λ i. record { number = 0; hertz = e i; at = body f.data'; count = f.data'.size / 2 }))) t)

@@ -64,7 +64,7 @@ end_of length mends riff = cond (eqb mends 0) (min (8 + riff) length) (cond (leb
 -- what a walk asks for: the eight bytes of the next chunk; behind the last the sixteen of its fmt, where they lie before the end; then nothing
 abbrev pub asks_fmt : Option Chunk → (end : ℕ) → Piece
 asks_fmt None end = no_piece
-asks_fmt (Some fmt) end = cond (whole_fmt fmt end) (record { at = body fmt; count = 16 }) no_piece
+asks_fmt (Some fmt) end = cond (whole_fmt (Some fmt) end) (record { at = body fmt; count = 16 }) no_piece
 
 unfoldable pub asks : Walk → (end : ℕ) → Piece
 asks w end = cond (leb (w.at + 8) end) (record { at = w.at; count = 8 }) (asks_fmt w.fmt end)
@@ -118,7 +118,7 @@ no_take n = record { number = n; hertz = 0; at = 0; count = 0 }
 -- the take that was found; data that does not lie in the file, of which no seek tells that was begun, is none
 abbrev pub take_in : Seek → Option Chunk → WaveTake
 take_in s None = no_take 23
-take_in s (Some c) = cond (reached c s.length) (record { number = 0; hertz = s.hertz; at = body c; count = c.size / 2 }) (no_take 23)
+take_in s (Some c) = cond (reached (Some c) s.length) (record { number = 0; hertz = s.hertz; at = body c; count = c.size / 2 }) (no_take 23)
 
 unfoldable pub found_in : Seek → WaveTake
 found_in s = cond (eqb (number_of s) 0) (take_in s (chunk_in data_name s.data)) (no_take (number_of s))

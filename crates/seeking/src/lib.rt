@@ -92,7 +92,7 @@ fn asks(w: Walk, end: usize) -> Piece
         return Piece { at: w.at, count: 8 };
     }
     match w.fmt {
-        Some(fmt) if wave::is_whole(fmt, end) => Piece {
+        Some(fmt) if wave::is_whole(w.fmt, end) => Piece {
             at: fmt.at + 8,
             count: 16,
         },
@@ -279,7 +279,7 @@ impl Seek {
         };
         let riff_end = 8 + self.riff as usize;
         let (hertz, data) = wave::judge(self.walk(), hertz, riff_end, self.length)?;
-        if !mending::is_reached(data, self.length) {
+        if !mending::is_reached(Some(data), self.length) {
             return Err(Refusal::NoData);
         }
         Ok(Take {

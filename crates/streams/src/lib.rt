@@ -22,8 +22,9 @@ fn pause(rt: &impl Clock) {
     thread::sleep(rt, Duration::from_millis(1));
 }
 
-// Says something of a stream on standard error. Where that fails there is nowhere left to say it.
-fn say(rt: &impl Eprint, name: &str, what: &str) {
+// Says something of a stream on standard error, with its name, or "?" where that is no UTF-8. Where that fails there is nowhere left to say it.
+fn say(rt: &impl Eprint, name: &[u8], what: &str) {
+    let name = str::from_utf8(name).unwrap_or("?");
     let _ = eprintln!(rt; "{name}: {what}");
 }
 
@@ -34,32 +35,40 @@ fn words(text: &str) -> &str {
 }
 
 // Says what failed, in the system's words.
-fn fail(rt: &impl Eprint, name: &str, error: &io::Error) -> Failed {
+pub fn fail(rt: &impl Eprint, name: &[u8], error: &io::Error) {
     let mut bytes = [0u8; 256];
     let mut all = Cursor::new(&mut bytes[..]);
     let _ = write!(all, "{error}");
     let n = (all.position() as usize).min(256);
     let text = str::from_utf8(&bytes[..n]).unwrap_or("?");
     say(rt, name, words(text));
-    Failed
 }
 
 // Says that an output takes no byte: such a write has no error of its own.
-fn takes_nothing(rt: &impl Eprint, name: &str) -> Failed {
+fn takes_nothing(rt: &impl Eprint, name: &[u8]) -> Failed {
     say(rt, name, "it takes no byte");
     Failed
 }
 
 // Whether the call that failed so is to be tried again: a signal came, or nothing is ready yet, and then after a pause.
-fn try_again<R: Clock + Eprint>(rt: &R, name: &str, error: &io::Error) -> Result<(), Failed> {
+pub fn try_again(rt: &impl Clock, error: &io::Error) -> bool {
     match error.kind() {
-        ErrorKind::Interrupted => Ok(()),
+        ErrorKind::Interrupted => true,
         ErrorKind::WouldBlock => {
             pause(rt);
-            Ok(())
+            true
         }
-        _ => Err(fail(rt, name, error)),
+        _ => false,
     }
+}
+
+// A call that failed so is tried again, or standard error has what failed.
+fn retry<R: Clock + Eprint>(rt: &R, name: &[u8], error: &io::Error) -> Result<(), Failed> {
+    if try_again(rt, error) {
+        return Ok(());
+    }
+    fail(rt, name, error);
+    Err(Failed)
 }
 
 // Reads some bytes, none at the end of the input. A proved loop ends: no run uses up the tries.
@@ -67,7 +76,7 @@ pub fn read<I: Read, R: Clock + Eprint>(
     rt: &R,
     input: &mut I,
     buf: &mut [u8],
-    name: &str,
+    name: &[u8],
 ) -> Result<usize, Failed>
     ensures bound { ReadsAtMost result buf.new }
     ensures bytes { ReadConsumes (I.remaining input.old) (I.remaining input.new) result buf.new }
@@ -75,7 +84,7 @@ pub fn read<I: Read, R: Clock + Eprint>(
     for _ in 0..u64::MAX {
         match input.read(buf) {
             Ok(n) => return Ok(n),
-            Err(error) => try_again(rt, name, &error)?,
+            Err(error) => retry(rt, name, &error)?,
         }
     }
     Err(Failed)
@@ -86,7 +95,7 @@ pub fn write_out<W: Write, R: Clock + Eprint>(
     rt: &R,
     output: &mut W,
     bytes: &[u8],
-    name: &str,
+    name: &[u8],
 ) -> Result<(), Failed>
     ensures all { OnOk result (Appends (W.contents output.old) (W.contents output.new) bytes.now) }
     ensures front { (n : ℕ) × Appends (W.contents output.old) (W.contents output.new) (take n bytes.now) }
@@ -99,7 +108,7 @@ pub fn write_out<W: Write, R: Clock + Eprint>(
         match output.write(rest) {
             Ok(0) => return Err(takes_nothing(rt, name)),
             Ok(n) => rest = &rest[n..],
-            Err(error) => try_again(rt, name, &error)?,
+            Err(error) => retry(rt, name, &error)?,
         }
     }
     Err(Failed)
@@ -144,7 +153,7 @@ pub fn write_last<W: Write + AsFd, R: Clock + Eprint + Files>(
     rt: &R,
     output: &mut W,
     bytes: &[u8],
-    name: &str,
+    name: &[u8],
 ) {
     if write_out(rt, output, bytes, name).is_ok()
         && let Err(error) = settled(rt, output)

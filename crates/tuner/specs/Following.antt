@@ -8,8 +8,10 @@ use Rattle.lists.specs.Lists.{Sheet, sheet, sung_note, after_notes}
 use Rattle.lists.specs.Hushes.{hushed}
 use Rattle.voices.specs.Singing.{Sang}
 use Rattle.tuner.specs.declared.Voice.{Voice}
+use Rattle.tuner.specs.declared.Numbers.{Numbers}
 use Rattle.tuner.specs.declared.Tuner.{Tuner}
 use Rattle.tuner.specs.Tuners.{voice_at, Good, kept_outs, Roomy, written, Verdict}
+use Rattle.tuner.specs.Parted.{tuner_of}
 
 -- ---- the figures
 
@@ -68,6 +70,7 @@ written_by j chosen n kept ys = cond (ltb j chosen) (take n (drop (longest_block
 abbrev pub given_by : (v n : ℕ) → (kept os : List (List ℤ)) → List (List ℤ)
 given_by v n kept os = cond (leb v 1) (written n kept os) os
 
--- the number of the answer to a block by a good tuner, whose outputs have this room
-abbrev pub Judged : Tuner → (k : ℕ) (xs : List ℤ) (room : ℕ) → ℕ → Type 0
-Judged t k xs room v = (os : List (List ℤ)) → LeastRoom t os room → Good t → Verdict t k xs os v
+-- the number of the answer to a block, whatever the other parts of a good tuner are
+abbrev pub Judged : Numbers → (heard : List ℤ) → (k : ℕ) (xs : List ℤ) (room : ℕ) → ℕ → Type 0
+Judged n heard k xs room v =
+    (energies : List ℕ) (correlations eighths outs : List ℤ) (os : List (List ℤ)) → let t = tuner_of n energies correlations heard eighths outs in LeastRoom t os room → Good t → Verdict t k xs os v

@@ -181,28 +181,28 @@ impl Tuner {
 
 // ---- answers
 
-impl Numbers {
-    // The answer with this number, counts 0, and the list that the numbers have.
-    pub fn plain(&self, number: u32) -> Answer
-        ensures { result ≡ plain number self.now }
-    {
-        Answer {
-            number,
-            written: 0,
-            repeated: 0,
-            dropped: 0,
-            pitched: 0,
-            strayed: 0,
-            rows: self.list.rows,
-            left: self.list.left,
-        }
+// The answer with this number, counts 0, and the list that the numbers have.
+pub fn plain(number: u32, list: Listing) -> Answer
+    ensures { (n : Numbers) → n.list ≡ list → result ≡ plain number n }
+{
+    Answer {
+        number,
+        written: 0,
+        repeated: 0,
+        dropped: 0,
+        pitched: 0,
+        strayed: 0,
+        rows: list.rows,
+        left: list.left,
     }
+}
 
+impl Numbers {
     // A block that is not refused is answered with what is then kept of the last block, any other with counts 0.
     fn answer(&self, verdict: Result<Turn, Refusal>) -> Answer
         ensures { result ≡ answer_by (judged_number verdict) self.now.last.length self.now }
     {
-        let plain = self.plain(answers::number(verdict));
+        let plain = plain(answers::number(verdict), self.list);
         match verdict {
             Ok(_) => Answer {
                 written: self.last.length,
@@ -429,8 +429,9 @@ impl Numbers {
 }
 
 impl Tuner {
-    // A block is taken by a good record.
-    fn take(&mut self, number: u16, samples: &[i16], store: &mut [u32])
+    // A block is taken by a good record. Never inlined: a block that is given again has no need of the stack that it takes.
+    #[inline(never)]
+    pub fn take(&mut self, number: u16, samples: &[i16], store: &mut [u32])
         requires good { Good self.old }
         requires fits { (0 < length samples.now) × (length samples.now ≤ longest_block) × (self.old.numbers.count + length samples.now ≤ take_limit) }
         ensures tuner { self.new ≡ after_block self.old number samples.now store.old }
@@ -497,7 +498,7 @@ impl Tuner {
     // The verdict on a block, with so much room for the outputs, by a good record.
     pub fn judge(&self, number: u16, samples: &[i16], room: usize) -> Result<Turn, Refusal>
         requires { (self.now.numbers.count ≤ take_limit) × (self.now.numbers.last.length ≤ longest_block) }
-        ensures { Judged self.now number samples.now room (judged_number result) }
+        ensures { Judged self.now.numbers self.now.heard number samples.now room (judged_number result) }
     {
         let b = samples.len();
         if b == 0 {
@@ -795,7 +796,9 @@ impl Tuner {
     pub fn reset(&mut self, store: &[u32]) -> Result<(), Refusal>
         ensures { Reset self.old store.now self.new (number_of result) }
     {
-        self.test()?;
+        if !self.is_good() {
+            return Err(Refusal::RecordOutOfRange);
+        }
         if !store_fits(self.numbers.listed, store.len()) {
             return Err(Refusal::StoreWithoutRoom);
         }

@@ -1,5 +1,5 @@
 -- What a whole walk says of a file, over what was found, and the take in a file. Definitions only.
-use Rattle.std.specs.Prelude.{◌≡◌, Bool, cond, ◌&&◌, ◌||◌, List, [], ◌∷◌, ℕ, ◌+◌, ◌*◌, ◌≤◌, leb, ltb, length, Option, Some, None, is_none, Result, Ok, Err, MatchResult}
+use Rattle.std.specs.Prelude.{◌≡◌, Bool, false, cond, ◌&&◌, ◌||◌, List, [], ◌∷◌, ℕ, ◌+◌, ◌*◌, ◌≤◌, leb, ltb, length, Option, Some, None, is_none, Result, Ok, Err, MatchResult}
 use Rattle.refusals.specs.declared.Refusal.{Refusal}
 use Rattle.refusals.specs.Refusals.{refusal_number}
 use Rattle.riff.specs.declared.Walk.{Walk}
@@ -14,12 +14,14 @@ use Rattle.wave.specs.Waves.{rate_at, fields_right, no_fmt, odd_data, no_data, r
 abbrev pub fields_rate : List ℕ → ℕ → Option ℕ
 fields_rate file at = cond (fields_right file at) (Some (rate_at file at)) None
 
-abbrev pub whole_fmt : Chunk → ℕ → Bool
-whole_fmt fmt end = leb 16 fmt.size && leb (body fmt + 16) end
+-- a fmt was found, and at least 16 bytes of it lie before the end
+abbrev pub whole_fmt : Option Chunk → ℕ → Bool
+whole_fmt None end = false
+whole_fmt (Some fmt) end = leb 16 fmt.size && leb (body fmt + 16) end
 
 abbrev pub fmt_rate : List ℕ → ℕ → Option Chunk → Option ℕ
 fmt_rate file end None = None
-fmt_rate file end (Some fmt) = cond (whole_fmt fmt end) (fields_rate file (body fmt)) None
+fmt_rate file end (Some fmt) = cond (whole_fmt (Some fmt) end) (fields_rate file (body fmt)) None
 
 -- the tests of 21 to 24 over what was found
 abbrev pub judged : Walk → (hertz : Option ℕ) → (riff_end_of length : ℕ) → ℕ

@@ -33,7 +33,7 @@ module _ (file : List ℕ) (end : ℕ) where
   -- a fmt was found: where it is wrong, it has no rate
   pub wrong_is : (f : Chunk) → is_none (fmt_rate file end (Some f)) ≡ not (fmt_right file end f)
   unfolding fmt_right
-  wrong_is f = by_tests (whole_fmt f end) (fields_right file (body f))
+  wrong_is f = by_tests (whole_fmt (Some f) end) (fields_right file (body f))
     where
       by_tests : (t u : Bool) → is_none (cond t (cond u (Some (rate_at file (body f))) None) None) ≡ not (t && u)
       by_tests true true = refl
@@ -44,8 +44,8 @@ module _ (file : List ℕ) (end : ℕ) where
   pub right_is : (f : Chunk) → fmt_right file end f ≡ true → fmt_rate file end (Some f) ≡ Some (rate_at file (body f))
   unfolding fmt_right
   right_is f e =
-      let w = and_left (whole_fmt f end) (fields_right file (body f)) e in
-      let r = and_right (whole_fmt f end) (fields_right file (body f)) e in
+      let w = and_left (whole_fmt (Some f) end) (fields_right file (body f)) e in
+      let r = and_right (whole_fmt (Some f) end) (fields_right file (body f)) e in
       rw (w, r)
 
   -- the tests over what was found are the tests of the definition

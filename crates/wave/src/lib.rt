@@ -132,11 +132,11 @@ pub fn rate(bytes: &[u8], at: usize) -> Option<u32>
     }
 }
 
-// At least 16 bytes of a fmt lie before the end.
-pub fn is_whole(fmt: Chunk, end: usize) -> bool
+// A fmt was found, and at least 16 bytes of it lie before the end.
+pub fn is_whole(fmt: Option<Chunk>, end: usize) -> bool
     ensures { result ≡ whole_fmt fmt end }
 {
-    16 <= fmt.size && 24 <= end && fmt.at <= end - 24
+    fmt.is_some_and(|fmt| 16 <= fmt.size && 24 <= end && fmt.at <= end - 24)
 }
 
 // The sample rate of the fmt that was found; none where it is not taken.
@@ -145,7 +145,7 @@ pub fn rate_of(bytes: &[u8], fmt: Option<Chunk>, end: usize) -> Option<u32>
     ensures { result ≡ fmt_rate bytes.now end fmt }
 {
     match fmt {
-        Some(fmt) if is_whole(fmt, end) => rate(bytes, fmt.at + 8),
+        Some(chunk) if is_whole(fmt, end) => rate(bytes, chunk.at + 8),
         _ => None,
     }
 }

@@ -1,5 +1,5 @@
 -- `tuner::Numbers::answer` meets its contract.
-use mathlib.Core.Path.{sym, ap, subst, ◌∙◌}
+use mathlib.Core.Path.{refl, sym, ap, subst, ◌∙◌}
 use Prim.Native.Nat.{ℕ, ◌≤◌, ◌<◌}
 use borrow.Author.Tests.{le-leb, lt-leb}
 use Rattle.std.specs.Prelude.{Result}
@@ -16,7 +16,7 @@ unfolding answer_by
 returns-in-Ok c =
     let n = c.args.self.now in
     let v = judged_number c.args.verdict in
-    let e = c.plain-plain.ensures ∙ ap (λ (k : ℕ). plain k n) c.number.ensures in
+    let e = c.plain-plain.ensures n refl ∙ ap (λ (k : ℕ). plain k n) c.number.ensures in
     let few = subst (λ (r : Result Turn Refusal). judged_number r ≤ 1) (sym c.in-Ok.is) (turn-upto _) in
     (λ i. record { number = (e i).number; written = n.last.length; repeated = n.last.repeated; dropped = n.last.dropped; pitched = n.last.pitched; strayed = n.last.strayed; rows = (e i).rows; left = (e i).left })
     ∙ sym (cond_yes (counted v n.last.length n) (plain v n) (le-leb v 1 few))
@@ -26,6 +26,6 @@ unfolding answer_by
 returns-in-Err c =
     let n = c.args.self.now in
     let v = judged_number c.args.verdict in
-    let e = c.plain-plain.ensures ∙ ap (λ (k : ℕ). plain k n) c.number.ensures in
+    let e = c.plain-plain.ensures n refl ∙ ap (λ (k : ℕ). plain k n) c.number.ensures in
     let many = subst (λ (r : Result Turn Refusal). 1 < judged_number r) (sym c.in-Err.is) (refused-above _) in
     e ∙ sym (cond_no (counted v n.last.length n) (plain v n) (lt-leb v 1 many))

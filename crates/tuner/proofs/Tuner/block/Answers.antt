@@ -29,7 +29,7 @@ module _ (c : After-judge-verdict) where
       let t = a.self.now in
       let good = c.is_good.ensures.yes c.if-not-is_good.false in
       let room = c.least_room-room.ensures ∙ ap (λ (n : ℕ). least_room n (length a.out.now) (length a.first.now) (length a.second.now) (length a.third.now)) c.from.ensures in
-      c.judge-verdict.ensures outputs (subst (λ (r : ℕ). LeastRoom t outputs r) (sym room) (least-room t a.out.now a.first.now a.second.now a.third.now good.voices.few)) good
+      c.judge-verdict.ensures t.energies t.correlations t.eighths t.outs outputs (subst (λ (r : ℕ). LeastRoom t outputs r) (sym room) (least-room t a.out.now a.first.now a.second.now a.third.now good.voices.few)) good
 
 pub returns-then-not-is_good : goal.returns-then-not-is_good
 returns-then-not-is_good c =
