@@ -11,7 +11,7 @@ use Rattle.tuner.specs.declared.Numbers.{Numbers}
 use Rattle.tuner.specs.declared.Tuner.{Tuner}
 use Rattle.tuner.specs.declared.Answer.{Answer}
 use Rattle.tuner.specs.Tuners.{Good, parts, kept_outs, Roomy, Fits, Verdict, record_out_of_range, block_empty, block_over_512, output_short, number-neither, other-samples, given-again, take-full, taken, after_block, Took}
-use Rattle.tuner.specs.Following.{LeastRoom, Judged}
+use Rattle.tuner.specs.Following.{LeastRoom}
 use Rattle.tuner.proofs.Outputs.{room_after}
 use Rattle.tuner.proofs.Verdicts.{verdict-fits, after_last}
 use Rattle.staying.specs.Staying.{Stays, took-stays, took_number, took-taken, untaken_unchanged}
@@ -356,9 +356,10 @@ module _ {t : Tuner} {xs : List ℤ} {os os' : List (List ℤ)} (room : Roomy (l
   judged-alike (take-full f n e l) = take-full (fits-alike f) n e l
   judged-alike (taken f n e l) = taken (fits-alike f) n e l
 
-pub judged-here : {t : Tuner} {k : ℕ} {xs : List ℤ} {os : List (List ℤ)} {v : ℕ} → Judged t.numbers t.heard k xs (length xs) v → Good t → Roomy (length xs) (kept_outs t) os → Verdict t k xs os v
+-- the verdict for outputs whose least room is the block's length is the verdict for these
+pub judged-here : {t : Tuner} {k : ℕ} {xs : List ℤ} {os : List (List ℤ)} {v : ℕ} → ((os : List (List ℤ)) → LeastRoom t os (length xs) → Good t → Verdict t k xs os v) → Good t → Roomy (length xs) (kept_outs t) os → Verdict t k xs os v
 judged-here {t} {k} {xs} {os} j good room =
-    judged-alike (fits-exactly (length xs) xs (kept_outs t) (omega arith)) room (j t.energies t.correlations t.eighths t.outs (map (λ (k : List ℤ). xs) (kept_outs t)) (exactly t xs) good)
+    judged-alike (fits-exactly (length xs) xs (kept_outs t) (omega arith)) room (j (map (λ (k : List ℤ). xs) (kept_outs t)) (exactly t xs) good)
 
 -- ---- the promise by its number
 

@@ -10,7 +10,9 @@ use Rattle.nights.proofs.block.Goals as goal
 
 -- where the block was judged
 verdict-here : (c : After-judge-verdict) → let a = c.args in Verdict a.t.now a.number a.samples.now (four a.out.now a.first.now a.second.now a.third.now) (judged_number c.judge-verdict.result)
-verdict-here c = judged-here c.judge-verdict.ensures c.requires.0.0 c.requires.1
+verdict-here c =
+    let t = c.args.t.now in
+    judged-here (c.judge-verdict.ensures t.energies t.correlations t.eighths t.outs) c.requires.0.0 c.requires.1
 
 pub take_by-requires-clause-fits : goal.take_by-requires-clause-fits
 take_by-requires-clause-fits c z =
