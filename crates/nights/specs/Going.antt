@@ -356,7 +356,7 @@ module _ {t : Tuner} {xs : List ℤ} {os os' : List (List ℤ)} (room : Roomy (l
   judged-alike (take-full f n e l) = take-full (fits-alike f) n e l
   judged-alike (taken f n e l) = taken (fits-alike f) n e l
 
--- the verdict for outputs whose least room is the block's length is the verdict for these
+-- a tuner's verdict for outputs with just the block's room is its verdict for outputs with that room or more
 pub judged-here : {t : Tuner} {k : ℕ} {xs : List ℤ} {os : List (List ℤ)} {v : ℕ} → ((os : List (List ℤ)) → LeastRoom t os (length xs) → Good t → Verdict t k xs os v) → Good t → Roomy (length xs) (kept_outs t) os → Verdict t k xs os v
 judged-here {t} {k} {xs} {os} j good room =
     judged-alike (fits-exactly (length xs) xs (kept_outs t) (omega arith)) room (j (map (λ (k : List ℤ). xs) (kept_outs t)) (exactly t xs) good)
